@@ -1,0 +1,4 @@
+pub mod Answers
+pub mod Rectangle
+pub mod Review
+pub mod Rules

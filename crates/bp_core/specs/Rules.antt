@@ -1,0 +1,91 @@
+-- The rules that a request can break: the number and the name under which each is printed.
+use Rattle.std.specs.Prelude.{ℕ, List, [], ◌∷◌, codes}
+use Rattle.std.specs.Fmt.{decimal}
+use Rattle.std.specs.List.{join_with_byte}
+use Rattle.bp_core.specs.declared.rules.RuleKind.{RuleKind}
+use Rattle.bp_core.specs.declared.rules.RuleKind.TheVariants as kinds
+use Rattle.bp_core.specs.declared.rules.Rule.{Rule}
+
+-- a number and a name, in ASCII
+pub record RuleEntry : Type 0 where
+  pub number : ℕ
+  pub name : List ℕ
+
+abbrev entry : ℕ → List ℕ → RuleEntry
+entry n text = record { number = n; name = text }
+
+-- the table of the rules
+abbrev pub rule_entry : RuleKind → RuleEntry
+rule_entry kinds.KeyUnknown = entry 9 (codes "KeyUnknown")
+rule_entry kinds.NoDocument = entry 10 (codes "NoDocument")
+rule_entry kinds.NoPage = entry 11 (codes "NoPage")
+rule_entry kinds.RoleRefused = entry 12 (codes "RoleRefused")
+rule_entry kinds.BoxOutside = entry 13 (codes "BoxOutside")
+rule_entry kinds.BoxShape = entry 14 (codes "BoxShape")
+rule_entry kinds.WrongTreatment = entry 15 (codes "WrongTreatment")
+rule_entry kinds.BoxesRemain = entry 16 (codes "BoxesRemain")
+rule_entry kinds.BadBasis = entry 17 (codes "BadBasis")
+rule_entry kinds.NotCalled = entry 18 (codes "NotCalled")
+rule_entry kinds.SamePerson = entry 19 (codes "SamePerson")
+rule_entry kinds.NothingRedacted = entry 20 (codes "NothingRedacted")
+rule_entry kinds.EntryMissing = entry 21 (codes "EntryMissing")
+rule_entry kinds.NoField = entry 22 (codes "NoField")
+rule_entry kinds.TextRefused = entry 23 (codes "TextRefused")
+rule_entry kinds.RangeEmpty = entry 24 (codes "RangeEmpty")
+rule_entry kinds.SplitFamily = entry 25 (codes "SplitFamily")
+rule_entry kinds.Unsettled = entry 26 (codes "Unsettled")
+rule_entry kinds.NothingResponsive = entry 27 (codes "NothingResponsive")
+rule_entry kinds.RequestDiffers = entry 28 (codes "RequestDiffers")
+rule_entry kinds.BadPrefix = entry 29 (codes "BadPrefix")
+rule_entry kinds.PrefixDiffers = entry 30 (codes "PrefixDiffers")
+rule_entry kinds.BatesFull = entry 31 (codes "BatesFull")
+rule_entry kinds.BadVolume = entry 32 (codes "BadVolume")
+rule_entry kinds.NoProduction = entry 33 (codes "NoProduction")
+rule_entry kinds.BatchDiffers = entry 34 (codes "BatchDiffers")
+rule_entry kinds.MatterFull = entry 35 (codes "MatterFull")
+rule_entry kinds.StaffThere = entry 36 (codes "StaffThere")
+rule_entry kinds.NoFile = entry 38 (codes "NoFile")
+rule_entry kinds.FieldChoice = entry 40 (codes "FieldChoice")
+rule_entry kinds.VolumeTaken = entry 41 (codes "VolumeTaken")
+rule_entry kinds.MatterThere = entry 42 (codes "MatterThere")
+rule_entry kinds.NoMatter = entry 43 (codes "NoMatter")
+rule_entry kinds.DatShape = entry 50 (codes "DatShape")
+rule_entry kinds.DatEncoding = entry 51 (codes "DatEncoding")
+rule_entry kinds.DatColumns = entry 52 (codes "DatColumns")
+rule_entry kinds.OptShape = entry 53 (codes "OptShape")
+rule_entry kinds.FileAbsent = entry 54 (codes "FileAbsent")
+rule_entry kinds.FileTooLong = entry 55 (codes "FileTooLong")
+rule_entry kinds.WordShape = entry 57 (codes "WordShape")
+rule_entry kinds.WordOutside = entry 58 (codes "WordOutside")
+rule_entry kinds.WordsPage = entry 59 (codes "WordsPage")
+rule_entry kinds.FamilyBroken = entry 60 (codes "FamilyBroken")
+rule_entry kinds.DocBreaks = entry 61 (codes "DocBreaks")
+rule_entry kinds.PageLimit = entry 62 (codes "PageLimit")
+rule_entry kinds.PathRefused = entry 63 (codes "PathRefused")
+rule_entry kinds.T6ShortData = entry 70 (codes "T6ShortData")
+rule_entry kinds.T6EarlyEnd = entry 71 (codes "T6EarlyEnd")
+rule_entry kinds.T6Extension = entry 72 (codes "T6Extension")
+rule_entry kinds.T6BadCode = entry 73 (codes "T6BadCode")
+rule_entry kinds.T6BadPlace = entry 74 (codes "T6BadPlace")
+rule_entry kinds.TiffHead = entry 80 (codes "TiffHead")
+rule_entry kinds.TiffBounds = entry 81 (codes "TiffBounds")
+rule_entry kinds.TiffMissing = entry 82 (codes "TiffMissing")
+rule_entry kinds.TiffType = entry 83 (codes "TiffType")
+rule_entry kinds.TiffCompression = entry 84 (codes "TiffCompression")
+rule_entry kinds.TiffMeaning = entry 85 (codes "TiffMeaning")
+rule_entry kinds.TiffManyPages = entry 86 (codes "TiffManyPages")
+rule_entry kinds.TiffStrips = entry 87 (codes "TiffStrips")
+rule_entry kinds.FormNotBuilt = entry 88 (codes "FormNotBuilt")
+rule_entry kinds.KeptRowBad = entry 90 (codes "KeptRowBad")
+
+abbrev pub rule_number : RuleKind → ℕ
+rule_number kind = (rule_entry kind).number
+
+abbrev pub rule_name : RuleKind → List ℕ
+rule_name kind = (rule_entry kind).name
+
+-- how a rule is printed: number, name, line and the two values, with a space between
+abbrev pub rule_text : Rule → List ℕ
+rule_text rule =
+    join_with_byte 32
+    (decimal (rule_number rule.kind) ∷ rule_name rule.kind ∷ decimal rule.line ∷ decimal rule.a ∷ decimal rule.b ∷ [])

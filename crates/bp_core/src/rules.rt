@@ -1,0 +1,246 @@
+// The rules that a request can break, with the number and the name under which each is printed.
+ghost use Rattle.std.specs.Prelude.{◌≡◌};
+ghost use Rattle.bp_core.specs.Rules.{rule_number, rule_name};
+
+use std::fmt;
+
+/// A rule that a request can break.
+#[derive(Clone, Copy, Debug, PartialEq, Eq)]
+pub enum RuleKind {
+    /// No member of the staff has the key.
+    KeyUnknown,
+    /// The matter has no such document; `a` is its number.
+    NoDocument,
+    /// The document has no such page; `a` is its number.
+    NoPage,
+    /// The caller's role may not make the call.
+    RoleRefused,
+    /// The box passes an edge of the page.
+    BoxOutside,
+    /// The number of the box is out of range, or a side of it is 0.
+    BoxShape,
+    /// The document is not called Redact.
+    WrongTreatment,
+    /// A box or a held field stands, so the document stays called Redact.
+    BoxesRemain,
+    /// A whole document is not withheld on this ground.
+    BadBasis,
+    /// The document has no call to confirm.
+    NotCalled,
+    /// The caller edited the document last.
+    SamePerson,
+    /// The document is called Redact, and has no box and no held field.
+    NothingRedacted,
+    /// What is held back for privilege has no log entry.
+    EntryMissing,
+    /// The matter has no field of that name.
+    NoField,
+    /// A text is over its limit, or has a character that it may not have.
+    TextRefused,
+    /// The range has no document of the matter.
+    RangeEmpty,
+    /// A family reaches outside the range; `a` is its least document in the range.
+    SplitFamily,
+    /// A document is not settled; `a` is its number.
+    Unsettled,
+    /// No family of the range is left to produce.
+    NothingResponsive,
+    /// The id belongs to a production of another request.
+    RequestDiffers,
+    /// The prefix or its width is not of the form of a Bates prefix.
+    BadPrefix,
+    /// The prefix is kept with another width, which is `a`.
+    PrefixDiffers,
+    /// The numbers under the prefix end at `a`.
+    BatesFull,
+    /// The id or the name of the volume is not of its form.
+    BadVolume,
+    /// No production has that id.
+    NoProduction,
+    /// A batch of that name was imported with other files.
+    BatchDiffers,
+    /// A limit of a matter would be passed: `a` says which, `b` is the number reached.
+    MatterFull,
+    /// The key belongs to another member of the staff, whose number is `a`.
+    StaffThere,
+    /// The volume has no such file.
+    NoFile,
+    /// A field is chosen twice, or has the name of a fixed column.
+    FieldChoice,
+    /// The name of the volume belongs to a production.
+    VolumeTaken,
+    /// The keeper has a matter already.
+    MatterThere,
+    /// The keeper has no matter.
+    NoMatter,
+    /// `line` of the DAT file is not of its form.
+    DatShape,
+    /// The DAT file is not UTF-8.
+    DatEncoding,
+    /// The columns of the DAT file are not those of an import.
+    DatColumns,
+    /// `line` of the OPT file is not of its form.
+    OptShape,
+    /// There is no such file; in an import `a` says which, and `line` the OPT line of an image.
+    FileAbsent,
+    /// The file is too long to be read; in an import `a` says which, and `line` the OPT line of an image.
+    FileTooLong,
+    /// Record `line` of the words file is not of its form.
+    WordShape,
+    /// The word of record `line` passes an edge of its page.
+    WordOutside,
+    /// The word of record `line` is on a page that the OPT file does not name.
+    WordsPage,
+    /// Record `line` of the DAT file begins no family and belongs to none.
+    FamilyBroken,
+    /// The document breaks of the OPT file and the records of the DAT file part at OPT line `line`.
+    DocBreaks,
+    /// A side of a page is 0 or the page is too large: `a` is its width, `b` its height, in pixels.
+    PageLimit,
+    /// A path leads out of its folder, or is not of its form.
+    PathRefused,
+    /// The T.6 data ends within row `a`; `b` is the bit.
+    T6ShortData,
+    /// The T.6 data has its end code within row `a`; `b` is the bit.
+    T6EarlyEnd,
+    /// The T.6 data has an extension code in row `a`; `b` is the bit.
+    T6Extension,
+    /// The T.6 data has no code where one is due, in row `a`; `b` is the bit.
+    T6BadCode,
+    /// A T.6 code leads back or past the edge, in row `a`; `b` is the bit.
+    T6BadPlace,
+    /// The file has no TIFF header.
+    TiffHead,
+    /// What the TIFF directory names leaves the file; `a` is the tag, or 0 for the directory.
+    TiffBounds,
+    /// The TIFF file lacks the tag `a`.
+    TiffMissing,
+    /// The TIFF field with the tag `a` has another type or count.
+    TiffType,
+    /// The TIFF file has another compression, which is `a`.
+    TiffCompression,
+    /// The TIFF field with the tag `a` has another value.
+    TiffMeaning,
+    /// The TIFF file has more than one page.
+    TiffManyPages,
+    /// The strips of the TIFF file are too few, too many or too short.
+    TiffStrips,
+    /// The file is not a plain page file as this product writes it.
+    FormNotBuilt,
+    /// A kept row is not of its form: `a` is its kind, `b` is k1 times 2^32 plus k2.
+    KeptRowBad,
+}
+
+/// A broken rule: which one, the line of a file where there is one, and two values that the rule
+/// names. What a rule does not use is 0.
+#[derive(Clone, Copy, Debug, PartialEq, Eq)]
+pub struct Rule {
+    pub kind: RuleKind,
+    pub line: u32,
+    pub a: u64,
+    pub b: u64,
+}
+
+impl Rule {
+    /// The number of the rule.
+    pub fn number(&self) -> u16
+        ensures { result ≡ rule_number self.now.kind }
+    {
+        number_and_name(self.kind).0
+    }
+
+    /// The name of the rule, in ASCII.
+    pub fn name(&self) -> &'static str
+        ensures { result.now ≡ rule_name self.now.kind }
+    {
+        number_and_name(self.kind).1
+    }
+}
+
+/// Number, name, line and the two values, with a space between.
+impl fmt::Display for Rule {
+    ghost use Rattle.std.specs.Prelude.{Some};
+    ghost use Rattle.bp_core.specs.Rules.{rule_text};
+
+    ghost output = { λ rule. Some (rule_text rule) };
+
+    fn fmt<W: fmt::Write>(&self, f: &mut fmt::Formatter<W>) -> fmt::Result {
+        let number = self.number();
+        let name = self.name();
+        let line = self.line;
+        let a = self.a;
+        let b = self.b;
+        write!(f, "{number} {name} {line}")?;
+        write!(f, " {a} {b}")
+    }
+}
+
+// The one table of numbers and names.
+fn number_and_name(kind: RuleKind) -> (u16, &'static str)
+    ensures number { result.0 ≡ rule_number kind }
+    ensures name { result.1.now ≡ rule_name kind }
+{
+    match kind {
+        RuleKind::KeyUnknown => (9, "KeyUnknown"),
+        RuleKind::NoDocument => (10, "NoDocument"),
+        RuleKind::NoPage => (11, "NoPage"),
+        RuleKind::RoleRefused => (12, "RoleRefused"),
+        RuleKind::BoxOutside => (13, "BoxOutside"),
+        RuleKind::BoxShape => (14, "BoxShape"),
+        RuleKind::WrongTreatment => (15, "WrongTreatment"),
+        RuleKind::BoxesRemain => (16, "BoxesRemain"),
+        RuleKind::BadBasis => (17, "BadBasis"),
+        RuleKind::NotCalled => (18, "NotCalled"),
+        RuleKind::SamePerson => (19, "SamePerson"),
+        RuleKind::NothingRedacted => (20, "NothingRedacted"),
+        RuleKind::EntryMissing => (21, "EntryMissing"),
+        RuleKind::NoField => (22, "NoField"),
+        RuleKind::TextRefused => (23, "TextRefused"),
+        RuleKind::RangeEmpty => (24, "RangeEmpty"),
+        RuleKind::SplitFamily => (25, "SplitFamily"),
+        RuleKind::Unsettled => (26, "Unsettled"),
+        RuleKind::NothingResponsive => (27, "NothingResponsive"),
+        RuleKind::RequestDiffers => (28, "RequestDiffers"),
+        RuleKind::BadPrefix => (29, "BadPrefix"),
+        RuleKind::PrefixDiffers => (30, "PrefixDiffers"),
+        RuleKind::BatesFull => (31, "BatesFull"),
+        RuleKind::BadVolume => (32, "BadVolume"),
+        RuleKind::NoProduction => (33, "NoProduction"),
+        RuleKind::BatchDiffers => (34, "BatchDiffers"),
+        RuleKind::MatterFull => (35, "MatterFull"),
+        RuleKind::StaffThere => (36, "StaffThere"),
+        RuleKind::NoFile => (38, "NoFile"),
+        RuleKind::FieldChoice => (40, "FieldChoice"),
+        RuleKind::VolumeTaken => (41, "VolumeTaken"),
+        RuleKind::MatterThere => (42, "MatterThere"),
+        RuleKind::NoMatter => (43, "NoMatter"),
+        RuleKind::DatShape => (50, "DatShape"),
+        RuleKind::DatEncoding => (51, "DatEncoding"),
+        RuleKind::DatColumns => (52, "DatColumns"),
+        RuleKind::OptShape => (53, "OptShape"),
+        RuleKind::FileAbsent => (54, "FileAbsent"),
+        RuleKind::FileTooLong => (55, "FileTooLong"),
+        RuleKind::WordShape => (57, "WordShape"),
+        RuleKind::WordOutside => (58, "WordOutside"),
+        RuleKind::WordsPage => (59, "WordsPage"),
+        RuleKind::FamilyBroken => (60, "FamilyBroken"),
+        RuleKind::DocBreaks => (61, "DocBreaks"),
+        RuleKind::PageLimit => (62, "PageLimit"),
+        RuleKind::PathRefused => (63, "PathRefused"),
+        RuleKind::T6ShortData => (70, "T6ShortData"),
+        RuleKind::T6EarlyEnd => (71, "T6EarlyEnd"),
+        RuleKind::T6Extension => (72, "T6Extension"),
+        RuleKind::T6BadCode => (73, "T6BadCode"),
+        RuleKind::T6BadPlace => (74, "T6BadPlace"),
+        RuleKind::TiffHead => (80, "TiffHead"),
+        RuleKind::TiffBounds => (81, "TiffBounds"),
+        RuleKind::TiffMissing => (82, "TiffMissing"),
+        RuleKind::TiffType => (83, "TiffType"),
+        RuleKind::TiffCompression => (84, "TiffCompression"),
+        RuleKind::TiffMeaning => (85, "TiffMeaning"),
+        RuleKind::TiffManyPages => (86, "TiffManyPages"),
+        RuleKind::TiffStrips => (87, "TiffStrips"),
+        RuleKind::FormNotBuilt => (88, "FormNotBuilt"),
+        RuleKind::KeptRowBad => (90, "KeptRowBad"),
+    }
+}

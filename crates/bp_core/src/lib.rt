@@ -9,6 +9,8 @@ mod rectangle;
 mod refusals;
 mod review;
 mod rules;
+#[cfg(test)]
+mod tests;
 mod texts;
 
 pub use byte_strings::Bytes;

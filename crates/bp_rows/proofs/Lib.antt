@@ -1,0 +1,6 @@
+pub mod Burning
+mod Examples
+pub mod Grids
+pub mod Packing
+pub mod Pages
+pub mod Places

@@ -1,0 +1,5 @@
+pub mod Bits
+pub mod Burned
+pub mod Image
+pub mod Limits
+pub mod Packed

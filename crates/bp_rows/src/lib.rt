@@ -1,0 +1,11 @@
+//! Pages: bilevel images as rows of pixels, kept as the packed strip of an uncompressed file.
+#![tactic(auto)]
+
+mod bits;
+mod limits;
+mod page;
+mod resolution;
+
+pub use limits::{allowed_sides, import_sides, page_limit};
+pub use page::{Page, StripFault};
+pub use resolution::{Res, Unit};

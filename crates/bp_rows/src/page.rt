@@ -1,0 +1,213 @@
+// A page: a bilevel image, kept as the packed strip of its uncompressed file.
+ghost use Rattle.std.specs.Prelude.{◌≡◌, ◌≢◌, ◌+◌, ◌*◌, ◌<◌, ◌≤◌, ◌↔◌, Bool, List, false, if◌then◌else◌, length, IsTrue, IfOk, IfErr, IsErrOf, ◌∷◌, []};
+ghost use Rattle.bp_rows.specs.Limits.{sides_are_allowed, page_limit_rule};
+ghost use Rattle.bp_rows.specs.Image.{IsPage, IsGrid, pixel, with_pixel, white_image};
+ghost use Rattle.bp_rows.specs.Bits.{row_bytes};
+ghost use Rattle.bp_rows.specs.Burned.{burned, row_part};
+ghost use Rattle.bp_rows.specs.Packed.{packed_rows};
+
+use crate::bits::{blacken, bytes_of_row, has_blank_ends, pixel_at, place_of, set_pixel_at};
+use crate::limits::{allowed_sides, page_limit};
+use crate::resolution::{Res, Unit};
+use bp_core::Refusal;
+use std::alloc::Global;
+use std::marker::Model;
+use thiserror::Error;
+
+/// A bilevel image: its sides in pixels, two resolutions and their unit, and its rows from the top,
+/// each from the left, black or white (TIFF 6.0, section 3).
+#[derive(Debug, Drop)]
+pub struct Page {
+    width: u32,
+    height: u32,
+    xres: Res,
+    yres: Res,
+    unit: Unit,
+    strip: Vec<u8>,
+}
+
+impl Model for Page {
+    ghost use Rattle.bp_rows.specs.Image.{Image};
+    ghost use Rattle.bp_rows.specs.Bits.{image_in, IsKept};
+
+    ghost Value = { Image };
+
+    ghost view = { λ p. image_in p.width p.height p.xres p.yres p.unit p.strip.items };
+
+    ghost invariant = { λ p. IsKept p.width p.height p.xres p.yres p.strip.items };
+}
+
+/// Why bytes are not the packed strip of a page of the sides that are given with them.
+#[derive(Clone, Copy, Debug, PartialEq, Eq, Error)]
+pub enum StripFault {
+    #[error("no page has these sides")]
+    Sides,
+    #[error("the strip has another length than its rows")]
+    Length,
+    #[error("a bit past the end of a row is set")]
+    UnusedBits,
+}
+
+impl Page {
+    /// A page without ink. Sides in pixels; refused by the limits of `allowed_sides`.
+    pub fn white(
+        alloc: Global,
+        width: u32,
+        height: u32,
+        xres: Res,
+        yres: Res,
+        unit: Unit,
+    ) -> Result<Page, Refusal>
+        ensures ok { IfOk result (λ p. IsTrue (sides_are_allowed width height) × (p ≡ white_image width height xres yres unit)) }
+        ensures err { IfErr result (λ e. e ≡ (if sides_are_allowed width height then Refusal.OutOfMemory else Refusal.Rule (page_limit_rule width height))) }
+    {
+        if !allowed_sides(width, height) {
+            return Err(Refusal::Rule(page_limit(width, height)));
+        }
+        let strip = vec![in alloc; 0; height as usize * bytes_of_row(width)]?;
+        Ok(Page {
+            width,
+            height,
+            xres,
+            yres,
+            unit,
+            strip,
+        })
+    }
+
+    /// The page whose rows are packed in these bytes, as `strip` lends them. It takes no memory.
+    pub fn from_strip(
+        width: u32,
+        height: u32,
+        xres: Res,
+        yres: Res,
+        unit: Unit,
+        strip: Vec<u8>,
+    ) -> Result<Page, StripFault>
+        ensures sides { (result ≡ Err StripFault.Sides) ↔ (sides_are_allowed width height ≡ false) }
+        ensures long { (result ≡ Err StripFault.Length) ↔ (IsTrue (sides_are_allowed width height) × (length strip.items ≢ height * row_bytes width)) }
+
+        // What is made has these bytes as its strip.
+        ensures found { IfOk result (λ p. p ≡ record (white_image width height xres yres unit) { rows = p.rows }) }
+        ensures packed { IfOk result (λ p. packed_rows p.rows ≡ strip.items) }
+
+        // Whatever rows of these sides have these bytes as their strip are made.
+        ensures only { (rows : List (List Bool)) → IsTrue (sides_are_allowed width height) → IsGrid width height rows → packed_rows rows ≡ strip.items → result ≡ Ok (record (white_image width height xres yres unit) { rows = rows }) }
+    {
+        if !allowed_sides(width, height) {
+            return Err(StripFault::Sides);
+        }
+        if strip.len() != height as usize * bytes_of_row(width) {
+            return Err(StripFault::Length);
+        }
+        if !has_blank_ends(&strip, width, height) {
+            return Err(StripFault::UnusedBits);
+        }
+        Ok(Page {
+            width,
+            height,
+            xres,
+            yres,
+            unit,
+            strip,
+        })
+    }
+
+    /// The width in pixels.
+    pub fn width(&self) -> u32
+        ensures value { result ≡ self.now.width }
+        ensures page { IsPage self.now }
+    {
+        self.width
+    }
+
+    /// The height in pixels.
+    pub fn height(&self) -> u32
+        ensures value { result ≡ self.now.height }
+        ensures page { IsPage self.now }
+    {
+        self.height
+    }
+
+    /// The resolution across.
+    pub fn xres(&self) -> Res
+        ensures { result ≡ self.now.xres }
+    {
+        self.xres
+    }
+
+    /// The resolution down.
+    pub fn yres(&self) -> Res
+        ensures { result ≡ self.now.yres }
+    {
+        self.yres
+    }
+
+    /// The unit of length of both resolutions.
+    pub fn unit(&self) -> Unit
+        ensures { result ≡ self.now.unit }
+    {
+        self.unit
+    }
+
+    /// Whether the pixel in that row and column, counted from 0, is black.
+    pub fn get(&self, row: u32, col: u32) -> bool
+        requires down { row < self.now.height }
+        requires across { col < self.now.width }
+        ensures { result ≡ pixel self.now row col }
+    {
+        let at = place_of(self.width, row, col);
+        pixel_at(&self.strip, at)
+    }
+
+    /// Makes the pixel in that row and column, counted from 0, black or white, and no other.
+    pub fn set(&mut self, row: u32, col: u32, black: bool)
+        requires down { row < self.old.height }
+        requires across { col < self.old.width }
+        ensures { self.new ≡ with_pixel self.old row col black }
+    {
+        let at = place_of(self.width, row, col);
+        set_pixel_at(&mut self.strip, at, black);
+    }
+
+    /// Makes the pixels of a row black from one column up to another, which is not, and no other.
+    pub fn blacken(&mut self, row: u32, from: u32, to: u32)
+        requires down { row < self.old.height }
+        requires order { from ≤ to }
+        requires across { to ≤ self.old.width }
+        ensures { self.new ≡ burned self.old (row_part row from to ∷ []) }
+    {
+        let start = place_of(self.width, row, 0);
+        blacken(&mut self.strip, start + from as usize, start + to as usize);
+    }
+
+    /// The rows as the packed strip of an uncompressed file, lent: each row in whole bytes, the first
+    /// pixel in the high bit, black as 1, unused bits 0 (TIFF 6.0, section 3).
+    pub fn strip(&self) -> &[u8]
+        ensures packed { result.now ≡ packed_rows self.now.rows }
+        ensures page { IsPage self.now }
+    {
+        self.strip.as_slice()
+    }
+}
+
+#[cfg(test)]
+mod tests {
+    use super::*;
+    use std::test::Fail;
+
+    #[test]
+    fn white_is_made_with_its_sides(rt: HostRuntime) -> Result<(), Fail> {
+        let across = Res { num: 200, den: 1 };
+        let down = Res { num: 100, den: 1 };
+        let page = Page::white(rt.alloc(), 9, 2, across, down, Unit::Centimetre)?;
+        assert_eq!(rt; page.width(), 9);
+        assert_eq!(rt; page.height(), 2);
+        assert_eq!(rt; page.xres(), across);
+        assert_eq!(rt; page.yres(), down);
+        assert_eq!(rt; page.unit(), Unit::Centimetre);
+        let black = page.height() == 2 && page.width() == 9 && page.get(1, 8);
+        assert!(rt; !black);
+        Ok(())
+    }
+}

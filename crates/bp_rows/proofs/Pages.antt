@@ -1,6 +1,6 @@
 -- What the packed bytes of a page say of its image.
-use Rattle.std.proofs.Common.{ℕ, ◌≡◌, ◌+◌, ◌-◌, ◌*◌, ◌/◌, ◌%◌, ◌<◌, ◌≤◌, Bool, true, false, cond, eqb, nat_le, nat_lt, ◌&&◌, ◌||◌, List, [], ◌∷◌, length, get_or, replicate, refl, sym, ap, ◌∙◌, arith, ⊎_elim, inl, inr, ◌⊎◌, IsTrue}
-use Rattle.std.proofs.lemmas.Bool.{cases_eq, cases_lt, eq-eqb, ne_eqb, and_from, and_left, and_right, cond-false, lt-leb, le-ltb}
+use Rattle.std.proofs.Common.{mul-le-mul, ℕ, ◌≡◌, ◌+◌, ◌-◌, ◌*◌, ◌/◌, ◌%◌, ◌<◌, ◌≤◌, Bool, true, false, cond, eqb, nat_le, nat_lt, ◌&&◌, ◌||◌, List, [], ◌∷◌, length, get_or, replicate, refl, sym, ap, ◌∙◌, arith, ⊎_elim, inl, inr, ◌⊎◌, IsTrue}
+use Rattle.std.proofs.lemmas.Bool.{cases_eq, cases_lt, eq-eqb, ne_eqb, and_from, and_left, and_right, cond-false, lt-leb, le-ltb, leb-true, and_parts}
 use Rattle.std.proofs.lemmas.Bool.Decides.{nat_tests}
 use Rattle.std.specs.Int.{bit_at}
 use Rattle.std.proofs.lemmas.Nat.Bits.{bit_at-zero}
@@ -33,6 +33,23 @@ zero_at : (n i : ℕ) → let none : ℕ = 0 in get_or (zeros n) i 0 ≡ none
 zero_at n i =
     let long : length (zeros n) ≡ n = length-replicate n 0 in
     ⊎_elim (λ within. get_or-replicate n i 0 0 within) (λ past. get_or_past (zeros n) i 0 (omega arith)) (cases_lt i n)
+
+-- the longest strip: 20,032 rows of 2,500 bytes
+strip_bound : (w h : ℕ) → w ≤ 20000 → h ≤ 20032 → h * row_bytes w ≤ 50080000
+strip_bound w h wide high =
+    let row : row_bytes w ≤ 2500 = omega arith in
+    let product : h * row_bytes w ≤ 20032 * 2500 = mul-le-mul high row in omega arith
+
+sides_bound : (a b c d e : Bool) → (a && b && c && d && e) ≡ true → (b ≡ true) × (d ≡ true)
+sides_bound a b c d e all =
+    let front = (and_parts (a && b && c && d) e all).0 in
+    let three = (and_parts (a && b && c) d front).0 in
+    ((and_parts a b (and_parts (a && b) c three).0).1, (and_parts (a && b && c) d front).1)
+
+pub strip_small : (w h : ℕ) → IsTrue (sides_are_allowed w h) → h * row_bytes w ≤ 50080000
+strip_small w h allowed =
+    let both = sides_bound (nat_lt 0 w) (nat_le w 20000) (nat_lt 0 h) (nat_le h 20032) (nat_le (w * h) 200640000) allowed in
+    strip_bound w h (leb-true w 20000 both.0) (leb-true h 20032 both.1)
 
 module _ (w h : ℕ) (x y : Res) (u : LengthUnit) where
   pub is_page : (bytes : List ℕ) → IsKept w h x y bytes → IsPage (image_in w h x y u bytes)

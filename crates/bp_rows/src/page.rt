@@ -185,6 +185,8 @@ impl Page {
     /// pixel in the high bit, black as 1, unused bits 0 (TIFF 6.0, section 3).
     pub fn strip(&self) -> &[u8]
         ensures packed { result.now ≡ packed_rows self.now.rows }
+        ensures long { length result.now ≡ self.now.height * row_bytes self.now.width }
+        ensures small { length result.now ≤ 50080000 }
         ensures page { IsPage self.now }
     {
         self.strip.as_slice()

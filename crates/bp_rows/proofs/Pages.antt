@@ -1,6 +1,6 @@
 -- What the packed bytes of a page say of its image.
 use Rattle.std.proofs.Common.{mul-le-mul, ℕ, ◌≡◌, ◌+◌, ◌-◌, ◌*◌, ◌/◌, ◌%◌, ◌<◌, ◌≤◌, Bool, true, false, cond, eqb, nat_le, nat_lt, ◌&&◌, ◌||◌, List, [], ◌∷◌, length, get_or, replicate, refl, sym, ap, ◌∙◌, arith, ⊎_elim, inl, inr, ◌⊎◌, IsTrue}
-use Rattle.std.proofs.lemmas.Bool.{cases_eq, cases_lt, eq-eqb, ne_eqb, and_from, and_left, and_right, cond-false, lt-leb, le-ltb, leb-true, and_parts}
+use Rattle.std.proofs.lemmas.Bool.{cases_eq, cases_lt, eq-eqb, ne_eqb, and_from, and_left, and_right, cond-false, lt-leb, le-ltb, leb-true, le-leb, and_parts}
 use Rattle.std.proofs.lemmas.Bool.Decides.{nat_tests}
 use Rattle.std.specs.Int.{bit_at}
 use Rattle.std.proofs.lemmas.Nat.Bits.{bit_at-zero}
@@ -9,7 +9,7 @@ use Rattle.bp_core.specs.Rectangle.{has_pixel}
 use Rattle.bp_rows.specs.declared.resolution.Res.{Res}
 use Rattle.bp_rows.specs.declared.resolution.Unit.{Unit as LengthUnit}
 use Rattle.bp_rows.specs.Image.{Image, IsPage, IsGrid, FitsRes, pixel, with_pixel, white_image, grid_of}
-use Rattle.bp_rows.specs.Limits.{sides_are_allowed}
+use Rattle.bp_rows.specs.Limits.{sides_are_allowed, sides_are_imported}
 use Rattle.bp_rows.specs.Bits.{row_bytes, black_at, place, rows_in, Blackens, AreBytes, IsKept, image_in}
 use Rattle.bp_rows.specs.Burned.{burned, covers, row_part}
 use Rattle.bp_rows.specs.Packed.{packed_rows}
@@ -40,16 +40,34 @@ strip_bound w h wide high =
     let row : row_bytes w ≤ 2500 = omega arith in
     let product : h * row_bytes w ≤ 20032 * 2500 = mul-le-mul high row in omega arith
 
-sides_bound : (a b c d e : Bool) → (a && b && c && d && e) ≡ true → (b ≡ true) × (d ≡ true)
-sides_bound a b c d e all =
-    let front = (and_parts (a && b && c && d) e all).0 in
-    let three = (and_parts (a && b && c) d front).0 in
-    ((and_parts a b (and_parts (a && b) c three).0).1, (and_parts (a && b && c) d front).1)
+five : (a b c d e : Bool) → (a && b && c && d && e) ≡ true → (a ≡ true) × (b ≡ true) × (c ≡ true) × (d ≡ true) × (e ≡ true)
+five a b c d e all =
+    let four = and_parts (a && b && c && d) e all in
+    let three = and_parts (a && b && c) d four.0 in
+    let two = and_parts (a && b) c three.0 in
+    let one = and_parts a b two.0 in
+    (one.0, one.1, two.1, three.1, four.1)
+
+-- the sides of a page
+pub sides_bound : (w h : ℕ) → IsTrue (sides_are_allowed w h) → (w ≤ 20000) × (h ≤ 20032)
+sides_bound w h allowed =
+    let parts = five (nat_lt 0 w) (nat_le w 20000) (nat_lt 0 h) (nat_le h 20032) (nat_le (w * h) 200640000) allowed in
+    (leb-true w 20000 parts.1, leb-true h 20032 parts.3)
 
 pub strip_small : (w h : ℕ) → IsTrue (sides_are_allowed w h) → h * row_bytes w ≤ 50080000
-strip_small w h allowed =
-    let both = sides_bound (nat_lt 0 w) (nat_le w 20000) (nat_lt 0 h) (nat_le h 20032) (nat_le (w * h) 200640000) allowed in
-    strip_bound w h (leb-true w 20000 both.0) (leb-true h 20032 both.1)
+strip_small w h allowed = let sides = sides_bound w h allowed in strip_bound w h sides.0 sides.1
+
+-- what may come in may be a page
+pub imported_is_allowed : (w h : ℕ) → IsTrue (sides_are_imported w h) → IsTrue (sides_are_allowed w h)
+imported_is_allowed w h imported =
+    let parts = five (nat_lt 0 w) (nat_le w 20000) (nat_lt 0 h) (nat_le h 20000) (nat_le (w * h) 200000000) imported in
+    let high = leb-true h 20000 parts.3 in
+    let many = leb-true (w * h) 200000000 parts.4 in
+    and_from (nat_lt 0 w && nat_le w 20000 && nat_lt 0 h && nat_le h 20032) (nat_le (w * h) 200640000)
+    (and_from (nat_lt 0 w && nat_le w 20000 && nat_lt 0 h) (nat_le h 20032)
+        (and_from (nat_lt 0 w && nat_le w 20000) (nat_lt 0 h) (and_from (nat_lt 0 w) (nat_le w 20000) parts.0 parts.1) parts.2)
+        (le-leb h 20032 (omega arith)))
+    (le-leb (w * h) 200640000 (omega arith))
 
 module _ (w h : ℕ) (x y : Res) (u : LengthUnit) where
   pub is_page : (bytes : List ℕ) → IsKept w h x y bytes → IsPage (image_in w h x y u bytes)

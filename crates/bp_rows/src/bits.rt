@@ -11,6 +11,13 @@ pub fn bytes_of_row(width: u32) -> usize
     (width as usize + 7) / 8
 }
 
+/// How many bytes the packed strip of a page of these sides takes.
+pub fn bytes_of_strip(width: u32, height: u32) -> usize
+    ensures { result ≡ height * row_bytes width }
+{
+    height as usize * bytes_of_row(width)
+}
+
 /// The place of the pixel in a row and a column of packed rows of so many pixels each.
 pub fn place_of(width: u32, row: u32, col: u32) -> usize
     requires { width ≤ 20000 }

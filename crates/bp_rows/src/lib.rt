@@ -6,6 +6,7 @@ mod limits;
 mod page;
 mod resolution;
 
+pub use bits::bytes_of_strip;
 pub use limits::{allowed_sides, import_sides, page_limit};
 pub use page::{Page, StripFault};
 pub use resolution::{Res, Unit};

@@ -6,7 +6,7 @@ ghost use Rattle.bp_rows.specs.Bits.{row_bytes};
 ghost use Rattle.bp_rows.specs.Burned.{burned, row_part};
 ghost use Rattle.bp_rows.specs.Packed.{packed_rows};
 
-use crate::bits::{blacken, bytes_of_row, has_blank_ends, pixel_at, place_of, set_pixel_at};
+use crate::bits::{blacken, bytes_of_strip, has_blank_ends, pixel_at, place_of, set_pixel_at};
 use crate::limits::{allowed_sides, page_limit};
 use crate::resolution::{Res, Unit};
 use bp_core::Refusal;
@@ -64,7 +64,7 @@ impl Page {
         if !allowed_sides(width, height) {
             return Err(Refusal::Rule(page_limit(width, height)));
         }
-        let strip = vec![in alloc; 0; height as usize * bytes_of_row(width)]?;
+        let strip = vec![in alloc; 0; bytes_of_strip(width, height)]?;
         Ok(Page {
             width,
             height,
@@ -90,6 +90,7 @@ impl Page {
         // What is made has these bytes as its strip.
         ensures found { IfOk result (λ p. p ≡ record (white_image width height xres yres unit) { rows = p.rows }) }
         ensures packed { IfOk result (λ p. packed_rows p.rows ≡ strip.items) }
+        ensures page { IfOk result IsPage }
 
         // Whatever rows of these sides have these bytes as their strip are made.
         ensures only { (rows : List (List Bool)) → IsTrue (sides_are_allowed width height) → IsGrid width height rows → packed_rows rows ≡ strip.items → result ≡ Ok (record (white_image width height xres yres unit) { rows = rows }) }
@@ -97,7 +98,7 @@ impl Page {
         if !allowed_sides(width, height) {
             return Err(StripFault::Sides);
         }
-        if strip.len() != height as usize * bytes_of_row(width) {
+        if strip.len() != bytes_of_strip(width, height) {
             return Err(StripFault::Length);
         }
         if !has_blank_ends(&strip, width, height) {

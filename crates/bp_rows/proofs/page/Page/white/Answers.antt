@@ -6,7 +6,7 @@ use Rattle.bp_rows.proofs.page.Page.white.Goals as goal
 zeros : (c : goal.In_ok-strip) → c.in_ok-strip.strip.items ≡ replicate (c.args.height * row_bytes c.args.width) 0
 zeros c =
     c.in_ok-strip.ensures.items_if_clones_equal (λ y same. same)
-    ∙ ap (λ n. replicate (c.args.height * n) 0) c.bytes_of_row.ensures
+    ∙ ap (λ n. replicate n 0) c.bytes_of_strip.ensures
 
 pub returns-clause-ok : goal.returns-clause-ok
 returns-clause-ok c =

@@ -1,0 +1,5 @@
+use Rattle.bp_tiff.proofs.PlainFiles.{one_file}
+use Rattle.bp_tiff.proofs.laws.one_page_a_file.Goals as goal
+
+pub returns : goal.returns
+returns c = one_file

@@ -1,0 +1,122 @@
+// Page files read.
+ghost use Rattle.std.specs.Prelude.{◌≡◌, ◌+◌, ◌≤◌, length, IfOk, MatchResult};
+ghost use Rattle.bp_core.specs.Answers.{Answers};
+ghost use Rattle.bp_rows.specs.Image.{Image};
+ghost use Rattle.bp_tiff.specs.Plain.{IsPlainFile, short_at, long_at, res_at, named_fields, plain_answer, form_not_built, StripMakes};
+
+use crate::fields::{Fields, unit_of_code};
+use crate::form::Form;
+use crate::head::put_head;
+use bp_core::{Refusal, Rule, RuleKind};
+use bp_rows::{Page, Res, bytes_of_strip, import_sides};
+use std::alloc::Global;
+
+// Where the strip of a plain file begins.
+const HEAD_BYTES: usize = 186;
+
+/// The page whose plain file the bytes are, as `write_tiff` writes it. Bytes that are no plain file of
+/// a page within the limits of an import break the rule FormNotBuilt.
+pub fn read_plain(alloc: Global, bytes: &[u8]) -> Result<Page, Refusal>
+    // What is read has the bytes as its file.
+    ensures found { IfOk result (λ p. IsPlainFile bytes.now p) }
+
+    // A page that has the bytes as its file is read, unless memory runs out.
+    ensures only { (p : Image) → IsPlainFile bytes.now p → MatchResult result (λ q. q ≡ p) (λ e. e ≡ Refusal.OutOfMemory) }
+
+    // Whatever the bytes are, this is the answer.
+    ensures exact { Answers (λ p. p) result (plain_answer bytes.now) }
+{
+    read(alloc, bytes)
+}
+
+fn read(alloc: Global, bytes: &[u8]) -> Result<Page, Refusal>
+    ensures found { IfOk result (λ p. IsPlainFile bytes.now p) }
+    ensures exact { Answers (λ p. p) result (plain_answer bytes.now) }
+{
+    if bytes.len() < HEAD_BYTES {
+        return Err(Refusal::Rule(not_built()));
+    }
+    let (head, strip) = bytes.split_at(HEAD_BYTES);
+    let Some(fields) = fields_in(bytes) else {
+        return Err(Refusal::Rule(not_built()));
+    };
+    if !import_sides(fields.width, fields.height)
+        || strip.len() != bytes_of_strip(fields.width, fields.height)
+    {
+        return Err(Refusal::Rule(not_built()));
+    }
+    let mut wanted = Vec::with_capacity(alloc, HEAD_BYTES)?;
+    put_head(&mut wanted, Form::Plain, &fields, strip.len() as u32)?;
+    if wanted.as_slice() != head {
+        return Err(Refusal::Rule(not_built()));
+    }
+    page_of(alloc, &fields, strip)
+}
+
+// The page of these fields and this strip.
+fn page_of(alloc: Global, fields: &Fields, strip: &[u8]) -> Result<Page, Refusal>
+    ensures { StripMakes fields.now strip.now result }
+{
+    let Fields {
+        width,
+        height,
+        xres,
+        yres,
+        unit,
+    } = *fields;
+    let strip = strip.to_vec(alloc)?;
+    match Page::from_strip(width, height, xres, yres, unit, strip) {
+        Ok(page) => Ok(page),
+        Err(_) => Err(Refusal::Rule(not_built())),
+    }
+}
+
+fn not_built() -> Rule
+    ensures { result ≡ form_not_built }
+{
+    Rule {
+        kind: RuleKind::FormNotBuilt,
+        line: 0,
+        a: 0,
+        b: 0,
+    }
+}
+
+// What the bytes say where the fields of a plain file stand.
+fn fields_in(bytes: &[u8]) -> Option<Fields>
+    requires { 186 ≤ length bytes.now }
+    ensures { result ≡ named_fields bytes.now }
+{
+    let unit = unit_of_code(short(bytes, 162))?;
+    Some(Fields {
+        width: long(bytes, 18),
+        height: long(bytes, 30),
+        xres: res(bytes, 170),
+        yres: res(bytes, 178),
+        unit,
+    })
+}
+
+fn short(bytes: &[u8], at: usize) -> u16
+    requires { at + 2 ≤ length bytes.now }
+    ensures { result ≡ short_at bytes.now at }
+{
+    u16::from_le_bytes([bytes[at], bytes[at + 1]])
+}
+
+fn long(bytes: &[u8], at: usize) -> u32
+    requires { at + 4 ≤ length bytes.now }
+    ensures { result ≡ long_at bytes.now at }
+{
+    u32::from_le_bytes([bytes[at], bytes[at + 1], bytes[at + 2], bytes[at + 3]])
+}
+
+fn res(bytes: &[u8], at: usize) -> Res
+    requires { at + 8 ≤ length bytes.now }
+    ensures { result ≡ res_at bytes.now at }
+{
+    Res {
+        num: long(bytes, at),
+        den: long(bytes, at + 4),
+    }
+}

@@ -1,0 +1,4 @@
+pub mod Counts
+pub mod Folder
+pub mod Out
+pub mod Source

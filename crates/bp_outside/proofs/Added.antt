@@ -10,7 +10,8 @@ use Rattle.bp_outside.specs.declared.refusals.FolderRefusal.TheVariants.{Failed,
 use Rattle.bp_outside.specs.Folder.PutsPart.{prefix}
 use Rattle.bp_outside.specs.Folder.{FolderView, AddsFirst, AddsPrefix, PutsPart, PutsFile, after_finish, file, add_to_last, with_bytes, with_file, after_refusal}
 
-last_nothing : (rows : List FileRow) → add_to_last [] rows ≡ rows
+-- no bytes for the last file
+pub last_nothing : (rows : List FileRow) → add_to_last [] rows ≡ rows
 last_nothing [] = refl
 last_nothing (row ∷ []) = ap (λ bytes. record row { bytes = bytes } ∷ []) (append-nil row.bytes)
 last_nothing (row ∷ next ∷ rows) = ap (λ rest. row ∷ rest) (last_nothing (next ∷ rows))

@@ -1,2 +1,4 @@
 pub mod Added
+pub mod Held
+pub mod Rows
 pub mod Written

@@ -1,4 +1,5 @@
 // Why a call on the outside gave nothing.
+use bp_core::OutOfMemory;
 use std::alloc::AllocError;
 use std::convert::From;
 use thiserror::Error;
@@ -71,6 +72,28 @@ impl From<AllocError> for OutRefusal {
     ghost from_gives = { λ _ refusal. refusal ≡ refusals.OutOfMemory };
 
     fn from(_error: AllocError) -> OutRefusal {
+        OutRefusal::OutOfMemory
+    }
+}
+
+impl From<OutOfMemory> for FolderRefusal {
+    ghost use Rattle.std.specs.Prelude.{◌≡◌};
+    ghost use Rattle.bp_outside.specs.declared.refusals.FolderRefusal.TheVariants as refusals;
+
+    ghost from_gives = { λ _ refusal. refusal ≡ refusals.OutOfMemory };
+
+    fn from(_error: OutOfMemory) -> FolderRefusal {
+        FolderRefusal::OutOfMemory
+    }
+}
+
+impl From<OutOfMemory> for OutRefusal {
+    ghost use Rattle.std.specs.Prelude.{◌≡◌};
+    ghost use Rattle.bp_outside.specs.declared.refusals.OutRefusal.TheVariants as refusals;
+
+    ghost from_gives = { λ _ refusal. refusal ≡ refusals.OutOfMemory };
+
+    fn from(_error: OutOfMemory) -> OutRefusal {
         OutRefusal::OutOfMemory
     }
 }

@@ -1,10 +1,10 @@
 -- What an object in memory holds after a call that was to fail, or that came too far for memory.
-use Rattle.std.proofs.Common.{◌≡◌, ℕ, zero, suc, ◌+◌, ◌==◌, ◌-◌, ◌≤◌, ◌<◌, Bool, true, false, ◌&&◌, List, [], ◌∷◌, ◌++◌, length, take, set, get_or, refl, sym, ap, ◌∙◌, arith}
+use Rattle.std.proofs.Common.{◌≡◌, ℕ, zero, suc, ◌+◌, ◌==◌, ◌-◌, Bool, true, false, ◌&&◌, List, [], ◌∷◌, ◌++◌, length, take, set, get_or, refl, sym, ap, ◌∙◌, arith}
 use Rattle.std.specs.Prelude.{Some, if◌then◌else◌}
 use Rattle.std.specs.List.{list_any}
 use Rattle.bp_outside.specs.declared.files.FileRow.{FileRow}
 use Rattle.bp_outside.specs.declared.memory.calls.Calls.{Calls}
-use Rattle.bp_outside.specs.Folder.{FolderView, AddsPrefix, add_to_last}
+use Rattle.bp_outside.specs.Folder.{AddsPrefix, add_to_last}
 use Rattle.bp_outside.specs.Memory.{next_fails, after_call, is_sure}
 use Rattle.bp_outside.proofs.Added.{last_nothing}
 

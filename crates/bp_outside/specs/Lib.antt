@@ -5,3 +5,4 @@ pub mod Out
 pub mod ReadCounts
 pub mod Source
 pub mod Sure
+pub mod Untold

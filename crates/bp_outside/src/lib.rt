@@ -8,6 +8,7 @@ mod memory;
 mod out;
 mod refusals;
 mod source;
+mod system;
 
 pub use files::{FileList, FileRow, paths_differ};
 pub use folder::{Folder, put_file};
@@ -17,3 +18,6 @@ pub use memory::source::MemSource;
 pub use out::{Out, write_all};
 pub use refusals::{FolderRefusal, OutRefusal, ReadRefusal};
 pub use source::Source;
+pub use system::file_folder::FileFolder;
+pub use system::file_source::FileSource;
+pub use system::std_out::StdOut;

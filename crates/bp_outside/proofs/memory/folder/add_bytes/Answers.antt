@@ -1,4 +1,4 @@
-use Rattle.std.proofs.Common.{sym, ◌∙◌}
+use Rattle.std.proofs.Common.{◌∙◌}
 use Rattle.bp_outside.proofs.Held.{last_grown}
 use Rattle.bp_outside.proofs.memory.folder.add_bytes.Goals as goal
 

@@ -9,6 +9,8 @@ mod out;
 mod refusals;
 mod source;
 mod system;
+#[cfg(test)]
+mod tests;
 
 pub use files::{FileList, FileRow, paths_differ};
 pub use folder::{Folder, put_file};

@@ -1,4 +1,5 @@
 pub mod Added
+mod Examples
 pub mod Held
 pub mod Rows
 pub mod Written

@@ -21,7 +21,8 @@ pub struct FileFolder<'a, R: Files> {
 impl<'a, R: Files> FileFolder<'a, R> {
     /// This folder: `.` for the current one. Paths below it have `/` between folders.
     pub fn below(rt: &'a R, folder: &'a str) -> FileFolder<'a, R>
-        ensures { untold_folder (is_some result.file) result.faults ≡ record { files = None; under_way = false; faults = 0; sure = false } }
+        ensures folder { result.folder.now ≡ folder.now }
+        ensures shows { untold_folder (is_some result.file) result.faults ≡ record { files = None; under_way = false; faults = 0; sure = false } }
     {
         FileFolder {
             rt,

@@ -24,7 +24,8 @@ pub struct FileSource<'a, R: Files> {
 impl<'a, R: Files> FileSource<'a, R> {
     /// The files below this folder: `.` for the current one. Their paths have `/` between folders.
     pub fn below(rt: &'a R, folder: &'a str) -> FileSource<'a, R>
-        ensures { untold_source result.counts ≡ record { files = None; faults = 0; absences = 0; overlong = 0; sure = false } }
+        ensures folder { result.folder.now ≡ folder.now }
+        ensures shows { untold_source result.counts ≡ record { files = None; faults = 0; absences = 0; overlong = 0; sure = false } }
     {
         FileSource {
             rt,

@@ -1,5 +1,6 @@
 // A folder of the file system as a source.
-ghost use Rattle.std.specs.Prelude.{◌≡◌, ◌≤◌, false, length, IfOk, None};
+ghost use Rattle.std.specs.Prelude.{◌≡◌, ◌≤◌, ◌+◌, false, length, IfOk, IfSome, None};
+ghost use Rattle.bp_outside.specs.Reading.{ReadsWhole, TakesAtMost};
 ghost use Rattle.bp_outside.specs.Untold.{untold_source};
 
 use crate::counts::ReadCounts;
@@ -65,6 +66,8 @@ fn read_file<R: Files>(rt: &R, alloc: Global, path: &str, max: u64) -> Result<Ve
 // Reads to the end, and no more than one byte past the limit. Each turn takes at least one byte.
 fn read_all<F: Read>(file: &mut F, alloc: Global, max: u64) -> Result<Vec<u8>, ReadRefusal>
     ensures limit { IfOk result (λ bytes. length bytes.items ≤ max) }
+    ensures whole { IfSome (F.remaining file.old) (ReadsWhole max result) }
+    ensures taken { TakesAtMost (max + 1) (F.remaining file.old) (F.remaining file.new) }
 {
     let mut bytes = Vec::new(alloc);
     let mut chunk = [0u8; CHUNK];

@@ -21,8 +21,9 @@ pub record SourceView : Type 0 where
   pub overlong : ℕ
   pub sure : Bool
 
--- what a read of at most max bytes at a path may answer over these files. No two of the first three lines
--- hold at once, so where nothing failed and memory served, each answer comes exactly where its line holds
+-- what a read of at most max bytes at a path may answer over these files. As Ok gives at most max bytes,
+-- no two of the first three lines hold at once: where nothing failed and memory served, each answer comes
+-- exactly where its line holds
 abbrev pub ReadOver : List ℕ → ℕ → Result (Vec ℕ Global) ReadRefusal → FileMap → Type 0
 ReadOver path max (Ok bytes) files = map.get files path ≡ Some bytes.items
 ReadOver path max (Err Absent) files = map.get files path ≡ None

@@ -1,5 +1,5 @@
 // A folder of the file system as a source.
-ghost use Rattle.std.specs.Prelude.{◌≡◌, ◌≤◌, ◌+◌, false, length, IfOk, IfSome, None};
+ghost use Rattle.std.specs.Prelude.{◌≡◌, ◌≤◌, ◌+◌, false, length, IfOk, IfSome, None, []};
 ghost use Rattle.bp_outside.specs.Reading.{ReadsWhole, TakesAtMost};
 ghost use Rattle.bp_outside.specs.Untold.{untold_source};
 
@@ -8,6 +8,7 @@ use crate::refusals::ReadRefusal;
 use crate::source::Source;
 use std::alloc::Global;
 use std::fs;
+use std::fs::OpenFile;
 use std::io::{ErrorKind, Read};
 use std::rt::Files;
 
@@ -57,19 +58,35 @@ fn read_file<R: Files>(rt: &R, alloc: Global, path: &str, max: u64) -> Result<Ve
     ensures limit { IfOk result (λ bytes. length bytes.items ≤ max) }
 {
     match fs::open(rt, path) {
-        Ok(mut file) => read_all(&mut file, alloc, max),
+        Ok(file) => read_open(file, alloc, max),
         Err(error) if error.kind() == ErrorKind::NotFound => Err(ReadRefusal::Absent),
         Err(_) => Err(ReadRefusal::Failed),
     }
 }
 
+// The file's length only says how much room to take first: what is read decides.
+fn read_open<F: Read + OpenFile + Drop>(
+    mut file: F,
+    alloc: Global,
+    max: u64,
+) -> Result<Vec<u8>, ReadRefusal>
+    ensures limit { IfOk result (λ bytes. length bytes.items ≤ max) }
+{
+    let Ok(about) = file.metadata() else {
+        return Err(ReadRefusal::Failed);
+    };
+    let room = about.len().min(max) as usize;
+    read_all(&mut file, Vec::with_capacity(alloc, room)?, max)
+}
+
 // Reads to the end, and no more than one byte past the limit. Each turn takes at least one byte.
-fn read_all<F: Read>(file: &mut F, alloc: Global, max: u64) -> Result<Vec<u8>, ReadRefusal>
+fn read_all<F: Read>(file: &mut F, room: Vec<u8>, max: u64) -> Result<Vec<u8>, ReadRefusal>
+    requires { room.items ≡ [] }
     ensures limit { IfOk result (λ bytes. length bytes.items ≤ max) }
     ensures whole { IfSome (F.remaining file.old) (ReadsWhole max result) }
     ensures taken { TakesAtMost (max + 1) (F.remaining file.old) (F.remaining file.new) }
 {
-    let mut bytes = Vec::new(alloc);
+    let mut bytes = room;
     let mut chunk = [0u8; CHUNK];
     let mut left = max;
     loop {

@@ -80,13 +80,13 @@ fn read_open<F: Read + OpenFile + Drop>(
 }
 
 // Reads to the end, and no more than one byte past the limit. Each turn takes at least one byte.
-fn read_all<F: Read>(file: &mut F, room: Vec<u8>, max: u64) -> Result<Vec<u8>, ReadRefusal>
-    requires { room.items ≡ [] }
+fn read_all<F: Read>(file: &mut F, empty: Vec<u8>, max: u64) -> Result<Vec<u8>, ReadRefusal>
+    requires { empty.items ≡ [] }
     ensures limit { IfOk result (λ bytes. length bytes.items ≤ max) }
     ensures whole { IfSome (F.remaining file.old) (ReadsWhole max result) }
     ensures taken { TakesAtMost (max + 1) (F.remaining file.old) (F.remaining file.new) }
 {
-    let mut bytes = room;
+    let mut bytes = empty;
     let mut chunk = [0u8; CHUNK];
     let mut left = max;
     loop {

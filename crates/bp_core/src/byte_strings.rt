@@ -1,6 +1,7 @@
 // Bytes that contracts see as a list of numbers, whatever room they have.
-ghost use Rattle.std.specs.Prelude.{◌≡◌, ◌==◌, List, ℕ, [], length};
+ghost use Rattle.std.specs.Prelude.{◌≡◌, ◌==◌, List, ℕ, [], ◌++◌, length, is_ok, if◌then◌else◌};
 
+use crate::refusals::OutOfMemory;
 use std::alloc::Global;
 use std::marker::Model;
 
@@ -29,6 +30,14 @@ impl Bytes {
         ensures { result.items ≡ self }
     {
         self.bytes
+    }
+
+    /// Adds these bytes at the end. Where memory is lacking, nothing changes.
+    pub fn extend_from_slice(&mut self, piece: &[u8]) -> Result<(), OutOfMemory>
+        ensures { self.new ≡ (if is_ok result then self.old ++ piece.now else self.old) }
+    {
+        self.bytes.extend_from_slice(piece)?;
+        Ok(())
     }
 
     /// How many bytes there are.

@@ -1,0 +1,101 @@
+-- Worked examples of the definitions in specs/, each run by the check.
+use Rattle.std.proofs.Common.{◌≡◌, true, false, [], ◌∷◌, refl}
+use Rattle.std.specs.Prelude.{Some, None, Ok, Err, codes}
+use Rattle.std.specs.FinMap.{get}
+use Rattle.bp_outside.specs.declared.files.FileRow.{FileRow}
+use Rattle.bp_outside.specs.declared.memory.calls.Calls.{Calls}
+use Rattle.bp_outside.specs.declared.refusals.FolderRefusal.TheVariants as folder_refusals
+use Rattle.bp_outside.specs.declared.refusals.OutRefusal.TheVariants as out_refusals
+use Rattle.bp_outside.specs.declared.refusals.ReadRefusal.TheVariants as read_refusals
+use Rattle.bp_outside.specs.Counts.{risen}
+use Rattle.bp_outside.specs.Source.{SourceView, after_read}
+use Rattle.bp_outside.specs.Folder as folders
+use Rattle.bp_outside.specs.Out as outs
+use Rattle.bp_outside.specs.Memory.{after_call, file_map, is_sure, next_fails, no_calls, paths_differ}
+use Rattle.bp_outside.proofs.Rows.{get-first_with}
+
+first : risen 0 ≡ 1
+first = refl
+
+last : risen 18446744073709551614 ≡ 18446744073709551615
+last = refl
+
+stands_still : risen 18446744073709551615 ≡ 18446744073709551615
+stands_still = refl
+
+abbrev page : FileRow
+page = folders.file (codes "a.tif") (1 ∷ 2 ∷ [])
+
+abbrev text : FileRow
+text = folders.file (codes "b/a.txt") []
+
+-- a folder in which one file is under way
+abbrev begun : folders.FolderView
+begun = record { files = Some (page ∷ text ∷ []); under_way = true; faults = 4; sure = false }
+
+bytes_go_to_the_last_file : folders.with_bytes begun (7 ∷ 8 ∷ []) ≡ record begun { files = Some (page ∷ folders.file (codes "b/a.txt") (7 ∷ 8 ∷ []) ∷ []) }
+bytes_go_to_the_last_file = refl
+
+a_new_file_is_last : folders.after_create begun (codes "c") (Ok tt) ≡ record begun { files = Some (page ∷ text ∷ folders.file (codes "c") [] ∷ []) }
+a_new_file_is_last = refl
+
+a_refusal_leaves_the_files : folders.after_create begun (codes "c") (Err folder_refusals.Failed) ≡ record begun { faults = 5 }
+a_refusal_leaves_the_files = refl
+
+the_end : folders.after_finish begun (Ok tt) ≡ record begun { under_way = false }
+the_end = refl
+
+abbrev untold : folders.FolderView
+untold = record { files = None; under_way = true; faults = 0; sure = false }
+
+untold_stays_untold : folders.with_bytes untold (7 ∷ []) ≡ untold
+untold_stays_untold = refl
+
+abbrev printed : outs.OutView
+printed = record { written = Some (codes "ok "); faults = 0; sure = true }
+
+more_is_written : outs.with_written printed (codes "1") ≡ record printed { written = Some (codes "ok 1") }
+more_is_written = refl
+
+want_of_memory_is_no_fault : outs.after_refusal printed out_refusals.OutOfMemory ≡ printed
+want_of_memory_is_no_fault = refl
+
+abbrev known : SourceView
+known = record { files = None; faults = 1; absences = 2; overlong = 3; sure = false }
+
+only_absences_rise : after_read known (Err read_refusals.Absent) ≡ record known { absences = 3 }
+only_absences_rise = refl
+
+only_overlong_rises : after_read known (Err read_refusals.TooLong) ≡ record known { overlong = 4 }
+only_overlong_rises = refl
+
+there : get (file_map (text ∷ page ∷ [])) (codes "a.tif") ≡ Some (1 ∷ 2 ∷ [])
+there = get-first_with (codes "a.tif") (text ∷ page ∷ [])
+
+not_there : get (file_map (text ∷ page ∷ [])) (codes "a.ti") ≡ None
+not_there = get-first_with (codes "a.ti") (text ∷ page ∷ [])
+
+all_differ : paths_differ (page ∷ text ∷ []) ≡ true
+all_differ = refl
+
+one_twice : paths_differ (page ∷ text ∷ page ∷ []) ≡ false
+one_twice = refl
+
+-- calls 1 and 3 are to fail
+abbrev calls : Calls
+calls = no_calls (3 ∷ 1 ∷ [])
+
+call_0 : next_fails calls ≡ false
+call_0 = refl
+
+call_1 : next_fails (after_call calls) ≡ true
+call_1 = refl
+
+call_2 : next_fails (after_call (after_call calls)) ≡ false
+call_2 = refl
+
+not_sure : is_sure calls 0 ≡ false
+not_sure = refl
+
+sure : is_sure (no_calls []) 0 ≡ true
+sure = refl

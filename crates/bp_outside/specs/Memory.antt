@@ -1,0 +1,74 @@
+-- The objects in memory. Each is told, and fails at the calls whose numbers it was given.
+use Rattle.std.specs.Prelude.{ℕ, ◌==◌, Bool, true, not, ◌&&◌, List, [], ◌∷◌, map, length, Some}
+use Rattle.std.specs.List.{list_any}
+use Rattle.std.specs.Str.{bytes_eq}
+use Rattle.std.specs.FinMap as maps
+use Rattle.bp_outside.specs.Counts.{risen}
+use Rattle.bp_outside.specs.Source.{FileMap, SourceView}
+use Rattle.bp_outside.specs.Folder.{FolderView}
+use Rattle.bp_outside.specs.Out.{OutView}
+use Rattle.bp_outside.specs.declared.files.FileRow.{FileRow}
+use Rattle.bp_outside.specs.declared.memory.calls.Calls.{Calls}
+use Rattle.bp_outside.specs.declared.memory.source.MemSource.{MemSource}
+use Rattle.bp_outside.specs.declared.memory.folder.MemFolder.{MemFolder}
+use Rattle.bp_outside.specs.declared.memory.out.MemOut.{MemOut}
+
+-- no call yet, and these that are to fail
+abbrev pub no_calls : List ℕ → Calls
+no_calls failing = record { failing = failing; made = 0 }
+
+-- whether the next call is to fail
+abbrev pub next_fails : Calls → Bool
+next_fails calls = list_any (λ number. number == calls.made) calls.failing
+
+-- one call later. All calls of an object have numbers in one sequence, from 0
+abbrev pub after_call : Calls → Calls
+after_call calls = record calls { made = risen calls.made }
+
+-- no call is to fail, and none failed
+abbrev pub is_sure : Calls → ℕ → Bool
+is_sure calls faults = (length calls.failing == 0) && (faults == 0)
+
+-- no path stands twice
+abbrev pub paths_differ : List FileRow → Bool
+paths_differ [] = true
+paths_differ (row ∷ rows) = not (list_any (λ other. bytes_eq other.path row.path) rows) && paths_differ rows
+
+abbrev pub path_pairs : List FileRow → List (List ℕ × List ℕ)
+path_pairs rows = map (λ row. (row.path, row.bytes)) rows
+
+-- the files as a map from path to bytes
+abbrev pub file_map : List FileRow → FileMap
+file_map rows = maps.from_entries (path_pairs rows)
+
+-- what is known of a source in memory, its calls, and its files in their order
+abbrev pub source_shown : MemSource → SourceView
+source_shown source =
+    record {
+      files = Some (file_map source.files);
+      faults = source.counts.faults;
+      absences = source.counts.absences;
+      overlong = source.counts.overlong;
+      sure = is_sure source.calls source.counts.faults;
+    }
+
+abbrev pub source_calls : MemSource → Calls
+source_calls source = source.calls
+
+abbrev pub source_files : MemSource → List FileRow
+source_files source = source.files
+
+-- what is known of a folder in memory, and its calls
+abbrev pub folder_shown : MemFolder → FolderView
+folder_shown folder =
+    record { files = Some folder.files.items; under_way = folder.under_way; faults = folder.faults; sure = is_sure folder.calls folder.faults }
+
+abbrev pub folder_calls : MemFolder → Calls
+folder_calls folder = folder.calls
+
+-- what is known of an out in memory, and its calls
+abbrev pub out_shown : MemOut → OutView
+out_shown out = record { written = Some out.written; faults = out.faults; sure = is_sure out.calls out.faults }
+
+abbrev pub out_calls : MemOut → Calls
+out_calls out = out.calls

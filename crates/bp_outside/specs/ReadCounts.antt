@@ -1,0 +1,12 @@
+-- Counts of what a source couldn't read.
+use Rattle.bp_outside.specs.Counts.{risen}
+use Rattle.bp_outside.specs.declared.counts.ReadCounts.{ReadCounts}
+use Rattle.bp_outside.specs.declared.refusals.ReadRefusal.{ReadRefusal}
+use Rattle.bp_outside.specs.declared.refusals.ReadRefusal.TheVariants.{Absent, TooLong, Failed, OutOfMemory}
+
+-- the counts after a refusal
+abbrev pub raised : ReadCounts → ReadRefusal → ReadCounts
+raised counts Absent = record counts { absences = risen counts.absences }
+raised counts TooLong = record counts { overlong = risen counts.overlong }
+raised counts Failed = record counts { faults = risen counts.faults }
+raised counts OutOfMemory = counts

@@ -65,8 +65,8 @@ imported_is_allowed w h imported =
     let many = leb-true (w * h) 200000000 parts.4 in
     and_from (nat_lt 0 w && nat_le w 20000 && nat_lt 0 h && nat_le h 20032) (nat_le (w * h) 200640000)
     (and_from (nat_lt 0 w && nat_le w 20000 && nat_lt 0 h) (nat_le h 20032)
-        (and_from (nat_lt 0 w && nat_le w 20000) (nat_lt 0 h) (and_from (nat_lt 0 w) (nat_le w 20000) parts.0 parts.1) parts.2)
-        (le-leb h 20032 (omega arith)))
+    (and_from (nat_lt 0 w && nat_le w 20000) (nat_lt 0 h) (and_from (nat_lt 0 w) (nat_le w 20000) parts.0 parts.1) parts.2)
+    (le-leb h 20032 (omega arith)))
     (le-leb (w * h) 200640000 (omega arith))
 
 module _ (w h : ℕ) (x y : Res) (u : LengthUnit) where

@@ -37,16 +37,16 @@ returns-clause-only c rows allowed grid same =
 pub returns-clause-page : goal.returns-clause-page
 returns-clause-page c =
     let long : length c.args.strip.items ≡ c.args.height * row_bytes c.args.width =
-        sym c.args.strip.ok.0 ∙ sym c.len.ensures ∙ c.if-len-bytes_of_strip.false ∙ c.bytes_of_strip.ensures in
+    sym c.args.strip.ok.0 ∙ sym c.len.ensures ∙ c.if-len-bytes_of_strip.false ∙ c.bytes_of_strip.ensures in
     let fit : AreBytes c.args.strip.items = subst (λ (bytes : List ℕ). AreBytes bytes) c.deref.ensures.value c.if-not-has_blank_ends.ensures.fit in
     let ends : HasBlankEnds c.args.width c.args.height c.args.strip.items =
-        subst (λ (bytes : List ℕ). HasBlankEnds c.args.width c.args.height bytes) c.deref.ensures.value (c.if-not-has_blank_ends.ensures.yes refl) in
+    subst (λ (bytes : List ℕ). HasBlankEnds c.args.width c.args.height bytes) c.deref.ensures.value (c.if-not-has_blank_ends.ensures.yes refl) in
     is_page c.args.width c.args.height c.args.xres c.args.yres c.args.unit c.args.strip.items
     (record {
-        sides = sym c.if-not-allowed_sides.ensures;
-        xres = record { num = omega arith; den = omega arith };
-        yres = record { num = omega arith; den = omega arith };
-        long = long;
-        bytes_fit = fit;
-        ends = ends;
+      sides = sym c.if-not-allowed_sides.ensures;
+      xres = record { num = omega arith; den = omega arith };
+      yres = record { num = omega arith; den = omega arith };
+      long = long;
+      bytes_fit = fit;
+      ends = ends;
     })

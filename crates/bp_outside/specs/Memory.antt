@@ -11,7 +11,7 @@ use Rattle.bp_outside.specs.declared.files.FileRow.{FileRow}
 use Rattle.bp_outside.specs.declared.memory.calls.Calls.{Calls}
 use Rattle.bp_outside.specs.declared.memory.source.MemSource.{MemSource}
 use Rattle.bp_outside.specs.declared.memory.folder.MemFolder.{MemFolder}
-use Rattle.bp_outside.specs.declared.memory.out.MemOut.{MemOut}
+use Rattle.bp_outside.specs.declared.memory.output.MemOut.{MemOut}
 
 -- no call yet, and these that are to fail
 abbrev pub no_calls : List ℕ → Calls

@@ -2,5 +2,5 @@
 // what stands above it can be tried at each of its calls.
 pub mod calls;
 pub mod folder;
-pub mod out;
+pub mod output;
 pub mod source;

@@ -2,7 +2,7 @@
 ghost use Rattle.std.specs.Prelude.{◌≡◌, false, None};
 ghost use Rattle.bp_outside.specs.Untold.{untold_out};
 
-use crate::out::Out;
+use crate::output::Out;
 use crate::refusals::OutRefusal;
 use std::alloc::Global;
 

@@ -4,7 +4,7 @@ ghost use Rattle.bp_outside.specs.Out.{Writes};
 ghost use Rattle.bp_outside.specs.Memory.{out_shown, out_calls, no_calls, next_fails, after_call};
 
 use crate::memory::calls::Calls;
-use crate::out::Out;
+use crate::output::Out;
 use crate::refusals::OutRefusal;
 use bp_core::{Bytes, NumberList};
 use std::alloc::Global;

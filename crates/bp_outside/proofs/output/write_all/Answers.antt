@@ -1,0 +1,11 @@
+use Rattle.std.proofs.lemmas.Result.{err_from_is_err_and}
+use Rattle.bp_outside.proofs.Written.{refused_after, write_more}
+use Rattle.bp_outside.proofs.output.write_all.Goals as goal
+
+pub returns-in_err-at : goal.returns-in_err-at
+returns-in_err-at g c =
+    let p = err_from_is_err_and c.from_residual.result c.from_residual.ensures.1 in
+    rw (p.1, p.2) (refused_after _ _ _ _ _ _ c.loop-at.invariant.1 c.in_err-at.ensures)
+
+pub loop-at-preserved : goal.loop-at-preserved
+loop-at-preserved g c = write_more _ _ _ _ _ _ c.loop-at.invariant c.in_ok-at.ensures

@@ -1,0 +1,271 @@
+-- Lists of bits, the numbers that they are, and the bits of bytes.
+use Rattle.std.proofs.Common.{ℕ, zero, suc, ◌+◌, ◌-◌, ◌*◌, ◌/◌, ◌%◌, ◌^◌, ◌<◌, ◌≤◌, ◌≡◌, Bool, true, false, List, [], ◌∷◌, ◌++◌, length, take, drop, map, get_or, if◌then◌else◌, refl, ap, sym, ◌∙◌, subst, arith, length-append, length-drop, length-take, add-one, add-zero, inl, inr, bit_and, bit_or, nat_eq, slice_get, Some}
+use Rattle.std.specs.List.{flat_map}
+use Rattle.std.proofs.Math.Nat.{pow-suc}
+use Rattle.std.proofs.lemmas.Nat.{pow_pos, pow-add, shr_high, or_shifted, and_mask, one_shl, mod_low, field_of, div_below}
+use Rattle.std.proofs.lemmas.Bool.{cases_eq}
+use Rattle.std.proofs.lemmas.Nat.Bits.{shr_and_one}
+use Rattle.std.proofs.lemmas.Option.{slice_get-get_or}
+use Rattle.std.proofs.lemmas.List.{drop_more, get_or_append_left, drop-drop, drop_all, get_or-drop, length-take-le, take-append-drop, take-append-le, drop-take, append_assoc, take_more}
+use Rattle.bp_codes.specs.declared.span.Fill.{Fill}
+use Rattle.bp_codes.specs.declared.span.Fill.TheVariants.{High, Low}
+use Rattle.bp_codes.specs.declared.reversed.TheConstants.{REVERSED}
+use Rattle.bp_codes.specs.Bits.{bit, byte_bits, bits_of, number_of}
+use Rattle.bp_codes.specs.CodeLists.{bits_in_print}
+
+-- ---- numbers
+
+first_digit : (b : Bool) (n r : ℕ) → r < 2 ^ n → (if b then 2 ^ n else 0) + r < 2 ^ suc n
+first_digit true n r h = omega (arith, pow-suc 2 n)
+first_digit false n r h = omega (arith, pow-suc 2 n)
+
+pub number_of-below : (bits : List Bool) → number_of bits < 2 ^ length bits
+number_of-below [] = omega arith
+number_of-below (b ∷ bits) = first_digit b (length bits) (number_of bits) (number_of-below bits)
+
+shifted : (b : Bool) (n m x y : ℕ) → (if b then 2 ^ (n + m) else 0) + (x * 2 ^ m + y) ≡ ((if b then 2 ^ n else 0) + x) * 2 ^ m + y
+shifted true n m x y = omega (arith, pow-add 2 n m)
+shifted false n m x y = omega arith
+
+pub number_of-append : (xs ys : List Bool) → number_of (xs ++ ys) ≡ number_of xs * 2 ^ length ys + number_of ys
+number_of-append [] ys = omega arith
+number_of-append (b ∷ xs) ys =
+    rw (length-append xs ys, number_of-append xs ys) (shifted b (length xs) (length ys) (number_of xs) (number_of ys))
+
+-- the front of bits is their number without its low digits
+pub number_of-take : (n k : ℕ) (bits : List Bool) → length bits ≡ n + k → number_of (take n bits) ≡ number_of bits / 2 ^ k
+number_of-take n k bits h =
+    let rest : length (drop n bits) ≡ k = omega (arith, length-drop n bits) in
+    let whole = ap number_of (take-append-drop n bits) in
+    let split = number_of-append (take n bits) (drop n bits) in
+    let small : number_of (drop n bits) < 2 ^ k = let P : ℕ → Type 0 = λ m. number_of (drop n bits) < 2 ^ m in subst P rest (number_of-below (drop n bits)) in
+    let at_k : number_of bits ≡ number_of (take n bits) * 2 ^ k + number_of (drop n bits) = sym whole ∙ split ∙ ap (λ m. number_of (take n bits) * 2 ^ m + number_of (drop n bits)) rest in
+    sym (ap (λ v. v / 2 ^ k) at_k ∙ shr_high (number_of (take n bits)) k (number_of (drop n bits)) small)
+
+-- what is left of bits is their number's low digits
+pub number_of-drop : (n k : ℕ) (bits : List Bool) → length bits ≡ n + k → number_of (drop n bits) ≡ number_of bits % 2 ^ k
+number_of-drop n k bits h =
+    let rest : length (drop n bits) ≡ k = omega (arith, length-drop n bits) in
+    let whole = ap number_of (take-append-drop n bits) in
+    let split = number_of-append (take n bits) (drop n bits) in
+    let small : number_of (drop n bits) < 2 ^ k = let P : ℕ → Type 0 = λ m. number_of (drop n bits) < 2 ^ m in subst P rest (number_of-below (drop n bits)) in
+    let at_k : number_of bits ≡ number_of (take n bits) * 2 ^ k + number_of (drop n bits) = sym whole ∙ split ∙ ap (λ m. number_of (take n bits) * 2 ^ m + number_of (drop n bits)) rest in
+    sym (ap (λ v. v % 2 ^ k) at_k ∙ mod_low (number_of (take n bits)) k (number_of (drop n bits)) small)
+
+-- ---- bytes
+
+pub length-byte_bits : (fill : Fill) (b : ℕ) → length (byte_bits fill b) ≡ 8
+length-byte_bits High b = refl
+length-byte_bits Low b = refl
+
+pub length-bits_of : (fill : Fill) (bytes : List ℕ) → length (bits_of fill bytes) ≡ length bytes * 8
+length-bits_of fill [] = refl
+length-bits_of fill (b ∷ bytes) =
+    length-append (byte_bits fill b) (bits_of fill bytes) ∙ omega (arith, length-byte_bits fill b, length-bits_of fill bytes)
+
+past_byte : (fill : Fill) (b : ℕ) (bits : List Bool) → drop 8 (byte_bits fill b ++ bits) ≡ bits
+past_byte High b bits = refl
+past_byte Low b bits = refl
+
+skip_byte : (fill : Fill) (b n : ℕ) (bits : List Bool) → drop (8 + n) (byte_bits fill b ++ bits) ≡ drop n bits
+skip_byte fill b n bits =
+    sym (drop-drop n 8 (byte_bits fill b ++ bits)) ∙ ap (drop n) (past_byte fill b bits)
+
+-- whole bytes skipped
+pub drop-bits_of : (fill : Fill) (q n : ℕ) (bytes : List ℕ) → drop (8 * q + n) (bits_of fill bytes) ≡ drop n (bits_of fill (drop q bytes))
+drop-bits_of fill zero n bytes = ap (λ k. drop k (bits_of fill bytes)) (omega arith)
+drop-bits_of fill (suc q) n [] = drop_all (8 * suc q + n) [] (omega arith) ∙ sym (drop_all n [] (omega arith))
+drop-bits_of fill (suc q) n (b ∷ bytes) =
+    let same : 8 * suc q + n ≡ 8 + (8 * q + n) = omega arith in
+    ap (λ k. drop k (byte_bits fill b ++ bits_of fill bytes)) same
+    ∙ skip_byte fill b (8 * q + n) (bits_of fill bytes) ∙ drop-bits_of fill q n bytes
+
+-- the bits of three bytes
+abbrev pub three_bytes : Fill → ℕ → ℕ → ℕ → List Bool
+three_bytes fill x y z = byte_bits fill x ++ (byte_bits fill y ++ byte_bits fill z)
+
+two_bytes : (fill : Fill) (y z : ℕ) → length (byte_bits fill y ++ byte_bits fill z) ≡ 16
+two_bytes High y z = refl
+two_bytes Low y z = refl
+
+length-three : (fill : Fill) (x y z : ℕ) → length (three_bytes fill x y z) ≡ 24
+length-three High x y z = refl
+length-three Low x y z = refl
+
+regroup : (a b c d : List Bool) → (a ++ (b ++ c)) ++ d ≡ a ++ (b ++ (c ++ d))
+regroup a b c d = simp append_assoc
+
+-- of the bits of bytes the first ones stand in the first three bytes, with any bytes past the end
+first_three : (fill : Fill) (m : ℕ) (bytes : List ℕ) → m ≤ 24 → m ≤ length bytes * 8 → take m (bits_of fill bytes) ≡ take m (three_bytes fill (get_or bytes 0 0) (get_or bytes 1 0) (get_or bytes 2 0))
+first_three fill m [] h within = let none : m ≡ 0 = omega arith in ap (λ k. take k []) none ∙ sym (ap (λ k. take k (three_bytes fill 0 0 0)) none)
+first_three fill m (x ∷ []) h within =
+    take-append-le m (byte_bits fill x) [] (omega (arith, length-byte_bits fill x))
+    ∙ sym (take-append-le m (byte_bits fill x) (byte_bits fill 0 ++ byte_bits fill 0) (omega (arith, length-byte_bits fill x)))
+first_three fill m (x ∷ y ∷ []) h within =
+    let two : length (byte_bits fill x ++ byte_bits fill y) ≡ 16 = length-append (byte_bits fill x) (byte_bits fill y) ∙ omega (arith, length-byte_bits fill x, length-byte_bits fill y) in
+    ap (take m) (sym (append_assoc (byte_bits fill x) (byte_bits fill y) [])) ∙ take-append-le m (byte_bits fill x ++ byte_bits fill y) [] (omega (arith, two))
+    ∙ sym (ap (take m) (sym (append_assoc (byte_bits fill x) (byte_bits fill y) (byte_bits fill 0))) ∙ take-append-le m (byte_bits fill x ++ byte_bits fill y) (byte_bits fill 0) (omega (arith, two)))
+first_three fill m (x ∷ y ∷ z ∷ bytes) h within =
+    let three : length (three_bytes fill x y z) ≡ 24 = length-three fill x y z in
+    ap (take m) (sym (regroup (byte_bits fill x) (byte_bits fill y) (byte_bits fill z) (bits_of fill bytes)))
+    ∙ take-append-le m (three_bytes fill x y z) (bits_of fill bytes) (omega (arith, three))
+
+number-three : (fill : Fill) (x y z : ℕ) → number_of (three_bytes fill x y z) ≡ (number_of (byte_bits fill x) * 65536 + number_of (byte_bits fill y) * 256) + number_of (byte_bits fill z)
+number-three fill x y z =
+    number_of-append (byte_bits fill x) (byte_bits fill y ++ byte_bits fill z)
+    ∙ ap (λ n. number_of (byte_bits fill x) * 2 ^ n + number_of (byte_bits fill y ++ byte_bits fill z)) (two_bytes fill y z)
+    ∙ ap (λ n. number_of (byte_bits fill x) * 65536 + n) (number_of-append (byte_bits fill y) (byte_bits fill z) ∙ ap (λ n. number_of (byte_bits fill y) * 2 ^ n + number_of (byte_bits fill z)) (length-byte_bits fill z))
+    ∙ omega arith
+
+in_the_rest : (bytes : List ℕ) (q i : ℕ) → get_or (drop q bytes) i 0 ≡ get_or bytes (q + i) 0
+in_the_rest bytes q i = get_or-drop q bytes i 0
+
+-- count bits after r ones of 24, as a number
+middle : (bits : List Bool) (r count k : ℕ) → length bits ≡ 24 → r + count + k ≡ 24 → number_of (take count (drop r bits)) ≡ number_of bits / 2 ^ k % 2 ^ count
+middle bits r count k h sum =
+    let left : length (drop r bits) ≡ count + k = omega (arith, length-drop r bits) in
+    number_of-take count k (drop r bits) left
+    ∙ ap (λ v. v / 2 ^ k) (number_of-drop r (count + k) bits (omega arith)) ∙ field_of (number_of bits) count k
+
+-- bits from a place on stand in the three bytes from that place on
+in_three : (fill : Fill) (bytes : List ℕ) (q r count : ℕ) → r + count ≤ 24 → 8 * q + r + count ≤ length bytes * 8 → take count (drop (8 * q + r) (bits_of fill bytes)) ≡ take count (drop r (three_bytes fill (get_or bytes (q + 0) 0) (get_or bytes (q + 1) 0) (get_or bytes (q + 2) 0)))
+in_three fill bytes q r count short within =
+    let ds = drop q bytes in
+    let room : r + count ≤ length (drop q bytes) * 8 = omega (arith, length-drop q bytes) in
+    let front = first_three fill (r + count) (drop q bytes) short room in
+    ap (take count) (drop-bits_of fill q r bytes) ∙ sym (drop-take r count (bits_of fill (drop q bytes))) ∙ ap (drop r) front
+    ∙ drop-take r count (three_bytes fill (get_or (drop q bytes) 0 0) (get_or (drop q bytes) 1 0) (get_or (drop q bytes) 2 0))
+    ∙ rw (in_the_rest bytes q 0, in_the_rest bytes q 1, in_the_rest bytes q 2) refl
+
+-- the window: the bits from a place on, out of the three bytes from that place on
+pub window_is : (fill : Fill) (bytes : List ℕ) (at q r count k word : ℕ) → at ≡ 8 * q + r → r + count + k ≡ 24 → at + count ≤ length (bits_of fill bytes) → word ≡ (number_of (byte_bits fill (get_or bytes (q + 0) 0)) * 65536 + number_of (byte_bits fill (get_or bytes (q + 1) 0)) * 256) + number_of (byte_bits fill (get_or bytes (q + 2) 0)) → word / 2 ^ k % 2 ^ count ≡ number_of (take count (drop at (bits_of fill bytes)))
+window_is fill bytes at q r count k word place sum within is =
+    let room : 8 * q + r + count ≤ length bytes * 8 = omega (arith, length-bits_of fill bytes) in
+    let three = three_bytes fill (get_or bytes (q + 0) 0) (get_or bytes (q + 1) 0) (get_or bytes (q + 2) 0) in
+    ap (λ v. v / 2 ^ k % 2 ^ count) (is ∙ sym (number-three fill (get_or bytes (q + 0) 0) (get_or bytes (q + 1) 0) (get_or bytes (q + 2) 0)))
+    ∙ sym (middle three r count k (length-three fill (get_or bytes (q + 0) 0) (get_or bytes (q + 1) 0) (get_or bytes (q + 2) 0)) sum)
+    ∙ sym (ap (λ n. number_of (take count (drop n (bits_of fill bytes)))) place ∙ ap number_of (in_three fill bytes q r count (omega arith) room))
+
+-- ---- the bytes as numbers
+
+abbrev below_in_turn : ℕ → List ℕ
+below_in_turn zero = []
+below_in_turn (suc n) = n ∷ below_in_turn n
+
+-- what is so of each number below n in turn is so of any
+each_below : (f g : ℕ → ℕ) (n : ℕ) → map f (below_in_turn n) ≡ map g (below_in_turn n) → (b : ℕ) → b < n → f b ≡ g b
+each_below f g zero h b below = absurd (omega arith)
+each_below f g (suc n) h b below =
+    let head : f n ≡ g n = cc in
+    let rest : map f (below_in_turn n) ≡ map g (below_in_turn n) = cc in
+    elim (cases_eq b n) [ inl same ↦ ap f same ∙ head ∙ sym (ap g same) | inr other ↦ each_below f g n rest b (omega arith) ]
+
+high_bytes : map (λ b. number_of (byte_bits High b)) (below_in_turn 256) ≡ map (λ b. b) (below_in_turn 256)
+high_bytes = refl
+
+low_bytes : map (λ b. number_of (byte_bits Low b)) (below_in_turn 256) ≡ map (λ b. get_or REVERSED b 0) (below_in_turn 256)
+low_bytes = refl
+
+pub number-high : (b : ℕ) → b < 256 → number_of (byte_bits High b) ≡ b
+number-high b h = each_below (λ b. number_of (byte_bits High b)) (λ b. b) 256 high_bytes b h
+
+pub number-low : (b : ℕ) → b < 256 → number_of (byte_bits Low b) ≡ get_or REVERSED b 0
+number-low b h = each_below (λ b. number_of (byte_bits Low b)) (λ b. get_or REVERSED b 0) 256 low_bytes b h
+
+byte_below : (fill : Fill) (b : ℕ) → number_of (byte_bits fill b) < 256
+byte_below fill b =
+    let P : ℕ → Type 0 = λ n. number_of (byte_bits fill b) < 2 ^ n in
+    subst P (length-byte_bits fill b) (number_of-below (byte_bits fill b))
+
+-- three bytes in a word
+word_of : (x y z : ℕ) → x < 256 → y < 256 → z < 256 → bit_or (bit_or (x * 65536 % 4294967296) (y * 256 % 4294967296)) z ≡ x * 65536 + y * 256 + z
+word_of x y z hx hy hz =
+    let wx : x * 65536 % 4294967296 ≡ x * 65536 = omega arith in
+    let wy : y * 256 % 4294967296 ≡ y * 256 = omega arith in
+    let upper : bit_or (x * 65536) (y * 256) ≡ x * 65536 + y * 256 = or_shifted x 16 (y * 256) (omega arith) in
+    let all : bit_or ((x * 256 + y) * 256) z ≡ (x * 256 + y) * 256 + z = or_shifted (x * 256 + y) 8 z hz in
+    let same : x * 65536 + y * 256 ≡ (x * 256 + y) * 256 = omega arith in
+    rw (wx, wy, upper, same) all
+
+-- the code's window is the number of the bits
+pub window_of : (fill : Fill) (bytes : List ℕ) (at count x y z : ℕ) → count ≤ 16 → at + count ≤ length (bits_of fill bytes) → x ≡ number_of (byte_bits fill (get_or bytes (at / 8) 0)) → y ≡ number_of (byte_bits fill (get_or bytes (at / 8 + 1) 0)) → z ≡ number_of (byte_bits fill (get_or bytes (at / 8 + 2) 0)) → bit_and (bit_or (bit_or (x * 65536 % 4294967296) (y * 256 % 4294967296)) z / 2 ^ (24 - at % 8 - count)) (1 * 2 ^ count % 4294967296 - 1) ≡ number_of (take count (drop at (bits_of fill bytes)))
+window_of fill bytes at count x y z short within is_x is_y is_z =
+    let q = at / 8 in
+    let bx : x < 256 = let P : ℕ → Type 0 = λ v. v < 256 in subst P (sym is_x) (byte_below fill (get_or bytes (at / 8) 0)) in
+    let by' : y < 256 = let P : ℕ → Type 0 = λ v. v < 256 in subst P (sym is_y) (byte_below fill (get_or bytes (at / 8 + 1) 0)) in
+    let bz : z < 256 = let P : ℕ → Type 0 = λ v. v < 256 in subst P (sym is_z) (byte_below fill (get_or bytes (at / 8 + 2) 0)) in
+    let word = bit_or (bit_or (x * 65536 % 4294967296) (y * 256 % 4294967296)) z in
+    let mask : 1 * 2 ^ count % 4294967296 ≡ 2 ^ count = one_shl count 32 (omega arith) in
+    let k = 24 - at % 8 - count in
+    let is : word ≡ (number_of (byte_bits fill (get_or bytes (at / 8 + 0) 0)) * 65536 + number_of (byte_bits fill (get_or bytes (at / 8 + 1) 0)) * 256) + number_of (byte_bits fill (get_or bytes (at / 8 + 2) 0)) = rw (add-zero (at / 8), ← is_x, ← is_y, ← is_z) (word_of x y z bx by' bz) in
+    ap (λ m. bit_and (word / 2 ^ k) (m - 1)) mask ∙ and_mask (word / 2 ^ k) count
+    ∙ window_is fill bytes at (at / 8) (at % 8) count k word (omega arith) (omega arith) within is
+
+-- ---- one bit
+
+high_bit : (b r : ℕ) → r < 8 → get_or (byte_bits High b) r false ≡ bit b (7 - r)
+high_bit b zero h = refl
+high_bit b (suc zero) h = refl
+high_bit b (suc (suc zero)) h = refl
+high_bit b (suc (suc (suc zero))) h = refl
+high_bit b (suc (suc (suc (suc zero)))) h = refl
+high_bit b (suc (suc (suc (suc (suc zero))))) h = refl
+high_bit b (suc (suc (suc (suc (suc (suc zero)))))) h = refl
+high_bit b (suc (suc (suc (suc (suc (suc (suc zero))))))) h = refl
+high_bit b (suc (suc (suc (suc (suc (suc (suc (suc r)))))))) h = absurd (omega arith)
+
+low_bit : (b r : ℕ) → r < 8 → get_or (byte_bits Low b) r false ≡ bit b r
+low_bit b zero h = refl
+low_bit b (suc zero) h = refl
+low_bit b (suc (suc zero)) h = refl
+low_bit b (suc (suc (suc zero))) h = refl
+low_bit b (suc (suc (suc (suc zero)))) h = refl
+low_bit b (suc (suc (suc (suc (suc zero))))) h = refl
+low_bit b (suc (suc (suc (suc (suc (suc zero)))))) h = refl
+low_bit b (suc (suc (suc (suc (suc (suc (suc zero))))))) h = refl
+low_bit b (suc (suc (suc (suc (suc (suc (suc (suc r)))))))) h = absurd (omega arith)
+
+in_byte : (fill : Fill) (bytes : List ℕ) (q r : ℕ) → q < length bytes → r < 8 → get_or (bits_of fill bytes) (8 * q + r) false ≡ get_or (byte_bits fill (get_or bytes q 0)) r false
+in_byte fill bytes q r within h =
+    sym (get_or-drop (8 * q) (bits_of fill bytes) r false) ∙ ap (λ n. get_or (drop n (bits_of fill bytes)) r false) (sym (add-zero (8 * q)))
+    ∙ ap (λ bits. get_or bits r false) (drop-bits_of fill q 0 bytes)
+    ∙ ap (λ ds. get_or (bits_of fill ds) r false) (drop_more bytes q 0 within)
+    ∙ get_or_append_left (byte_bits fill (get_or bytes q 0)) (bits_of fill (drop (q + 1) bytes)) false r (omega (arith, length-byte_bits fill (get_or bytes q 0)))
+
+pub bit_is : (fill : Fill) (bytes : List ℕ) (at : ℕ) → at < length (bits_of fill bytes) → slice_get (bits_of fill bytes) at ≡ Some (get_or (byte_bits fill (get_or bytes (at / 8) 0)) (at % 8) false)
+bit_is fill bytes at within =
+    let place : at ≡ 8 * (at / 8) + at % 8 = omega arith in
+    slice_get-get_or (bits_of fill bytes) at false within
+    ∙ ap (λ n. Some (get_or (bits_of fill bytes) n false)) place
+    ∙ ap Some (in_byte fill bytes (at / 8) (at % 8) (omega (arith, length-bits_of fill bytes)) (omega arith))
+
+tested : (b k : ℕ) → nat_eq (bit_and (b / 2 ^ k) 1) 1 ≡ bit b k
+tested b k = ap (λ v. nat_eq v 1) (shr_and_one b k)
+
+pub bit_is-high : (bytes : List ℕ) (at : ℕ) → at < length (bits_of High bytes) → slice_get (bits_of High bytes) at ≡ Some (nat_eq (bit_and (get_or bytes (at / 8) 0 / 2 ^ (7 - at % 8)) 1) 1)
+bit_is-high bytes at within =
+    bit_is High bytes at within ∙ ap Some (high_bit (get_or bytes (at / 8) 0) (at % 8) (omega arith) ∙ sym (tested (get_or bytes (at / 8) 0) (7 - at % 8)))
+
+pub bit_is-low : (bytes : List ℕ) (at : ℕ) → at < length (bits_of Low bytes) → slice_get (bits_of Low bytes) at ≡ Some (nat_eq (bit_and (get_or bytes (at / 8) 0 / 2 ^ (at % 8)) 1) 1)
+bit_is-low bytes at within =
+    bit_is Low bytes at within ∙ ap Some (low_bit (get_or bytes (at / 8) 0) (at % 8) (omega arith) ∙ sym (tested (get_or bytes (at / 8) 0) (at % 8)))
+
+pub bit_when_high : (fill : Fill) (bytes : List ℕ) (at : ℕ) → fill ≡ High → at < length (bits_of fill bytes) → slice_get (bits_of fill bytes) at ≡ Some (nat_eq (bit_and (get_or bytes (at / 8) 0 / 2 ^ (7 - at % 8)) 1) 1)
+bit_when_high fill bytes at is =
+    let P : Fill → Type 0 = λ f. at < length (bits_of f bytes) → slice_get (bits_of f bytes) at ≡ Some (nat_eq (bit_and (get_or bytes (at / 8) 0 / 2 ^ (7 - at % 8)) 1) 1) in
+    subst P (sym is) (bit_is-high bytes at)
+
+pub bit_when_low : (fill : Fill) (bytes : List ℕ) (at : ℕ) → fill ≡ Low → at < length (bits_of fill bytes) → slice_get (bits_of fill bytes) at ≡ Some (nat_eq (bit_and (get_or bytes (at / 8) 0 / 2 ^ (at % 8)) 1) 1)
+bit_when_low fill bytes at is =
+    let P : Fill → Type 0 = λ f. at < length (bits_of f bytes) → slice_get (bits_of f bytes) at ≡ Some (nat_eq (bit_and (get_or bytes (at / 8) 0 / 2 ^ (at % 8)) 1) 1) in
+    subst P (sym is) (bit_is-low bytes at)
+
+pub byte_when_high : (fill : Fill) (b x : ℕ) → fill ≡ High → b < 256 → x ≡ b → number_of (byte_bits fill x) ≡ b
+byte_when_high fill b x is h same =
+    let P : Fill → Type 0 = λ f. number_of (byte_bits f b) ≡ b in
+    ap (λ v. number_of (byte_bits fill v)) same ∙ subst P (sym is) (number-high b h)
+
+pub byte_when_low : (fill : Fill) (b x : ℕ) → fill ≡ Low → b < 256 → x ≡ b → number_of (byte_bits fill x) ≡ get_or REVERSED b 0
+byte_when_low fill b x is h same =
+    let P : Fill → Type 0 = λ f. number_of (byte_bits f b) ≡ get_or REVERSED b 0 in
+    ap (λ v. number_of (byte_bits fill v)) same ∙ subst P (sym is) (number-low b h)

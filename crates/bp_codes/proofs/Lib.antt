@@ -1,0 +1,5 @@
+pub mod BitLists
+pub mod Front
+pub mod Kept
+pub mod Print
+pub mod Trie

@@ -1,0 +1,69 @@
+// Bits, read out of bytes.
+ghost use Rattle.std.specs.Prelude.{◌≡◌, ◌+◌, ◌^◌, ◌<◌, ◌≤◌, length, slice_get, slice_index, Some, take, drop};
+
+use crate::reversed::REVERSED;
+
+/// Which bit of a byte is the first one (TIFF 6.0, section 8, FillOrder).
+#[derive(Clone, Copy, Debug, PartialEq, Eq)]
+pub enum Fill {
+    /// The bit of value 128 is the first one (FillOrder 1).
+    High,
+    /// The bit of value 1 is the first one (FillOrder 2).
+    Low,
+}
+
+/// The bits of fewer than 2^32 bytes. Places count bits from 0.
+#[derive(Debug, Drop)]
+pub struct BitSpan<'a> {
+    pub bytes: &'a [u8],
+    pub fill: Fill,
+    ghost short: { length bytes.now < 2 ^ 32 },
+}
+
+impl BitSpan<'_> {
+    ghost use Rattle.bp_codes.specs.Bits.{byte_bits, number_of};
+    ghost use Rattle.bp_codes.specs.Span.{span_bits};
+
+    /// How many bits there are.
+    pub fn len(&self) -> u64
+        ensures { result ≡ length (span_bits self.now) }
+    {
+        self.bytes.len() as u64 * 8
+    }
+
+    /// The bit at a place.
+    pub fn bit(&self, at: u64) -> bool
+        requires { at < length (span_bits self.now) }
+        ensures { slice_get (span_bits self.now) at ≡ Some result }
+    {
+        let byte = self.bytes[(at / 8) as usize];
+        let skipped = at % 8;
+        match self.fill {
+            Fill::High => byte >> (7 - skipped) & 1 == 1,
+            Fill::Low => byte >> skipped & 1 == 1,
+        }
+    }
+
+    /// The number that `count` bits from a place on are, the first bit highest.
+    pub(crate) fn window(&self, at: u64, count: u32) -> u32
+        requires short { count ≤ 16 }
+        requires within { at + count ≤ length (span_bits self.now) }
+        ensures { result ≡ number_of (take count (drop at (span_bits self.now))) }
+    {
+        let first = (at / 8) as usize;
+        let skipped = (at % 8) as u32;
+        let word = self.byte(first) << 16 | self.byte(first + 1) << 8 | self.byte(first + 2);
+        word >> (24 - skipped - count) & ((1 << count) - 1)
+    }
+
+    // A byte with its first bit highest; 0 past the last one.
+    fn byte(&self, place: usize) -> u32
+        ensures { result ≡ number_of (byte_bits self.now.fill (slice_index self.now.bytes.now place)) }
+    {
+        let byte = self.bytes.get(place).copied().unwrap_or(0);
+        match self.fill {
+            Fill::High => u32::from(byte),
+            Fill::Low => u32::from(REVERSED[usize::from(byte)]),
+        }
+    }
+}

@@ -8,6 +8,9 @@ use Rattle.std.proofs.lemmas.List.{get_or_append_left, get_or-append-add}
 use Rattle.bp_codes.specs.declared.white_index.TheConstants.{WHITE_INDEX}
 use Rattle.bp_codes.specs.declared.black_index.TheConstants.{BLACK_INDEX}
 use Rattle.bp_codes.specs.declared.mode_index.TheConstants.{MODE_INDEX}
+use Rattle.bp_codes.specs.declared.index.Index.{Index}
+use Rattle.bp_codes.specs.declared.index.Index.TheVariants.{White, Black, Modes}
+use Rattle.bp_codes.specs.Fronts.{fronts}
 use Rattle.bp_codes.specs.Bits.{number_of}
 use Rattle.bp_codes.specs.NextCode.{next_row}
 use Rattle.bp_codes.specs.Index.{entry_number, index_place, IsIndexOf}
@@ -81,3 +84,38 @@ black_kept = index_of black_codes 13 BLACK_INDEX black_written
 
 pub modes_kept : IsIndexOf mode_codes 7 MODE_INDEX
 modes_kept = index_of mode_codes 7 MODE_INDEX modes_written
+
+-- ---- the three indexes by name
+
+pub length-white : length (fronts White) ≡ 8192
+unfolding fronts
+length-white = ap length white_written ∙ length-levels 12 (enumerate_from 0 white_codes)
+
+pub length-black : length (fronts Black) ≡ 16384
+unfolding fronts
+length-black = ap length black_written ∙ length-levels 13 (enumerate_from 0 black_codes)
+
+pub length-modes : length (fronts Modes) ≡ 256
+unfolding fronts
+length-modes = ap length modes_written ∙ length-levels 7 (enumerate_from 0 mode_codes)
+
+pub white_place : (index : Index) (place : ℕ) → index ≡ White → place < length (fronts index) → place < 8192
+white_place index place is within = omega (arith, ap (λ i. length (fronts i)) is, length-white)
+
+pub black_place : (index : Index) (place : ℕ) → index ≡ Black → place < length (fronts index) → place < 16384
+black_place index place is within = omega (arith, ap (λ i. length (fronts i)) is, length-black)
+
+pub modes_place : (index : Index) (place : ℕ) → index ≡ Modes → place < length (fronts index) → place < 256
+modes_place index place is within = omega (arith, ap (λ i. length (fronts i)) is, length-modes)
+
+pub at_white : (index : Index) (place : ℕ) → index ≡ White → get_or WHITE_INDEX place 0 ≡ get_or (fronts index) place 0
+unfolding fronts
+at_white index place is = sym (ap (λ i. get_or (fronts i) place 0) is)
+
+pub at_black : (index : Index) (place : ℕ) → index ≡ Black → get_or BLACK_INDEX place 0 ≡ get_or (fronts index) place 0
+unfolding fronts
+at_black index place is = sym (ap (λ i. get_or (fronts i) place 0) is)
+
+pub at_modes : (index : Index) (place : ℕ) → index ≡ Modes → get_or MODE_INDEX place 0 ≡ get_or (fronts index) place 0
+unfolding fronts
+at_modes index place is = sym (ap (λ i. get_or (fronts i) place 0) is)

@@ -47,9 +47,10 @@ impl<const N: usize> CodeTable<N> {
         requires { at ≤ length (span_bits span.now) }
         ensures { result ≡ next_row self.now (drop at (span_bits span.now)) }
     {
-        let count = u64::from(self.longest).min(span.len() - at) as u32;
+        let CodeTable { longest, index, .. } = self;
+        let count = u64::from(*longest).min(span.len() - at) as u32;
         let window = span.window(at, count);
-        match self.index.at(((1 << count) + window) as usize) {
+        match index.at(((1 << count) + window) as usize) {
             ENDS => Err(NoCode::Ends),
             STRANGE => Err(NoCode::Strange),
             row => Ok(usize::from(row)),

@@ -4,6 +4,7 @@
 mod black_index;
 mod code;
 mod index;
+pub mod laws;
 mod mode_index;
 mod reversed;
 mod span;
@@ -12,4 +13,7 @@ mod white_index;
 
 pub use code::{Code, NoCode};
 pub use span::{BitSpan, Fill};
-pub use tables::CodeTable;
+pub use tables::{CodeTable, black, modes, white};
+
+#[cfg(test)]
+mod tests;

@@ -55,19 +55,19 @@ get-levels zero zero (suc p) branches h below = absurd (omega arith)
 get-levels zero (suc n) p branches h below = absurd (omega arith)
 get-levels (suc k) n p branches h below =
     elim (cases_lt k n) [
-        inl last ↦
-            let e : n ≡ suc k = omega arith in
-            let at_n : 2 ^ n ≡ 2 ^ (k + 1) = ap (λ m. 2 ^ m) (e ∙ sym (add-one k)) in
-            let place : 2 ^ n + p ≡ length (255 ∷ levels k branches) + p = omega (arith, at_n, length-levels k branches) in
-            ap (λ m. get_or (255 ∷ levels (suc k) branches) m 0) place
-            ∙ get_or-append-add (255 ∷ levels k branches) (level (suc k) branches) p 0
-            ∙ ap (λ m. get_or (level m branches) p 0) (sym e)
+      | inl last ↦
+          let e : n ≡ suc k = omega arith in
+          let at_n : 2 ^ n ≡ 2 ^ (k + 1) = ap (λ m. 2 ^ m) (e ∙ sym (add-one k)) in
+          let place : 2 ^ n + p ≡ length (255 ∷ levels k branches) + p = omega (arith, at_n, length-levels k branches) in
+          ap (λ m. get_or (255 ∷ levels (suc k) branches) m 0) place
+          ∙ get_or-append-add (255 ∷ levels k branches) (level (suc k) branches) p 0
+          ∙ ap (λ m. get_or (level m branches) p 0) (sym e)
       | inr before ↦
-            let grows : 2 ^ (n + 1) ≤ 2 ^ (k + 1) = pow-le-pow_right {n = 2} (omega arith) {i = n + 1} {j = k + 1} (omega arith) in
-            let double : 2 ^ (n + 1) ≡ 2 ^ n * 2 = ap (λ m. 2 ^ m) (add-one n) ∙ pow-suc 2 n in
-            let within : 2 ^ n + p < length (255 ∷ levels k branches) = omega (arith, grows, double, length-levels k branches) in
-            get_or_append_left (255 ∷ levels k branches) (level (suc k) branches) 0 (2 ^ n + p) within
-            ∙ get-levels k n p branches before below
+          let grows : 2 ^ (n + 1) ≤ 2 ^ (k + 1) = pow-le-pow_right {n = 2} (omega arith) {i = n + 1} {j = k + 1} (omega arith) in
+          let double : 2 ^ (n + 1) ≡ 2 ^ n * 2 = ap (λ m. 2 ^ m) (add-one n) ∙ pow-suc 2 n in
+          let within : 2 ^ n + p < length (255 ∷ levels k branches) = omega (arith, grows, double, length-levels k branches) in
+          get_or_append_left (255 ∷ levels k branches) (level (suc k) branches) 0 (2 ^ n + p) within
+          ∙ get-levels k n p branches before below
     ]
 
 index_of : (codes : List (List Bool)) (k : ℕ) (index : List ℕ) → index ≡ 255 ∷ levels k (enumerate_from 0 codes) → IsIndexOf codes k index

@@ -78,10 +78,10 @@ is_false false h = refl
 other_row : (codes : List (List Bool)) (row i : ℕ) (after : List Bool) → IsPrefixFree codes → row < length codes → i < row → begins (get_or codes i []) (get_or codes row [] ++ after) ≡ false
 other_row codes row i after free within h =
     is_false _ (λ e.
-        elim (one_of_two (get_or codes i []) (get_or codes row []) after e) [
-            inl prefix ↦ let same = free i row (omega arith) within prefix in omega arith
-          | inr prefix ↦ let same = free row i within (omega arith) prefix in omega arith
-        ])
+    elim (one_of_two (get_or codes i []) (get_or codes row []) after e) [
+      | inl prefix ↦ let same = free i row (omega arith) within prefix in omega arith
+      | inr prefix ↦ let same = free row i within (omega arith) prefix in omega arith
+    ])
 
 row_back : (codes : List (List Bool)) (row : ℕ) (after : List Bool) → IsPrefixFree codes → row < length codes → next_row codes (get_or codes row [] ++ after) ≡ Ok row
 row_back codes row after free within =
@@ -161,9 +161,9 @@ pub cut_means_ends : (codes : List (List Bool)) → IsPrefixFree codes → CutMe
 cut_means_ends codes free bits cut =
     let some = some_cut (λ code. is_cut code bits) codes cut in
     let none : (i : ℕ) → i < length codes → begins (get_or codes i []) bits ≡ false = λ i within.
-        is_false _ (λ e.
-            let prefix = begins-cut (get_or codes i []) (get_or codes some.0 []) bits e some.2 in
-            let same = free i some.0 within some.1 prefix in
-            not_both (get_or codes some.0 []) bits (ap (λ n. begins (get_or codes n []) bits) (sym same) ∙ e) some.2) in
+    is_false _ (λ e.
+    let prefix = begins-cut (get_or codes i []) (get_or codes some.0 []) bits e some.2 in
+    let same = free i some.0 within some.1 prefix in
+    not_both (get_or codes some.0 []) bits (ap (λ n. begins (get_or codes n []) bits) (sym same) ∙ e) some.2) in
     ap (λ r. row_or r (no_code codes bits)) (none_begins (λ code. begins code bits) 0 codes none)
     ∙ ap (λ v. Err (if v then Ends else Strange)) cut

@@ -48,7 +48,7 @@ position_from-below : (p : List Bool → Bool) (k : ℕ) (codes : List (List Boo
 position_from-below p k [] n h = tt
 position_from-below p k (code ∷ codes) n h =
     elim (p code) as (λ v. SomeBelow n (if v then Some k else position_from p (k + 1) codes)) [
-        true ↦ omega arith
+      | true ↦ omega arith
       | false ↦ position_from-below p (k + 1) codes n (omega arith)
     ]
 

@@ -26,7 +26,11 @@ pub(crate) fn printed(zeros_and_ones: &str) -> Code
 {
     let mut bits = 0;
     for byte in zeros_and_ones.as_bytes() {
-        bits = if *byte == b'1' { bits * 2 + 1 } else { bits * 2 };
+        bits = if *byte == b'1' {
+            bits * 2 + 1
+        } else {
+            bits * 2
+        };
     }
     Code {
         bits,

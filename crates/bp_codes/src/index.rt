@@ -9,7 +9,7 @@ use crate::white_index::WHITE_INDEX;
 /// An index of one of the three tables. It keeps, for each list of at most so many bits as the longest code
 /// has, the row whose code begins them, or why none does. The place of a list is the number that its bits
 /// are with a 1 before them.
-#[derive(Clone, Copy, Debug, PartialEq, Eq)]
+#[derive(Clone, Copy, Debug)]
 pub enum Index {
     White,
     Black,

@@ -9,29 +9,25 @@ pub fn white_laws()
     ensures prefix_free { IsPrefixFree white_codes }
     ensures reads_back { ReadsBack white_codes }
     ensures cut { CutMeansEnds white_codes }
-{
-}
+{}
 
 /// The same of the black codes.
 pub fn black_laws()
     ensures prefix_free { IsPrefixFree black_codes }
     ensures reads_back { ReadsBack black_codes }
     ensures cut { CutMeansEnds black_codes }
-{
-}
+{}
 
 /// The same of the codes of the modes.
 pub fn mode_laws()
     ensures prefix_free { IsPrefixFree mode_codes }
     ensures reads_back { ReadsBack mode_codes }
     ensures cut { CutMeansEnds mode_codes }
-{
-}
+{}
 
 /// Of the eleven codes that may stand where a mode is due, none is a prefix of another: the nine modes, what
 /// an extension begins with, and the end of a facsimile block, also with the end code alone in its place.
 pub fn mode_place_laws()
     ensures block { IsPrefixFree (mode_codes ++ extension_code ∷ end_of_block ∷ []) }
     ensures code { IsPrefixFree (mode_codes ++ extension_code ∷ end_code ∷ []) }
-{
-}
+{}

@@ -13,7 +13,7 @@ pub enum Fill {
 }
 
 /// The bits of fewer than 2^32 bytes. Places count bits from 0.
-#[derive(Debug, Drop)]
+#[derive(Clone, Copy, Debug)]
 pub struct BitSpan<'a> {
     pub bytes: &'a [u8],
     pub fill: Fill,

@@ -11,7 +11,7 @@ use crate::span::BitSpan;
 use std::marker::Model;
 
 /// A table of `N` codes, of which none begins with another.
-#[derive(Drop)]
+#[derive(Debug, Drop)]
 pub struct CodeTable<const N: usize> {
     rows: [Code; N],
     longest: u32,

@@ -49,7 +49,10 @@ fn white_codes_of_one_byte(rt: HostRuntime) {
     ];
     for (byte, fill, want) in rows {
         let bytes = [byte];
-        let span = BitSpan { bytes: &bytes, fill };
+        let span = BitSpan {
+            bytes: &bytes,
+            fill,
+        };
         assert!(rt; span.len() == 8);
         assert_eq!(rt; table.next_code(&span, 0), want, "{byte:02x}");
     }
@@ -66,8 +69,16 @@ fn places_near_the_end(rt: HostRuntime) {
     };
     assert!(rt; span.len() == 8);
     for at in 1..=8 {
-        assert_eq!(rt; white().next_code(&span, at), Err(NoCode::Ends), "white at {at}");
-        assert_eq!(rt; black().next_code(&span, at), Err(NoCode::Ends), "black at {at}");
+        assert_eq!(rt;
+            white().next_code(&span, at),
+            Err(NoCode::Ends),
+            "white at {at}"
+        );
+        assert_eq!(rt;
+            black().next_code(&span, at),
+            Err(NoCode::Ends),
+            "black at {at}"
+        );
     }
     assert_eq!(rt; black().next_code(&span, 0), Err(NoCode::Strange));
     assert_eq!(rt; white().next_code(&span, 0), Err(NoCode::Strange));

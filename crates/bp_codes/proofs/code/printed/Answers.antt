@@ -21,6 +21,6 @@ overflow_mul-bits-else-byte-eq49 c =
 pub loop-byte-preserved : goal.loop-byte-preserved
 loop-byte-preserved c =
     elim c.if-byte-eq49.branch [
-        then-byte-eq49 w ↦ w.bits-is ∙ next_one c.as_bytes-byte-items.result.now c.loop-byte.byte-index c.loop-byte.bits c.loop-byte-test.true c.loop-byte.invariant w.if-byte-eq49.true
+      | then-byte-eq49 w ↦ w.bits-is ∙ next_one c.as_bytes-byte-items.result.now c.loop-byte.byte-index c.loop-byte.bits c.loop-byte-test.true c.loop-byte.invariant w.if-byte-eq49.true
       | else-byte-eq49 w ↦ w.bits-is ∙ next_zero c.as_bytes-byte-items.result.now c.loop-byte.byte-index c.loop-byte.bits c.loop-byte-test.true c.loop-byte.invariant w.if-byte-eq49.false
     ]

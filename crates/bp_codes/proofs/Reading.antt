@@ -1,5 +1,5 @@
 -- How an entry of an index answers what stands at the front of bits.
-use Rattle.std.proofs.Common.{ℕ, zero, suc, ◌+◌, ◌-◌, ◌^◌, ◌<◌, ◌≤◌, ◌≡◌, Bool, true, false, List, [], ◌∷◌, length, take, drop, get_or, min, ◌*◌, add-one, ◌%◌, if◌then◌else◌, Option, Some, None, Result, Ok, Err, refl, ap, sym, ◌∙◌, arith, nat_le}
+use Rattle.std.proofs.Common.{ℕ, zero, suc, ◌+◌, ◌-◌, ◌^◌, ◌<◌, ◌≤◌, ◌≡◌, Bool, true, false, List, [], ◌∷◌, length, take, drop, get_or, min, ◌*◌, add-one, ◌%◌, if◌then◌else◌, Option, Some, None, Result, Ok, Err, refl, ap, sym, ◌∙◌, subst, arith, nat_le}
 use Rattle.std.specs.List.{list_all, position_from}
 use Rattle.std.proofs.Math.Nat.{pow-suc, pow-le-pow_right}
 use Rattle.std.proofs.lemmas.List.{length-take-le, take_min}
@@ -74,6 +74,9 @@ pub says_row : (row : ℕ) (front : Result ℕ NoCode) → (row ≡ 255 → ⊥)
 says_row row (Ok r) a b h = ap Ok h
 says_row row (Err Ends) a b h = absurd (a h)
 says_row row (Err Strange) a b h = absurd (b h)
+
+pub row_below : (n row : ℕ) (front : Result ℕ NoCode) → Ok row ≡ front → RowsBelow n front → row < n
+row_below n row front is below = let P : Result ℕ NoCode → Type 0 = λ r. RowsBelow n r in subst P (sym is) below
 
 -- ---- the code's place
 

@@ -1,5 +1,5 @@
 // The three code tables.
-ghost use Rattle.std.specs.Prelude.{◌≡◌, ◌+◌, ◌^◌, ◌<◌, ◌≤◌, Bool, List, [], ◌∷◌, length, slice_get, Some, take, drop, map};
+ghost use Rattle.std.specs.Prelude.{◌≡◌, ◌+◌, ◌^◌, ◌<◌, ◌≤◌, Bool, List, [], ◌∷◌, length, slice_get, Some, take, drop, map, IfOk};
 ghost use Rattle.bp_codes.specs.Bits.{code_bits, code_of_bits};
 ghost use Rattle.bp_codes.specs.CodeLists.{white_codes, black_codes, mode_codes};
 ghost use Rattle.bp_codes.specs.NextCode.{next_row};
@@ -45,7 +45,8 @@ impl<const N: usize> CodeTable<N> {
     /// stands there in one step.
     pub fn next_code(&self, span: &BitSpan, at: u64) -> Result<usize, NoCode>
         requires { at ≤ length (span_bits span.now) }
-        ensures { result ≡ next_row self.now (drop at (span_bits span.now)) }
+        ensures found { result ≡ next_row self.now (drop at (span_bits span.now)) }
+        ensures row { IfOk result (λ row. row < N) }
     {
         let CodeTable { longest, index, .. } = self;
         let count = u64::from(*longest).min(span.len() - at) as u32;

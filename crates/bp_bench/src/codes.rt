@@ -1,6 +1,8 @@
 // Reading run codes: `codes white|black index|scan TIMES`.
+ghost use Rattle.std.specs.Prelude.{◌<◌, IfSome};
+
 use anyhow::{Result, bail};
-use bp_codes::{BitSpan, CodeTable, Fill, black, white};
+use bp_codes::{BitSpan, Code, CodeTable, Fill, black, white};
 use std::alloc::{AllocError, Global};
 
 // How many codes the span has.
@@ -88,13 +90,19 @@ fn read_by_scan(table: &CodeTable<104>, span: &BitSpan) -> u64 {
 }
 
 // The row whose code stands at a place, by trying one row after another.
-fn scanned(table: &CodeTable<104>, span: &BitSpan, at: u64) -> Option<usize> {
-    (0..104).find(|row| stands(table, *row, span, at))
+fn scanned(table: &CodeTable<104>, span: &BitSpan, at: u64) -> Option<usize>
+    ensures { IfSome result (λ row. row < 104) }
+{
+    for row in 0..104 {
+        if stands(table.code_of(row), span, at) {
+            return Some(row);
+        }
+    }
+    None
 }
 
-// Whether the code of a row stands at a place, bit by bit.
-fn stands(table: &CodeTable<104>, row: usize, span: &BitSpan, at: u64) -> bool {
-    let code = table.code_of(row);
+// Whether a code stands at a place, bit by bit.
+fn stands(code: Code, span: &BitSpan, at: u64) -> bool {
     let len = u32::from(code.len).min(13);
     for k in 0..len {
         let place = at.wrapping_add(u64::from(k));

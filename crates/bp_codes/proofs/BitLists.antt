@@ -10,7 +10,7 @@ use Rattle.std.proofs.lemmas.List.{drop_more, get_or_append_left, drop-drop, dro
 use Rattle.bp_codes.specs.declared.span.Fill.{Fill}
 use Rattle.bp_codes.specs.declared.span.Fill.TheVariants.{High, Low}
 use Rattle.bp_codes.specs.declared.reversed.TheConstants.{REVERSED}
-use Rattle.bp_codes.specs.Bits.{bit, byte_bits, bits_of, number_of}
+use Rattle.bp_codes.specs.Bits.{bit, byte_bits, bits_of, number_of, word_at}
 use Rattle.bp_codes.specs.CodeLists.{bits_in_print}
 
 -- ---- numbers
@@ -80,71 +80,67 @@ drop-bits_of fill (suc q) n (b ∷ bytes) =
     ap (λ k. drop k (byte_bits fill b ++ bits_of fill bytes)) same
     ∙ skip_byte fill b (8 * q + n) (bits_of fill bytes) ∙ drop-bits_of fill q n bytes
 
--- the bits of three bytes
-abbrev pub three_bytes : Fill → ℕ → ℕ → ℕ → List Bool
-three_bytes fill x y z = byte_bits fill x ++ (byte_bits fill y ++ byte_bits fill z)
+-- the bits of four bytes
+abbrev four_bytes : Fill → ℕ → ℕ → ℕ → ℕ → List Bool
+four_bytes fill x y z w = bits_of fill (x ∷ y ∷ z ∷ w ∷ [])
 
-two_bytes : (fill : Fill) (y z : ℕ) → length (byte_bits fill y ++ byte_bits fill z) ≡ 16
-two_bytes High y z = refl
-two_bytes Low y z = refl
+bits_of-append : (fill : Fill) (xs ys : List ℕ) → bits_of fill (xs ++ ys) ≡ bits_of fill xs ++ bits_of fill ys
+bits_of-append fill [] ys = refl
+bits_of-append fill (x ∷ xs) ys = ap (λ bits. byte_bits fill x ++ bits) (bits_of-append fill xs ys) ∙ sym (append_assoc (byte_bits fill x) (bits_of fill xs) (bits_of fill ys))
 
-length-three : (fill : Fill) (x y z : ℕ) → length (three_bytes fill x y z) ≡ 24
-length-three High x y z = refl
-length-three Low x y z = refl
+-- bytes with what comes after them
+first_ones : (fill : Fill) (m : ℕ) (xs ys : List ℕ) → m ≤ length xs * 8 → take m (bits_of fill (xs ++ ys)) ≡ take m (bits_of fill xs)
+first_ones fill m xs ys h =
+    ap (take m) (bits_of-append fill xs ys) ∙ take-append-le m (bits_of fill xs) (bits_of fill ys) (omega (arith, length-bits_of fill xs))
 
-regroup : (a b c d : List Bool) → (a ++ (b ++ c)) ++ d ≡ a ++ (b ++ (c ++ d))
-regroup a b c d = simp append_assoc
+-- of the bits of bytes the first ones stand in the first four bytes, with any bytes past the end
+first_four : (fill : Fill) (m : ℕ) (bytes : List ℕ) → m ≤ 32 → m ≤ length bytes * 8 → take m (bits_of fill bytes) ≡ take m (four_bytes fill (get_or bytes 0 0) (get_or bytes 1 0) (get_or bytes 2 0) (get_or bytes 3 0))
+first_four fill m [] h within = let none : m ≡ 0 = omega arith in ap (λ k. take k []) none ∙ sym (ap (λ k. take k (four_bytes fill 0 0 0 0)) none)
+first_four fill m (x ∷ []) h within = sym (first_ones fill m (x ∷ []) (0 ∷ 0 ∷ 0 ∷ []) within)
+first_four fill m (x ∷ y ∷ []) h within = sym (first_ones fill m (x ∷ y ∷ []) (0 ∷ 0 ∷ []) within)
+first_four fill m (x ∷ y ∷ z ∷ []) h within = sym (first_ones fill m (x ∷ y ∷ z ∷ []) (0 ∷ []) within)
+first_four fill m (x ∷ y ∷ z ∷ w ∷ bytes) h within = first_ones fill m (x ∷ y ∷ z ∷ w ∷ []) bytes h
 
--- of the bits of bytes the first ones stand in the first three bytes, with any bytes past the end
-first_three : (fill : Fill) (m : ℕ) (bytes : List ℕ) → m ≤ 24 → m ≤ length bytes * 8 → take m (bits_of fill bytes) ≡ take m (three_bytes fill (get_or bytes 0 0) (get_or bytes 1 0) (get_or bytes 2 0))
-first_three fill m [] h within = let none : m ≡ 0 = omega arith in ap (λ k. take k []) none ∙ sym (ap (λ k. take k (three_bytes fill 0 0 0)) none)
-first_three fill m (x ∷ []) h within =
-    take-append-le m (byte_bits fill x) [] (omega (arith, length-byte_bits fill x))
-    ∙ sym (take-append-le m (byte_bits fill x) (byte_bits fill 0 ++ byte_bits fill 0) (omega (arith, length-byte_bits fill x)))
-first_three fill m (x ∷ y ∷ []) h within =
-    let two : length (byte_bits fill x ++ byte_bits fill y) ≡ 16 = length-append (byte_bits fill x) (byte_bits fill y) ∙ omega (arith, length-byte_bits fill x, length-byte_bits fill y) in
-    ap (take m) (sym (append_assoc (byte_bits fill x) (byte_bits fill y) [])) ∙ take-append-le m (byte_bits fill x ++ byte_bits fill y) [] (omega (arith, two))
-    ∙ sym (ap (take m) (sym (append_assoc (byte_bits fill x) (byte_bits fill y) (byte_bits fill 0))) ∙ take-append-le m (byte_bits fill x ++ byte_bits fill y) (byte_bits fill 0) (omega (arith, two)))
-first_three fill m (x ∷ y ∷ z ∷ bytes) h within =
-    let three : length (three_bytes fill x y z) ≡ 24 = length-three fill x y z in
-    ap (take m) (sym (regroup (byte_bits fill x) (byte_bits fill y) (byte_bits fill z) (bits_of fill bytes)))
-    ∙ take-append-le m (three_bytes fill x y z) (bits_of fill bytes) (omega (arith, three))
+one_byte : (fill : Fill) (b : ℕ) (rest : List ℕ) → number_of (bits_of fill (b ∷ rest)) ≡ number_of (byte_bits fill b) * 2 ^ (length rest * 8) + number_of (bits_of fill rest)
+one_byte fill b rest =
+    number_of-append (byte_bits fill b) (bits_of fill rest)
+    ∙ ap (λ n. number_of (byte_bits fill b) * 2 ^ n + number_of (bits_of fill rest)) (length-bits_of fill rest)
 
-number-three : (fill : Fill) (x y z : ℕ) → number_of (three_bytes fill x y z) ≡ (number_of (byte_bits fill x) * 65536 + number_of (byte_bits fill y) * 256) + number_of (byte_bits fill z)
-number-three fill x y z =
-    number_of-append (byte_bits fill x) (byte_bits fill y ++ byte_bits fill z)
-    ∙ ap (λ n. number_of (byte_bits fill x) * 2 ^ n + number_of (byte_bits fill y ++ byte_bits fill z)) (two_bytes fill y z)
-    ∙ ap (λ n. number_of (byte_bits fill x) * 65536 + n) (number_of-append (byte_bits fill y) (byte_bits fill z) ∙ ap (λ n. number_of (byte_bits fill y) * 2 ^ n + number_of (byte_bits fill z)) (length-byte_bits fill z))
-    ∙ omega arith
+number-four : (fill : Fill) (x y z w : ℕ) → number_of (four_bytes fill x y z w) ≡ number_of (byte_bits fill x) * 16777216 + number_of (byte_bits fill y) * 65536 + number_of (byte_bits fill z) * 256 + number_of (byte_bits fill w)
+number-four fill x y z w =
+    let four = one_byte fill x (y ∷ z ∷ w ∷ []) in
+    let three = one_byte fill y (z ∷ w ∷ []) in
+    let two = one_byte fill z (w ∷ []) in
+    let one = one_byte fill w [] in
+    omega (arith, four, three, two, one)
 
 in_the_rest : (bytes : List ℕ) (q i : ℕ) → get_or (drop q bytes) i 0 ≡ get_or bytes (q + i) 0
 in_the_rest bytes q i = get_or-drop q bytes i 0
 
--- count bits after r ones of 24, as a number
-middle : (bits : List Bool) (r count k : ℕ) → length bits ≡ 24 → r + count + k ≡ 24 → number_of (take count (drop r bits)) ≡ number_of bits / 2 ^ k % 2 ^ count
+-- count bits after r ones of 32, as a number
+middle : (bits : List Bool) (r count k : ℕ) → length bits ≡ 32 → r + count + k ≡ 32 → number_of (take count (drop r bits)) ≡ number_of bits / 2 ^ k % 2 ^ count
 middle bits r count k h sum =
     let left : length (drop r bits) ≡ count + k = omega (arith, length-drop r bits) in
     number_of-take count k (drop r bits) left
     ∙ ap (λ v. v / 2 ^ k) (number_of-drop r (count + k) bits (omega arith)) ∙ field_of (number_of bits) count k
 
--- bits from a place on stand in the three bytes from that place on
-in_three : (fill : Fill) (bytes : List ℕ) (q r count : ℕ) → r + count ≤ 24 → 8 * q + r + count ≤ length bytes * 8 → take count (drop (8 * q + r) (bits_of fill bytes)) ≡ take count (drop r (three_bytes fill (get_or bytes (q + 0) 0) (get_or bytes (q + 1) 0) (get_or bytes (q + 2) 0)))
-in_three fill bytes q r count short within =
-    let ds = drop q bytes in
+-- bits from a place on stand in the four bytes from that place on
+in_four : (fill : Fill) (bytes : List ℕ) (q r count : ℕ) → r + count ≤ 32 → 8 * q + r + count ≤ length bytes * 8 → take count (drop (8 * q + r) (bits_of fill bytes)) ≡ take count (drop r (four_bytes fill (get_or bytes (q + 0) 0) (get_or bytes (q + 1) 0) (get_or bytes (q + 2) 0) (get_or bytes (q + 3) 0)))
+in_four fill bytes q r count short within =
     let room : r + count ≤ length (drop q bytes) * 8 = omega (arith, length-drop q bytes) in
-    let front = first_three fill (r + count) (drop q bytes) short room in
+    let front = first_four fill (r + count) (drop q bytes) short room in
     ap (take count) (drop-bits_of fill q r bytes) ∙ sym (drop-take r count (bits_of fill (drop q bytes))) ∙ ap (drop r) front
-    ∙ drop-take r count (three_bytes fill (get_or (drop q bytes) 0 0) (get_or (drop q bytes) 1 0) (get_or (drop q bytes) 2 0))
-    ∙ rw (in_the_rest bytes q 0, in_the_rest bytes q 1, in_the_rest bytes q 2) refl
+    ∙ drop-take r count (four_bytes fill (get_or (drop q bytes) 0 0) (get_or (drop q bytes) 1 0) (get_or (drop q bytes) 2 0) (get_or (drop q bytes) 3 0))
+    ∙ rw (in_the_rest bytes q 0, in_the_rest bytes q 1, in_the_rest bytes q 2, in_the_rest bytes q 3) refl
 
--- the window: the bits from a place on, out of the three bytes from that place on
-pub window_is : (fill : Fill) (bytes : List ℕ) (at q r count k word : ℕ) → at ≡ 8 * q + r → r + count + k ≡ 24 → at + count ≤ length (bits_of fill bytes) → word ≡ (number_of (byte_bits fill (get_or bytes (q + 0) 0)) * 65536 + number_of (byte_bits fill (get_or bytes (q + 1) 0)) * 256) + number_of (byte_bits fill (get_or bytes (q + 2) 0)) → word / 2 ^ k % 2 ^ count ≡ number_of (take count (drop at (bits_of fill bytes)))
-window_is fill bytes at q r count k word place sum within is =
+-- the window: the bits from a place on, out of the four bytes from that place on
+window_is : (fill : Fill) (bytes : List ℕ) (at q r count k : ℕ) → at ≡ 8 * q + r → r + count + k ≡ 32 → at + count ≤ length (bits_of fill bytes) → word_at fill bytes q / 2 ^ k % 2 ^ count ≡ number_of (take count (drop at (bits_of fill bytes)))
+window_is fill bytes at q r count k place sum within =
     let room : 8 * q + r + count ≤ length bytes * 8 = omega (arith, length-bits_of fill bytes) in
-    let three = three_bytes fill (get_or bytes (q + 0) 0) (get_or bytes (q + 1) 0) (get_or bytes (q + 2) 0) in
-    ap (λ v. v / 2 ^ k % 2 ^ count) (is ∙ sym (number-three fill (get_or bytes (q + 0) 0) (get_or bytes (q + 1) 0) (get_or bytes (q + 2) 0)))
-    ∙ sym (middle three r count k (length-three fill (get_or bytes (q + 0) 0) (get_or bytes (q + 1) 0) (get_or bytes (q + 2) 0)) sum)
-    ∙ sym (ap (λ n. number_of (take count (drop n (bits_of fill bytes)))) place ∙ ap number_of (in_three fill bytes q r count (omega arith) room))
+    let four = four_bytes fill (get_or bytes q 0) (get_or bytes (q + 1) 0) (get_or bytes (q + 2) 0) (get_or bytes (q + 3) 0) in
+    let there : take count (drop (8 * q + r) (bits_of fill bytes)) ≡ take count (drop r four) = in_four fill bytes q r count (omega arith) room ∙ ap (λ n. take count (drop r (four_bytes fill (get_or bytes n 0) (get_or bytes (q + 1) 0) (get_or bytes (q + 2) 0) (get_or bytes (q + 3) 0)))) (add-zero q) in
+    sym (middle four r count k (length-bits_of fill (get_or bytes q 0 ∷ get_or bytes (q + 1) 0 ∷ get_or bytes (q + 2) 0 ∷ get_or bytes (q + 3) 0 ∷ [])) sum)
+    ∙ sym (ap (λ n. number_of (take count (drop n (bits_of fill bytes)))) place ∙ ap number_of there)
 
 -- ---- the bytes as numbers
 
@@ -177,29 +173,34 @@ byte_below fill b =
     let P : ℕ → Type 0 = λ n. number_of (byte_bits fill b) < 2 ^ n in
     subst P (length-byte_bits fill b) (number_of-below (byte_bits fill b))
 
--- three bytes in a word
-word_of : (x y z : ℕ) → x < 256 → y < 256 → z < 256 → bit_or (bit_or (x * 65536 % 4294967296) (y * 256 % 4294967296)) z ≡ x * 65536 + y * 256 + z
-word_of x y z hx hy hz =
-    let wx : x * 65536 % 4294967296 ≡ x * 65536 = omega arith in
-    let wy : y * 256 % 4294967296 ≡ y * 256 = omega arith in
-    let upper : bit_or (x * 65536) (y * 256) ≡ x * 65536 + y * 256 = or_shifted x 16 (y * 256) (omega arith) in
-    let all : bit_or ((x * 256 + y) * 256) z ≡ (x * 256 + y) * 256 + z = or_shifted (x * 256 + y) 8 z hz in
-    let same : x * 65536 + y * 256 ≡ (x * 256 + y) * 256 = omega arith in
-    rw (wx, wy, upper, same) all
+-- four bytes in a word
+word_of : (x y z w : ℕ) → x < 256 → y < 256 → z < 256 → w < 256 → bit_or (bit_or (bit_or (x * 16777216 % 4294967296) (y * 65536 % 4294967296)) (z * 256 % 4294967296)) w ≡ x * 16777216 + y * 65536 + z * 256 + w
+word_of x y z w hx hy hz hw =
+    let wx : x * 16777216 % 4294967296 ≡ x * 16777216 = omega arith in
+    let wy : y * 65536 % 4294967296 ≡ y * 65536 = omega arith in
+    let wz : z * 256 % 4294967296 ≡ z * 256 = omega arith in
+    let two : bit_or (x * 16777216) (y * 65536) ≡ x * 16777216 + y * 65536 = or_shifted x 24 (y * 65536) (omega arith) in
+    let as_three : x * 16777216 + y * 65536 ≡ (x * 256 + y) * 65536 = omega arith in
+    let three : bit_or ((x * 256 + y) * 65536) (z * 256) ≡ (x * 256 + y) * 65536 + z * 256 = or_shifted (x * 256 + y) 16 (z * 256) (omega arith) in
+    let as_four : (x * 256 + y) * 65536 + z * 256 ≡ ((x * 256 + y) * 256 + z) * 256 = omega arith in
+    let four : bit_or (((x * 256 + y) * 256 + z) * 256) w ≡ ((x * 256 + y) * 256 + z) * 256 + w = or_shifted ((x * 256 + y) * 256 + z) 8 w hw in
+    rw (wx, wy, wz, two, as_three, three, as_four) (four ∙ omega arith)
+
+-- the word that the code makes of four bytes
+pub word_is : (fill : Fill) (bytes : List ℕ) (first x y z w : ℕ) → x ≡ number_of (byte_bits fill (get_or bytes first 0)) → y ≡ number_of (byte_bits fill (get_or bytes (first + 1) 0)) → z ≡ number_of (byte_bits fill (get_or bytes (first + 2) 0)) → w ≡ number_of (byte_bits fill (get_or bytes (first + 3) 0)) → bit_or (bit_or (bit_or (x * 16777216 % 4294967296) (y * 65536 % 4294967296)) (z * 256 % 4294967296)) w ≡ word_at fill bytes first
+word_is fill bytes first x y z w is_x is_y is_z is_w =
+    let below : (v b : ℕ) → v ≡ number_of (byte_bits fill b) → v < 256 = λ v b e. let P : ℕ → Type 0 = λ n. n < 256 in subst P (sym e) (byte_below fill b) in
+    word_of x y z w (below x _ is_x) (below y _ is_y) (below z _ is_z) (below w _ is_w)
+    ∙ sym (number-four fill (get_or bytes first 0) (get_or bytes (first + 1) 0) (get_or bytes (first + 2) 0) (get_or bytes (first + 3) 0) ∙ rw (← is_x, ← is_y, ← is_z, ← is_w) refl)
 
 -- the code's window is the number of the bits
-pub window_of : (fill : Fill) (bytes : List ℕ) (at count x y z : ℕ) → count ≤ 16 → at + count ≤ length (bits_of fill bytes) → x ≡ number_of (byte_bits fill (get_or bytes (at / 8) 0)) → y ≡ number_of (byte_bits fill (get_or bytes (at / 8 + 1) 0)) → z ≡ number_of (byte_bits fill (get_or bytes (at / 8 + 2) 0)) → bit_and (bit_or (bit_or (x * 65536 % 4294967296) (y * 256 % 4294967296)) z / 2 ^ (24 - at % 8 - count)) (1 * 2 ^ count % 4294967296 - 1) ≡ number_of (take count (drop at (bits_of fill bytes)))
-window_of fill bytes at count x y z short within is_x is_y is_z =
-    let q = at / 8 in
-    let bx : x < 256 = let P : ℕ → Type 0 = λ v. v < 256 in subst P (sym is_x) (byte_below fill (get_or bytes (at / 8) 0)) in
-    let by' : y < 256 = let P : ℕ → Type 0 = λ v. v < 256 in subst P (sym is_y) (byte_below fill (get_or bytes (at / 8 + 1) 0)) in
-    let bz : z < 256 = let P : ℕ → Type 0 = λ v. v < 256 in subst P (sym is_z) (byte_below fill (get_or bytes (at / 8 + 2) 0)) in
-    let word = bit_or (bit_or (x * 65536 % 4294967296) (y * 256 % 4294967296)) z in
-    let mask : 1 * 2 ^ count % 4294967296 ≡ 2 ^ count = one_shl count 32 (omega arith) in
-    let k = 24 - at % 8 - count in
-    let is : word ≡ (number_of (byte_bits fill (get_or bytes (at / 8 + 0) 0)) * 65536 + number_of (byte_bits fill (get_or bytes (at / 8 + 1) 0)) * 256) + number_of (byte_bits fill (get_or bytes (at / 8 + 2) 0)) = rw (add-zero (at / 8), ← is_x, ← is_y, ← is_z) (word_of x y z bx by' bz) in
+pub window_of : (fill : Fill) (bytes : List ℕ) (at count word : ℕ) → count ≤ 16 → at + count ≤ length (bits_of fill bytes) → word ≡ word_at fill bytes (at / 8) → bit_and (word / 2 ^ (32 - at % 8 - count)) (1 * 2 ^ count % 18446744073709551616 - 1) ≡ number_of (take count (drop at (bits_of fill bytes)))
+window_of fill bytes at count word short within is =
+    let mask : 1 * 2 ^ count % 18446744073709551616 ≡ 2 ^ count = one_shl count 64 (omega arith) in
+    let k = 32 - at % 8 - count in
     ap (λ m. bit_and (word / 2 ^ k) (m - 1)) mask ∙ and_mask (word / 2 ^ k) count
-    ∙ window_is fill bytes at (at / 8) (at % 8) count k word (omega arith) (omega arith) within is
+    ∙ ap (λ v. v / 2 ^ k % 2 ^ count) is
+    ∙ window_is fill bytes at (at / 8) (at % 8) count k (omega arith) (omega arith) within
 
 -- ---- one bit
 
@@ -269,3 +270,6 @@ pub byte_when_low : (fill : Fill) (b x : ℕ) → fill ≡ Low → b < 256 → x
 byte_when_low fill b x is h same =
     let P : Fill → Type 0 = λ f. number_of (byte_bits f b) ≡ get_or REVERSED b 0 in
     ap (λ v. number_of (byte_bits fill v)) same ∙ subst P (sym is) (number-low b h)
+
+pub word_when_high : (fill : Fill) (bytes : List ℕ) (first : ℕ) → fill ≡ High → word_at High bytes first ≡ word_at fill bytes first
+word_when_high fill bytes first is = ap (λ f. word_at f bytes first) (sym is)

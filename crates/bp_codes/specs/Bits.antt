@@ -1,5 +1,5 @@
 -- Lists of bits, and the bits of bytes.
-use Rattle.std.specs.Prelude.{ℕ, zero, suc, ◌+◌, ◌*◌, ◌^◌, ◌==◌, Bool, List, [], ◌∷◌, length, if◌then◌else◌}
+use Rattle.std.specs.Prelude.{ℕ, zero, suc, ◌+◌, ◌*◌, ◌^◌, ◌==◌, Bool, List, [], ◌∷◌, length, slice_index, if◌then◌else◌}
 use Rattle.std.specs.Int.{bit_at}
 use Rattle.std.specs.List.{flat_map}
 use Rattle.bp_codes.specs.declared.span.Fill.{Fill}
@@ -37,3 +37,8 @@ low_bits (suc k) number = bit number k ∷ low_bits k number
 -- the bits of a code
 abbrev pub code_bits : Code → List Bool
 code_bits code = low_bits code.len code.bits
+
+-- the number that the bits of four bytes from a place on are, with zeros past the last byte
+abbrev pub word_at : Fill → List ℕ → ℕ → ℕ
+word_at fill bytes first =
+    number_of (bits_of fill (slice_index bytes first ∷ slice_index bytes (first + 1) ∷ slice_index bytes (first + 2) ∷ slice_index bytes (first + 3) ∷ []))

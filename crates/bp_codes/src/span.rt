@@ -1,5 +1,7 @@
 // Bits, read out of bytes.
 ghost use Rattle.std.specs.Prelude.{◌≡◌, ◌+◌, ◌^◌, ◌<◌, ◌≤◌, length, slice_get, slice_index, Some, take, drop};
+ghost use Rattle.bp_codes.specs.Bits.{word_at};
+ghost use Rattle.bp_codes.specs.declared.span.Fill.TheVariants.{High};
 
 use crate::reversed::REVERSED;
 
@@ -50,10 +52,25 @@ impl BitSpan<'_> {
         requires within { at + count ≤ length (span_bits self.now) }
         ensures { result ≡ number_of (take count (drop at (span_bits self.now))) }
     {
-        let first = (at / 8) as usize;
         let skipped = (at % 8) as u32;
-        let word = self.byte(first) << 16 | self.byte(first + 1) << 8 | self.byte(first + 2);
-        word >> (24 - skipped - count) & ((1 << count) - 1)
+        let word = u64::from(self.word((at / 8) as usize));
+        (word >> (32 - skipped - count) & ((1 << count) - 1)) as u32
+    }
+
+    // Four bytes, the first bit highest, with zeros past the last one.
+    fn word(&self, first: usize) -> u32
+        requires { first < 2 ^ 62 }
+        ensures { result ≡ word_at self.now.fill self.now.bytes.now first }
+    {
+        match self.fill {
+            Fill::High if first + 4 <= self.bytes.len() => whole_word(self.bytes, first),
+            _ => {
+                self.byte(first) << 24
+                    | self.byte(first + 1) << 16
+                    | self.byte(first + 2) << 8
+                    | self.byte(first + 3)
+            }
+        }
     }
 
     // A byte with its first bit highest; 0 past the last one.
@@ -66,4 +83,15 @@ impl BitSpan<'_> {
             Fill::Low => u32::from(REVERSED[usize::from(byte)]),
         }
     }
+}
+
+// Four bytes that are there, the bit of value 128 first: one read where the machine has it.
+fn whole_word(bytes: &[u8], first: usize) -> u32
+    requires { first + 4 ≤ length bytes.now }
+    ensures { result ≡ word_at High bytes.now first }
+{
+    u32::from(bytes[first]) << 24
+        | u32::from(bytes[first + 1]) << 16
+        | u32::from(bytes[first + 2]) << 8
+        | u32::from(bytes[first + 3])
 }

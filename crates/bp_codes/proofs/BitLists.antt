@@ -1,8 +1,8 @@
 -- Lists of bits, the numbers that they are, and the bits of bytes.
 use Rattle.std.proofs.Common.{ℕ, zero, suc, ◌+◌, ◌-◌, ◌*◌, ◌/◌, ◌%◌, ◌^◌, ◌<◌, ◌≤◌, ◌≡◌, Bool, true, false, List, [], ◌∷◌, ◌++◌, length, take, drop, map, get_or, if◌then◌else◌, refl, ap, sym, ◌∙◌, subst, arith, length-append, length-drop, length-take, add-one, add-zero, inl, inr, bit_and, bit_or, nat_eq, slice_get, Some}
 use Rattle.std.specs.List.{flat_map}
-use Rattle.std.proofs.Math.Nat.{pow-suc}
-use Rattle.std.proofs.lemmas.Nat.{pow_pos, pow-add, shr_high, or_shifted, and_mask, one_shl, mod_low, field_of, div_below}
+use Rattle.std.proofs.Math.Nat.{pow-suc, mul-mod_left}
+use Rattle.std.proofs.lemmas.Nat.{mod-pow-add, shl-shr, shr-shr, pow_pos, pow-add, shr_high, or_shifted, and_mask, one_shl, mod_low, field_of, div_below}
 use Rattle.std.proofs.lemmas.Bool.{cases_eq}
 use Rattle.std.proofs.lemmas.Nat.Bits.{shr_and_one}
 use Rattle.std.proofs.lemmas.Option.{slice_get-get_or}
@@ -117,12 +117,24 @@ number-four fill x y z w =
 in_the_rest : (bytes : List ℕ) (q i : ℕ) → get_or (drop q bytes) i 0 ≡ get_or bytes (q + i) 0
 in_the_rest bytes q i = get_or-drop q bytes i 0
 
--- count bits after r ones of 32, as a number
-middle : (bits : List Bool) (r count k : ℕ) → length bits ≡ 32 → r + count + k ≡ 32 → number_of (take count (drop r bits)) ≡ number_of bits / 2 ^ k % 2 ^ count
+-- the highest r bits shifted out of a word of j + r bits
+shifted_out : (a r j : ℕ) → a * 2 ^ r % 2 ^ (j + r) ≡ a % 2 ^ j * 2 ^ r
+shifted_out a r j =
+    mod-pow-add (a * 2 ^ r) j r ∙ ap (λ v. v % 2 ^ j * 2 ^ r + a * 2 ^ r % 2 ^ r) (shl-shr a r)
+    ∙ ap (λ v. a % 2 ^ j * 2 ^ r + v) (mul-mod_left a (2 ^ r)) ∙ add-zero (a % 2 ^ j * 2 ^ r)
+
+-- count bits after r ones of 32, as a number: the r shifted out at the top, and the rest down to count bits
+middle : (bits : List Bool) (r count k : ℕ) → length bits ≡ 32 → r + count + k ≡ 32 → number_of (take count (drop r bits)) ≡ number_of bits * 2 ^ r % 4294967296 / 2 ^ (32 - count)
 middle bits r count k h sum =
     let left : length (drop r bits) ≡ count + k = omega (arith, length-drop r bits) in
+    let all : 32 ≡ count + k + r = omega arith in
+    let width : 4294967296 ≡ 2 ^ (count + k + r) = ap (λ n. 2 ^ n) all in
+    let down : 32 - count ≡ r + k = omega arith in
     number_of-take count k (drop r bits) left
-    ∙ ap (λ v. v / 2 ^ k) (number_of-drop r (count + k) bits (omega arith)) ∙ field_of (number_of bits) count k
+    ∙ ap (λ v. v / 2 ^ k) (number_of-drop r (count + k) bits (omega arith) ∙ sym (shl-shr (number_of bits % 2 ^ (count + k)) r))
+    ∙ shr-shr (number_of bits % 2 ^ (count + k) * 2 ^ r) r k
+    ∙ ap (λ n. number_of bits % 2 ^ (count + k) * 2 ^ r / 2 ^ n) (sym down)
+    ∙ ap (λ v. v / 2 ^ (32 - count)) (sym (ap (λ m. number_of bits * 2 ^ r % m) width ∙ shifted_out (number_of bits) r (count + k)))
 
 -- bits from a place on stand in the four bytes from that place on
 in_four : (fill : Fill) (bytes : List ℕ) (q r count : ℕ) → r + count ≤ 32 → 8 * q + r + count ≤ length bytes * 8 → take count (drop (8 * q + r) (bits_of fill bytes)) ≡ take count (drop r (four_bytes fill (get_or bytes (q + 0) 0) (get_or bytes (q + 1) 0) (get_or bytes (q + 2) 0) (get_or bytes (q + 3) 0)))
@@ -134,7 +146,7 @@ in_four fill bytes q r count short within =
     ∙ rw (in_the_rest bytes q 0, in_the_rest bytes q 1, in_the_rest bytes q 2, in_the_rest bytes q 3) refl
 
 -- the window: the bits from a place on, out of the four bytes from that place on
-window_is : (fill : Fill) (bytes : List ℕ) (at q r count k : ℕ) → at ≡ 8 * q + r → r + count + k ≡ 32 → at + count ≤ length (bits_of fill bytes) → word_at fill bytes q / 2 ^ k % 2 ^ count ≡ number_of (take count (drop at (bits_of fill bytes)))
+window_is : (fill : Fill) (bytes : List ℕ) (at q r count k : ℕ) → at ≡ 8 * q + r → r + count + k ≡ 32 → at + count ≤ length (bits_of fill bytes) → word_at fill bytes q * 2 ^ r % 4294967296 / 2 ^ (32 - count) ≡ number_of (take count (drop at (bits_of fill bytes)))
 window_is fill bytes at q r count k place sum within =
     let room : 8 * q + r + count ≤ length bytes * 8 = omega (arith, length-bits_of fill bytes) in
     let four = four_bytes fill (get_or bytes q 0) (get_or bytes (q + 1) 0) (get_or bytes (q + 2) 0) (get_or bytes (q + 3) 0) in
@@ -194,13 +206,10 @@ word_is fill bytes first x y z w is_x is_y is_z is_w =
     ∙ sym (number-four fill (get_or bytes first 0) (get_or bytes (first + 1) 0) (get_or bytes (first + 2) 0) (get_or bytes (first + 3) 0) ∙ rw (← is_x, ← is_y, ← is_z, ← is_w) refl)
 
 -- the code's window is the number of the bits
-pub window_of : (fill : Fill) (bytes : List ℕ) (at count word : ℕ) → count ≤ 16 → at + count ≤ length (bits_of fill bytes) → word ≡ word_at fill bytes (at / 8) → bit_and (word / 2 ^ (32 - at % 8 - count)) (1 * 2 ^ count % 18446744073709551616 - 1) ≡ number_of (take count (drop at (bits_of fill bytes)))
+pub window_of : (fill : Fill) (bytes : List ℕ) (at count word : ℕ) → count ≤ 16 → at + count ≤ length (bits_of fill bytes) → word ≡ word_at fill bytes (at / 8) → word * 2 ^ (at % 8) % 4294967296 / 2 ^ (32 - count) ≡ number_of (take count (drop at (bits_of fill bytes)))
 window_of fill bytes at count word short within is =
-    let mask : 1 * 2 ^ count % 18446744073709551616 ≡ 2 ^ count = one_shl count 64 (omega arith) in
-    let k = 32 - at % 8 - count in
-    ap (λ m. bit_and (word / 2 ^ k) (m - 1)) mask ∙ and_mask (word / 2 ^ k) count
-    ∙ ap (λ v. v / 2 ^ k % 2 ^ count) is
-    ∙ window_is fill bytes at (at / 8) (at % 8) count k (omega arith) (omega arith) within
+    ap (λ v. v * 2 ^ (at % 8) % 4294967296 / 2 ^ (32 - count)) is
+    ∙ window_is fill bytes at (at / 8) (at % 8) count (32 - at % 8 - count) (omega arith) (omega arith) within
 
 -- ---- one bit
 

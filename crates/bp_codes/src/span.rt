@@ -53,8 +53,8 @@ impl BitSpan<'_> {
         ensures { result ≡ number_of (take count (drop at (span_bits self.now))) }
     {
         let skipped = (at % 8) as u32;
-        let word = u64::from(self.word((at / 8) as usize));
-        (word >> (32 - skipped - count) & ((1 << count) - 1)) as u32
+        let rest = u64::from(self.word((at / 8) as usize) << skipped);
+        (rest >> (32 - count)) as u32
     }
 
     // Four bytes, the first bit highest, with zeros past the last one.

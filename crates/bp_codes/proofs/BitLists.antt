@@ -1,17 +1,15 @@
 -- Lists of bits, the numbers that they are, and the bits of bytes.
-use Rattle.std.proofs.Common.{ℕ, zero, suc, ◌+◌, ◌-◌, ◌*◌, ◌/◌, ◌%◌, ◌^◌, ◌<◌, ◌≤◌, ◌≡◌, Bool, true, false, List, [], ◌∷◌, ◌++◌, length, take, drop, map, get_or, if◌then◌else◌, refl, ap, sym, ◌∙◌, subst, arith, length-append, length-drop, length-take, add-one, add-zero, inl, inr, bit_and, bit_or, nat_eq, slice_get, Some}
-use Rattle.std.specs.List.{flat_map}
+use Rattle.std.proofs.Common.{ℕ, zero, suc, ◌+◌, ◌-◌, ◌*◌, ◌/◌, ◌%◌, ◌^◌, ◌<◌, ◌≤◌, ◌≡◌, Bool, true, false, List, [], ◌∷◌, ◌++◌, length, take, drop, map, get_or, if◌then◌else◌, refl, ap, sym, ◌∙◌, subst, arith, length-append, length-drop, add-zero, inl, inr, bit_and, bit_or, nat_eq, slice_get, Some}
 use Rattle.std.proofs.Math.Nat.{pow-suc, mul-mod_left}
-use Rattle.std.proofs.lemmas.Nat.{mod-pow-add, shl-shr, shr-shr, pow_pos, pow-add, shr_high, or_shifted, and_mask, one_shl, mod_low, field_of, div_below}
+use Rattle.std.proofs.lemmas.Nat.{mod-pow-add, shl-shr, shr-shr, pow-add, shr_high, or_shifted, mod_low}
 use Rattle.std.proofs.lemmas.Bool.{cases_eq}
 use Rattle.std.proofs.lemmas.Nat.Bits.{shr_and_one}
 use Rattle.std.proofs.lemmas.Option.{slice_get-get_or}
-use Rattle.std.proofs.lemmas.List.{drop_more, get_or_append_left, drop-drop, drop_all, get_or-drop, length-take-le, take-append-drop, take-append-le, drop-take, append_assoc, take_more}
+use Rattle.std.proofs.lemmas.List.{drop_more, get_or_append_left, drop-drop, drop_all, get_or-drop, take-append-drop, take-append-le, drop-take, append_assoc}
 use Rattle.bp_codes.specs.declared.span.Fill.{Fill}
 use Rattle.bp_codes.specs.declared.span.Fill.TheVariants.{High, Low}
 use Rattle.bp_codes.specs.declared.reversed.TheConstants.{REVERSED}
 use Rattle.bp_codes.specs.Bits.{bit, byte_bits, bits_of, number_of, word_at}
-use Rattle.bp_codes.specs.CodeLists.{bits_in_print}
 
 -- ---- numbers
 

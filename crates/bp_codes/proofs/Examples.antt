@@ -1,9 +1,9 @@
 -- Worked examples of the definitions in specs/, each run by the check.
-use Rattle.std.proofs.Common.{◌≡◌, true, false, List, [], ◌∷◌, ◌++◌, Result, Ok, Err, length, drop, refl}
+use Rattle.std.proofs.Common.{◌≡◌, [], ◌∷◌, Ok, Err, length, drop, refl}
 use Rattle.std.specs.Prelude.{codes, slice_index_or}
 use Rattle.bp_codes.specs.declared.code.NoCode.TheVariants.{Ends, Strange}
 use Rattle.bp_codes.specs.declared.span.Fill.TheVariants.{High, Low}
-use Rattle.bp_codes.specs.Bits.{byte_bits, bits_of, code_bits, code_of_bits, number_of}
+use Rattle.bp_codes.specs.Bits.{byte_bits, bits_of, code_bits, code_of_bits}
 use Rattle.bp_codes.specs.CodeLists.{white_codes, black_codes, mode_codes, end_of_block, bits_in_print}
 use Rattle.bp_codes.specs.NextCode.{next_row}
 

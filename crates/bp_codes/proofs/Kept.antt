@@ -1,8 +1,7 @@
 -- That the three indexes written out in src/ keep the front of each short list of bits.
-use Rattle.std.proofs.Common.{ℕ, zero, suc, ◌+◌, ◌-◌, ◌*◌, ◌^◌, ◌<◌, ◌≤◌, ◌≡◌, Bool, true, false, List, [], ◌∷◌, ◌++◌, length, get_or, if◌then◌else◌, refl, ap, sym, ◌∙◌, subst, arith, length-append, inl, inr, add-one}
+use Rattle.std.proofs.Common.{ℕ, zero, suc, ◌+◌, ◌*◌, ◌^◌, ◌<◌, ◌≤◌, ◌≡◌, Bool, true, false, List, [], ◌∷◌, length, get_or, refl, ap, sym, ◌∙◌, arith, length-append, inl, inr, add-one}
 use Rattle.std.specs.List.{enumerate_from}
 use Rattle.std.proofs.Math.Nat.{pow-suc, pow-le-pow_right}
-use Rattle.std.proofs.lemmas.Nat.{pow_pos}
 use Rattle.std.proofs.lemmas.Bool.{cases_lt}
 use Rattle.std.proofs.lemmas.List.{get_or_append_left, get_or-append-add}
 use Rattle.bp_codes.specs.declared.white_index.TheConstants.{WHITE_INDEX}
@@ -12,7 +11,6 @@ use Rattle.bp_codes.specs.declared.index.Index.{Index}
 use Rattle.bp_codes.specs.declared.index.Index.TheVariants.{White, Black, Modes}
 use Rattle.bp_codes.specs.Fronts.{fronts}
 use Rattle.bp_codes.specs.Bits.{number_of}
-use Rattle.bp_codes.specs.NextCode.{next_row}
 use Rattle.bp_codes.specs.Index.{entry_number, index_place, IsIndexOf}
 use Rattle.bp_codes.specs.CodeLists.{white_codes, black_codes, mode_codes}
 use Rattle.bp_codes.proofs.BitLists.{number_of-below}

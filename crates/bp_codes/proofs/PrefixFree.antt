@@ -1,15 +1,13 @@
 -- That no code is a prefix of another, by a test that is computed over a whole table, and what follows.
-use Rattle.std.proofs.Common.{ℕ, zero, suc, ◌+◌, ◌<◌, ◌≡◌, Bool, true, false, not, ◌&&◌, ◌||◌, List, [], ◌∷◌, ◌++◌, length, get_or, drop, map, slice_get, Option, Some, None, Result, Ok, Err, if◌then◌else◌, refl, ap, sym, ◌∙◌, subst, arith, inl, inr, ◌⊎◌}
+use Rattle.std.proofs.Common.{ℕ, zero, suc, ◌+◌, ◌<◌, ◌≡◌, Bool, true, false, not, ◌&&◌, ◌||◌, List, [], ◌∷◌, ◌++◌, length, get_or, map, slice_get, Some, None, Ok, Err, if◌then◌else◌, refl, ap, sym, ◌∙◌, arith, inl, inr, ◌⊎◌}
 use Rattle.std.specs.List.{list_all, list_any, position_from}
-use Rattle.std.proofs.lemmas.Bool.{and_parts, cases_lt}
-use Rattle.std.proofs.lemmas.List.{drop_at, length-map}
-use Rattle.std.proofs.lemmas.Option.{get_or_from_slice_get}
+use Rattle.std.proofs.lemmas.Bool.{and_parts}
+use Rattle.std.proofs.lemmas.List.{drop_at}
 use Rattle.bp_codes.specs.declared.code.Code.{Code}
-use Rattle.bp_codes.specs.declared.code.NoCode.{NoCode}
 use Rattle.bp_codes.specs.declared.code.NoCode.TheVariants.{Ends, Strange}
 use Rattle.bp_codes.specs.Bits.{code_bits, code_of_bits}
 use Rattle.bp_codes.specs.Laws.{IsPrefixFree, ReadsBack, CutMeansEnds}
-use Rattle.bp_codes.specs.NextCode.{same_bit, begins, is_cut, row_at, no_code, next_row, row_or}
+use Rattle.bp_codes.specs.NextCode.{same_bit, begins, is_cut, no_code, next_row, row_or}
 
 -- ---- the test
 

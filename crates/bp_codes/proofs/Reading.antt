@@ -1,5 +1,5 @@
 -- How an entry of an index answers what stands at the front of bits.
-use Rattle.std.proofs.Common.{ℕ, zero, suc, ◌+◌, ◌-◌, ◌^◌, ◌<◌, ◌≤◌, ◌≡◌, Bool, true, false, List, [], ◌∷◌, length, take, drop, get_or, min, ◌*◌, add-one, ◌%◌, if◌then◌else◌, Option, Some, None, Result, Ok, Err, refl, ap, sym, ◌∙◌, subst, arith, nat_le}
+use Rattle.std.proofs.Common.{ℕ, ◌+◌, ◌^◌, ◌<◌, ◌≤◌, ◌≡◌, Bool, true, false, List, [], ◌∷◌, length, take, get_or, min, ◌*◌, add-one, ◌%◌, if◌then◌else◌, Option, Some, None, Result, Ok, Err, refl, ap, sym, ◌∙◌, subst, arith, nat_le}
 use Rattle.std.specs.List.{list_all, position_from}
 use Rattle.std.proofs.Math.Nat.{pow-suc, pow-le-pow_right}
 use Rattle.std.proofs.lemmas.List.{length-take-le, take_min}
@@ -7,7 +7,7 @@ use Rattle.std.proofs.lemmas.Nat.{one_shl}
 use Rattle.bp_codes.specs.declared.code.NoCode.{NoCode}
 use Rattle.bp_codes.specs.declared.code.NoCode.TheVariants.{Ends, Strange}
 use Rattle.bp_codes.specs.Bits.{number_of}
-use Rattle.bp_codes.specs.Index.{entry_number, index_place, IsIndexOf}
+use Rattle.bp_codes.specs.Index.{entry_number, IsIndexOf}
 use Rattle.bp_codes.specs.NextCode.{begins, row_at, no_code, next_row, row_or}
 use Rattle.bp_codes.proofs.BitLists.{number_of-below}
 use Rattle.bp_codes.proofs.Front.{next_row-take}

@@ -1,7 +1,6 @@
 -- That rows made from the codes as they stand in print are a table with its index.
-use Rattle.std.proofs.Common.{ℕ, ◌+◌, ◌^◌, ◌<◌, ◌≤◌, ◌≡◌, true, List, [], ◌∷◌, length, map, refl, ap, sym, ◌∙◌, subst, arith, nat_le}
+use Rattle.std.proofs.Common.{◌≡◌, List, ◌∷◌, map, refl, ap, sym, ◌∙◌, subst, arith}
 use Rattle.bp_codes.specs.declared.code.Code.{Code}
-use Rattle.bp_codes.specs.declared.index.Index.{Index}
 use Rattle.bp_codes.specs.declared.index.Index.TheVariants.{White, Black, Modes}
 use Rattle.bp_codes.specs.Bits.{code_bits, code_of_bits}
 use Rattle.bp_codes.specs.CodeLists.{white_codes, black_codes, mode_codes}

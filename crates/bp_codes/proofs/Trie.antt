@@ -1,12 +1,12 @@
 -- The codes as a tree of bits, walked from its root: what stands at the front of each list of bits.
-use Rattle.std.proofs.Common.{ℕ, zero, suc, ◌≡◌, Bool, true, false, ◌||◌, List, [], ◌∷◌, ◌++◌, if◌then◌else◌, Option, Some, None, Result, Ok, Err, refl}
+use Rattle.std.proofs.Common.{ℕ, zero, suc, ◌≡◌, Bool, true, false, ◌||◌, List, [], ◌∷◌, ◌++◌, if◌then◌else◌, Option, Some, None, Result, refl}
 use Rattle.std.specs.List.{enumerate_from}
 use Rattle.bp_codes.specs.declared.code.NoCode.{NoCode}
 use Rattle.bp_codes.specs.declared.code.NoCode.TheVariants.{Ends, Strange}
 use Rattle.bp_codes.specs.declared.white_index.TheConstants.{WHITE_INDEX}
 use Rattle.bp_codes.specs.declared.black_index.TheConstants.{BLACK_INDEX}
 use Rattle.bp_codes.specs.declared.mode_index.TheConstants.{MODE_INDEX}
-use Rattle.bp_codes.specs.NextCode.{same_bit, begins, is_cut, next_row, row_or}
+use Rattle.bp_codes.specs.NextCode.{same_bit, begins, is_cut, row_or}
 use Rattle.bp_codes.specs.Index.{entry_number}
 use Rattle.bp_codes.specs.CodeLists.{white_codes, black_codes, mode_codes}
 

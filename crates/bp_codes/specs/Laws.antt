@@ -14,7 +14,8 @@ IsPrefixFree codes =
 -- at the place where the code of a row was written stands that row, whatever bits come before and after
 abbrev pub ReadsBack : List (List Bool) → Type 0
 ReadsBack codes =
-    (row : ℕ) (code : Code) (before after : List Bool) → slice_get (map code_of_bits codes) row ≡ Some code → next_row codes (drop (length before) (before ++ (code_bits code ++ after))) ≡ Ok row
+    (row : ℕ) (code : Code) (before after : List Bool) → slice_get (map code_of_bits codes) row ≡ Some code →
+    next_row codes (drop (length before) (before ++ (code_bits code ++ after))) ≡ Ok row
 
 -- where the bits are a proper prefix of some code, none begins them
 abbrev pub CutMeansEnds : List (List Bool) → Type 0

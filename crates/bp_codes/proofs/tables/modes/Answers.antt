@@ -1,7 +1,3 @@
-use Rattle.std.proofs.Common.{◌≡◌, List, [], ◌∷◌, map}
-use Rattle.bp_codes.specs.declared.code.Code.{Code}
-use Rattle.bp_codes.specs.Bits.{code_of_bits}
-use Rattle.bp_codes.specs.CodeLists.{mode_codes}
 use Rattle.bp_codes.proofs.Rows.{modes_table}
 use Rattle.bp_codes.proofs.tables.modes.Goals as goal
 

@@ -1,5 +1,3 @@
-use Rattle.std.proofs.Common.{◌≡◌, ◌<◌, length, arith, sym, ap, get_or}
-use Rattle.bp_codes.specs.Fronts.{fronts}
 use Rattle.bp_codes.proofs.Kept.{white_place, black_place, modes_place, at_white, at_black, at_modes}
 use Rattle.bp_codes.proofs.index.Index.at.Goals as goal
 

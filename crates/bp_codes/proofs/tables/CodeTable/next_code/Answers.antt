@@ -1,9 +1,8 @@
-use Rattle.std.proofs.Common.{◌≡◌, ◌+◌, ◌-◌, ◌*◌, ◌%◌, ◌^◌, ◌<◌, ◌≤◌, ℕ, arith, length, take, drop, map, min, get_or, ap, sym, ◌∙◌, rules, length-drop, Result, Ok, Err}
+use Rattle.std.proofs.Common.{◌≡◌, ◌+◌, ◌-◌, ◌^◌, ◌≤◌, arith, length, take, drop, map, min, ap, sym, ◌∙◌, rules, length-drop, Ok}
 use Rattle.std.proofs.lemmas.List.{length-map}
 use Rattle.bp_codes.specs.Bits.{number_of, code_bits}
 use Rattle.bp_codes.specs.Span.{span_bits}
 use Rattle.bp_codes.specs.NextCode.{next_row}
-use Rattle.bp_codes.specs.Index.{entry_number}
 use Rattle.bp_codes.specs.Fronts.{fronts}
 use Rattle.bp_codes.proofs.Reading.{answered, place_is, place_below, place_small, next_row-below, says_ends, says_strange, says_row, row_below}
 use Rattle.bp_codes.proofs.tables.CodeTable.next_code.Goals as goal

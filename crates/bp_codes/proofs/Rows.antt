@@ -15,12 +15,15 @@ pub ◌◂◌ : {x y : Code} {xs ys : List Code} → x ≡ y → xs ≡ ys → (
 ◌◂◌ {x} {y} {xs} {ys} first rest = ap (λ v. v ∷ xs) first ∙ ap (λ vs. y ∷ vs) rest
 
 white_read_back : map code_bits (map code_of_bits white_codes) ≡ white_codes
+unfolding white_codes
 white_read_back = refl
 
 black_read_back : map code_bits (map code_of_bits black_codes) ≡ black_codes
+unfolding black_codes
 black_read_back = refl
 
 modes_read_back : map code_bits (map code_of_bits mode_codes) ≡ mode_codes
+unfolding mode_codes
 modes_read_back = refl
 
 white_kept' : IsIndexOf white_codes 12 (fronts White)
@@ -36,22 +39,31 @@ unfolding fronts
 modes_kept' = modes_kept
 
 pub white_table : (rows : List Code) → rows ≡ map code_of_bits white_codes → IsTable rows 12 White
+unfolding white_codes
 white_table rows is =
     let P : List Code → Type 0 = λ cs. IsTable cs 12 White in
     subst P (sym is) (record { exact = refl; short = refl; within = omega arith; few = omega arith; wide = length-white; kept = white_kept' })
 
 pub black_table : (rows : List Code) → rows ≡ map code_of_bits black_codes → IsTable rows 13 Black
+unfolding black_codes
 black_table rows is =
     let P : List Code → Type 0 = λ cs. IsTable cs 13 Black in
     subst P (sym is) (record { exact = refl; short = refl; within = omega arith; few = omega arith; wide = length-black; kept = black_kept' })
 
 pub modes_table : (rows : List Code) → rows ≡ map code_of_bits mode_codes → IsTable rows 7 Modes
+unfolding mode_codes
 modes_table rows is =
     let P : List Code → Type 0 = λ cs. IsTable cs 7 Modes in
     subst P (sym is) (record { exact = refl; short = refl; within = omega arith; few = omega arith; wide = length-modes; kept = modes_kept' })
 
 pub white_shown : (rows : List Code) → rows ≡ map code_of_bits white_codes → map code_bits rows ≡ white_codes
+unfolding white_codes
 white_shown rows is = ap (map code_bits) is
 
 pub black_shown : (rows : List Code) → rows ≡ map code_of_bits black_codes → map code_bits rows ≡ black_codes
+unfolding black_codes
 black_shown rows is = ap (map code_bits) is
+
+pub modes_shown : (rows : List Code) → rows ≡ map code_of_bits mode_codes → map code_bits rows ≡ mode_codes
+unfolding mode_codes
+modes_shown rows is = ap (map code_bits) is

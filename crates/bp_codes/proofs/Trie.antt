@@ -44,10 +44,13 @@ levels zero branches = entry_number (front branches []) ∷ []
 levels (suc n) branches = levels n branches ++ level (suc n) branches
 
 pub modes_written : MODE_INDEX ≡ 255 ∷ levels 7 (enumerate_from 0 mode_codes)
+unfolding mode_codes
 modes_written = refl
 
 pub white_written : WHITE_INDEX ≡ 255 ∷ levels 12 (enumerate_from 0 white_codes)
+unfolding white_codes
 white_written = refl
 
 pub black_written : BLACK_INDEX ≡ 255 ∷ levels 13 (enumerate_from 0 black_codes)
+unfolding black_codes
 black_written = refl

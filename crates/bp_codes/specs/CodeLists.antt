@@ -61,16 +61,16 @@ common_make_up =
     line (codes "00000001000 00000001100 00000001101 000000010010 000000010011 000000010100 000000010101 000000010110")
     ++ line (codes "000000010111 000000011100 000000011101 000000011110 000000011111")
 
--- the three tables, each code as its bits
-abbrev pub white_codes : List (List Bool)
+-- the three tables, each code as its bits; a proof sees into them only where it says so
+unfoldable pub white_codes : List (List Bool)
 white_codes = white_terminating ++ white_make_up ++ common_make_up
 
-abbrev pub black_codes : List (List Bool)
+unfoldable pub black_codes : List (List Bool)
 black_codes = black_terminating ++ black_make_up ++ common_make_up
 
 -- table 1/T.6: pass, horizontal, and vertical with a1 at b1 (V0), 1, 2 and 3 to its right (VR1 to VR3), and 1, 2
 -- and 3 to its left (VL1 to VL3)
-abbrev pub mode_codes : List (List Bool)
+unfoldable pub mode_codes : List (List Bool)
 mode_codes =
     line (codes "0001 001 1 011 000011 0000011 010 000010 0000010")
 

@@ -1,8 +1,10 @@
+use Rattle.bp_codes.specs.CodeLists.{black_codes}
 use Rattle.std.proofs.Common.{refl}
 use Rattle.bp_codes.proofs.Rows.{◌◂◌, black_table, black_shown}
 use Rattle.bp_codes.proofs.tables.black.Goals as goal
 
 pub invariant_of-result : goal.invariant_of-result
+unfolding black_codes
 invariant_of-result c =
     black_table _ (
     c.printed.ensures ◂ c.printed-2.ensures ◂ c.printed-3.ensures ◂ c.printed-4.ensures ◂
@@ -33,6 +35,7 @@ invariant_of-result c =
     c.printed-101.ensures ◂ c.printed-102.ensures ◂ c.printed-103.ensures ◂ c.printed-104.ensures ◂ refl)
 
 pub returns : goal.returns
+unfolding black_codes
 returns c =
     black_shown _ (
     c.printed.ensures ◂ c.printed-2.ensures ◂ c.printed-3.ensures ◂ c.printed-4.ensures ◂

@@ -1,8 +1,10 @@
+use Rattle.bp_codes.specs.CodeLists.{white_codes}
 use Rattle.std.proofs.Common.{refl}
 use Rattle.bp_codes.proofs.Rows.{◌◂◌, white_table, white_shown}
 use Rattle.bp_codes.proofs.tables.white.Goals as goal
 
 pub invariant_of-result : goal.invariant_of-result
+unfolding white_codes
 invariant_of-result c =
     white_table _ (
     c.printed.ensures ◂ c.printed-2.ensures ◂ c.printed-3.ensures ◂ c.printed-4.ensures ◂
@@ -33,6 +35,7 @@ invariant_of-result c =
     c.printed-101.ensures ◂ c.printed-102.ensures ◂ c.printed-103.ensures ◂ c.printed-104.ensures ◂ refl)
 
 pub returns : goal.returns
+unfolding white_codes
 returns c =
     white_shown _ (
     c.printed.ensures ◂ c.printed-2.ensures ◂ c.printed-3.ensures ◂ c.printed-4.ensures ◂

@@ -1,0 +1,29 @@
+// Runs library calls as often as its words say, and prints a checksum of what came out, for scripts that time
+// the built program from outside (bench/).
+//
+//     bp_bench codes white|black index|scan TIMES
+#![tactic(auto)]
+
+mod codes;
+
+use anyhow::{Result, bail};
+use std::alloc::Global;
+use std::env;
+
+fn main(rt: HostRuntime) -> Result<()> {
+    let words: Vec<String> = env::args(&rt)?.collect(rt.alloc())?;
+    let sum = run(rt.alloc(), words.as_slice())?;
+    println!(rt; "{sum}")?;
+    Ok(())
+}
+
+// What the words ask for; the checksum of what came out.
+fn run(alloc: Global, words: &[String]) -> Result<u64> {
+    let [_program, job, operands @ ..] = words else {
+        bail!("no job was named");
+    };
+    match job.as_str() {
+        "codes" => codes::run(alloc, operands),
+        other => bail!("no job {other}"),
+    }
+}

@@ -1,0 +1,9 @@
+pub mod BitLists
+mod Examples
+pub mod Front
+pub mod Kept
+pub mod PrefixFree
+pub mod Print
+pub mod Reading
+pub mod Rows
+pub mod Trie

@@ -1,0 +1,19 @@
+//! The code tables of ITU-T T.6, exact and fast to read.
+#![tactic(auto)]
+
+mod black_index;
+mod code;
+mod index;
+pub mod laws;
+mod mode_index;
+mod reversed;
+mod span;
+mod tables;
+mod white_index;
+
+pub use code::{Code, NoCode};
+pub use span::{BitSpan, Fill};
+pub use tables::{CodeTable, black, modes, white};
+
+#[cfg(test)]
+mod tests;

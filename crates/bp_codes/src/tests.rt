@@ -1,0 +1,89 @@
+// What is read where codes were written, and the bits of a span at its end.
+use crate::code::NoCode;
+use crate::span::{BitSpan, Fill};
+use crate::tables::{CodeTable, black, modes, white};
+use std::process::Abort;
+
+// Each code of a table, written after three ones and followed by ones or zeros, under both fill orders.
+fn reads_back<const N: usize>(rt: &impl Abort, table: &CodeTable<N>) {
+    for row in 0..N {
+        let code = table.code_of(row);
+        assert!(rt; 1 <= code.len && code.len <= 13, "row {row}");
+        let front = 0b111 << 29 | code.bits << (29 - u32::from(code.len));
+        for after in [0, u32::MAX >> (3 + u32::from(code.len))] {
+            let bytes = (front | after).to_be_bytes();
+            let high = BitSpan {
+                bytes: &bytes,
+                fill: Fill::High,
+            };
+            assert!(rt; high.len() == 32);
+            assert_eq!(rt; table.next_code(&high, 3), Ok(row), "row {row} high");
+            let turned = (front | after).reverse_bits().to_le_bytes();
+            let low = BitSpan {
+                bytes: &turned,
+                fill: Fill::Low,
+            };
+            assert!(rt; low.len() == 32);
+            assert_eq!(rt; table.next_code(&low, 3), Ok(row), "row {row} low");
+        }
+    }
+}
+
+#[test]
+fn each_code_is_read_back(rt: HostRuntime) {
+    reads_back(&rt, &white());
+    reads_back(&rt, &black());
+    reads_back(&rt, &modes());
+}
+
+#[test]
+fn white_codes_of_one_byte(rt: HostRuntime) {
+    let table = white();
+    let rows = [
+        (0x00, Fill::High, Err(NoCode::Strange)),
+        (0xD0, Fill::High, Ok(14)),
+        (0x1A, Fill::High, Ok(31)),
+        (0x02, Fill::High, Ok(29)),
+        (0x03, Fill::High, Ok(30)),
+        (0x02, Fill::Low, Ok(11)),
+    ];
+    for (byte, fill, want) in rows {
+        let bytes = [byte];
+        let span = BitSpan {
+            bytes: &bytes,
+            fill,
+        };
+        assert!(rt; span.len() == 8);
+        assert_eq!(rt; table.next_code(&span, 0), want, "{byte:02x}");
+    }
+}
+
+#[test]
+fn places_near_the_end(rt: HostRuntime) {
+    // Seven zeros begin codes of both run tables, eight none; five begin modes, six none; and so does the
+    // empty list at the end.
+    let bytes = [0x00];
+    let span = BitSpan {
+        bytes: &bytes,
+        fill: Fill::High,
+    };
+    assert!(rt; span.len() == 8);
+    for at in 1..=8 {
+        assert_eq!(rt;
+            white().next_code(&span, at),
+            Err(NoCode::Ends),
+            "white at {at}"
+        );
+        assert_eq!(rt;
+            black().next_code(&span, at),
+            Err(NoCode::Ends),
+            "black at {at}"
+        );
+    }
+    assert_eq!(rt; black().next_code(&span, 0), Err(NoCode::Strange));
+    assert_eq!(rt; white().next_code(&span, 0), Err(NoCode::Strange));
+    assert_eq!(rt; modes().next_code(&span, 2), Err(NoCode::Strange));
+    assert_eq!(rt; modes().next_code(&span, 3), Err(NoCode::Ends));
+    assert_eq!(rt; modes().next_code(&span, 8), Err(NoCode::Ends));
+    assert!(rt; !span.bit(7));
+}

@@ -1,0 +1,114 @@
+-- The first line of a text and the lines after it.
+use Rattle.std.proofs.Common.{◌≡◌, ℕ, ◌+◌, ◌-◌, ◌<◌, ◌≤◌, ◌==◌, Bool, true, false, not, cond, ltb, Result, Ok, Err, filter, append_assoc, Option, Some, None, List, [], ◌∷◌, ◌++◌, length, take, drop, refl, sym, ap, arith, ◌∙◌, inl, inr, length-append}
+use Rattle.std.specs.List.{slice_split, onto_first, position_or_len, before_first, after_first, count_by}
+use Rattle.std.specs.Str.Lines.{lines, lines_of_parts, strip_carriage_return}
+use Rattle.std.proofs.lemmas.Bool.{cases_Bool, cases_lt, ne_eqb, eq-eqb, lt-ltb, le-ltb}
+use Rattle.std.proofs.lemmas.List.{take_rest, length-drop}
+use Rattle.std.specs.Option.{ok_or}
+use Rattle.bp_core.specs.Answers.{Answers}
+use Rattle.bp_core.specs.declared.refusals.Refusal.{Refusal}
+use Rattle.bp_core.specs.declared.refusals.Refusal.TheVariants as refusals
+use Rattle.bp_core.specs.declared.rules.Rule.{Rule}
+use Rattle.bp_core.specs.declared.rules.RuleKind.{RuleKind}
+use Rattle.bp_load.specs.Lines.{filled_lines, each_line, first_then, onto, at_line}
+use Rattle.std.proofs.lemmas.List.Splits.{slice_split_first, slice_split-cons_no, length-slice_split}
+
+-- what follows an index is what stands after the first that passes
+pub no_break : {X : Type 0} (p : X → Bool) → (xs : List X) → length xs ≤ position_or_len p xs → slice_split p xs ≡ xs ∷ []
+no_break p [] h = refl
+no_break p (x ∷ xs) h =
+    elim (cases_Bool (p x)) [
+      inl passes ↦ absurd (omega (arith, ap (λ b. cond (not b) (1 + position_or_len p xs) 0) passes))
+    | inr fails ↦ slice_split-cons_no p x xs fails ∙ ap (onto_first x) (no_break p xs (omega (arith, ap (λ b. cond (not b) (1 + position_or_len p xs) 0) fails)))
+    ]
+
+lines_alone : (bs : List ℕ) → 0 < length bs → lines_of_parts (bs ∷ []) ≡ bs ∷ []
+lines_alone bs some = ap (λ b. cond b [] (bs ∷ [])) (ne_eqb (length bs) 0 (λ e. omega arith))
+
+lines_before : (x : List ℕ) (parts : List (List ℕ)) → 0 < length parts → lines_of_parts (x ∷ parts) ≡ strip_carriage_return x ∷ lines_of_parts parts
+lines_before x [] some = absurd (omega arith)
+lines_before x (y ∷ parts) some = refl
+
+abbrev pub is_lf : ℕ → Bool
+is_lf b = b == 10
+
+-- a text without a line end is its one line
+pub lines_whole : (bs : List ℕ) → 0 < length bs → length bs ≤ position_or_len is_lf bs → lines bs ≡ bs ∷ lines []
+lines_whole bs some none = ap lines_of_parts (no_break is_lf bs none) ∙ lines_alone bs some
+
+-- the first line ends at the first line end
+pub lines_first : (bs : List ℕ) → position_or_len is_lf bs < length bs → lines bs ≡ strip_carriage_return (before_first is_lf bs) ∷ lines (after_first is_lf bs)
+lines_first bs there =
+    ap lines_of_parts (slice_split_first is_lf bs 0 there)
+    ∙ lines_before (before_first is_lf bs) (slice_split is_lf (after_first is_lf bs)) (omega (arith, length-slice_split is_lf (after_first is_lf bs)))
+
+-- what a search for a place answers
+pub place_none : (n m : ℕ) → None ≡ cond (ltb n m) (Some n) None → m ≤ n
+place_none n m e =
+    elim (cases_lt n m) [
+      inl less ↦ let f : None ≡ Some n = e ∙ ap (λ b. cond b (Some n) None) (lt-ltb n m less) in cc
+    | inr more ↦ more
+    ]
+
+pub place_some : (k n m : ℕ) → Some k ≡ cond (ltb n m) (Some n) None → (k ≡ n) × (n < m)
+place_some k n m e =
+    elim (cases_lt n m) [
+      inl less ↦ let f : Some k ≡ Some n = e ∙ ap (λ b. cond b (Some n) None) (lt-ltb n m less) in (cc, less)
+    | inr more ↦ let f : Some k ≡ None = e ∙ ap (λ b. cond b (Some n) None) (le-ltb n m more) in cc
+    ]
+
+-- what stands after a place, as a slice says it
+pub rest_after : (bs : List ℕ) (k : ℕ) → take (length bs - (k + 1)) (drop (k + 1) bs) ≡ drop (k + 1) bs
+rest_after bs k = take_rest bs (k + 1)
+
+-- values before those that are read next
+abbrev pub after_front : {V : Type 0} → List V → Result (List V) Rule → Result (List V) Rule
+after_front front (Ok vs) = Ok (front ++ vs)
+after_front front (Err rule) = Err rule
+
+pub front_none : {V : Type 0} (r : Result (List V) Rule) → after_front [] r ≡ r
+front_none (Ok vs) = refl
+front_none (Err rule) = refl
+
+front_more : {V : Type 0} (front : List V) (v : V) (r : Result (List V) Rule) → after_front front (onto v r) ≡ after_front (front ++ v ∷ []) r
+front_more front v (Ok vs) = ap Ok (sym (append_assoc front (v ∷ []) vs))
+front_more front v (Err rule) = refl
+
+abbrev is_filled : List ℕ → Bool
+is_filled line = not (length line == 0)
+
+filled_skip : (line bs rest : List ℕ) → lines bs ≡ line ∷ lines rest → length line ≡ 0 → filled_lines bs ≡ filled_lines rest
+filled_skip line bs rest e none = ap (filter is_filled) e ∙ ap (λ b. cond (not b) (line ∷ filled_lines rest) (filled_lines rest)) (eq-eqb (length line) 0 none)
+
+filled_keep : (line bs rest : List ℕ) → lines bs ≡ line ∷ lines rest → 0 < length line → filled_lines bs ≡ line ∷ filled_lines rest
+filled_keep line bs rest e some = ap (filter is_filled) e ∙ ap (λ b. cond (not b) (line ∷ filled_lines rest) (filled_lines rest)) (ne_eqb (length line) 0 (λ z. omega arith))
+
+-- an empty line is passed over
+pub each_skip : {V : Type 0} (read : List ℕ → Option V) (kind : RuleKind) (n : ℕ) (front : List V) (line bs rest : List ℕ) → lines bs ≡ line ∷ lines rest → length line ≡ 0
+    → after_front front (each_line read kind n (filled_lines rest)) ≡ after_front front (each_line read kind n (filled_lines bs))
+each_skip read kind n front line bs rest e none = ap (λ ls. after_front front (each_line read kind n ls)) (sym (filled_skip line bs rest e none))
+
+-- a line that is read gives the next value
+pub each_more : {V : Type 0} (read : List ℕ → Option V) (kind : RuleKind) (n : ℕ) (front : List V) (v : V) (line bs rest : List ℕ) → lines bs ≡ line ∷ lines rest → 0 < length line → read line ≡ Some v
+    → after_front (front ++ v ∷ []) (each_line read kind (n + 1) (filled_lines rest)) ≡ after_front front (each_line read kind n (filled_lines bs))
+each_more read kind n front v line bs rest e some is =
+    sym (ap (λ ls. after_front front (each_line read kind n ls)) (filled_keep line bs rest e some)
+    ∙ ap (λ o. after_front front (first_then o (at_line kind n) (each_line read kind (n + 1) (filled_lines rest)))) is
+    ∙ front_more front v (each_line read kind (n + 1) (filled_lines rest)))
+
+-- a line that isn't ends it
+pub each_bad : {V : Type 0} (read : List ℕ → Option V) (kind : RuleKind) (n : ℕ) (front : List V) (line bs rest : List ℕ) → lines bs ≡ line ∷ lines rest → 0 < length line → read line ≡ None
+    → after_front front (each_line read kind n (filled_lines bs)) ≡ Err (at_line kind n)
+each_bad read kind n front line bs rest e some is =
+    ap (λ ls. after_front front (each_line read kind n ls)) (filled_keep line bs rest e some)
+    ∙ ap (λ o. after_front front (first_then o (at_line kind n) (each_line read kind (n + 1) (filled_lines rest)))) is
+
+pub found_in : {V : Type 0} (o : Option V) (rule : Rule) (v : V) → ok_or o rule ≡ Ok v → o ≡ Some v
+found_in None rule v e = cc
+found_in (Some w) rule v e = cc
+
+-- what a line's reader refuses the file's reader refuses
+pub bad_answer : {X Y V W : Type 0} (view : X → V) (views : Y → W) (o : Option V) (rule : Rule) (total : Result W Rule) (refusal : Refusal) → Answers view (Err refusal) (ok_or o rule) → (o ≡ None → total ≡ Err rule) → Answers views (Err refusal) total
+bad_answer view views None rule total (refusals.Rule broken) h bad = let e : rule ≡ broken = cc in bad refl ∙ ap Err e
+bad_answer view views (Some v) rule total (refusals.Rule broken) h bad = cc
+bad_answer view views o rule total refusals.OutOfMemory h bad = tt

@@ -1,0 +1,50 @@
+-- The fields of an OPT line.
+use Rattle.std.proofs.Common.{◌≡◌, ℕ, ◌+◌, ◌-◌, ◌<◌, ◌≤◌, ◌==◌, Bool, true, false, not, cond, ltb, nat_lt, Option, Some, None, List, [], ◌∷◌, ◌++◌, length, take, drop, get_or, refl, sym, ap, arith, add-zero, ◌∙◌, inl, inr}
+use Rattle.std.specs.List.{slice_split, position_or_len, before_first, after_first, list_any}
+use Rattle.std.specs.Prelude.{slice_index_or}
+use Rattle.std.proofs.lemmas.Bool.{cases_Bool, cases_lt, ne_eqb, lt-ltb, le-ltb}
+use Rattle.std.proofs.lemmas.List.Splits.{slice_split_first, length-slice_split}
+use Rattle.std.proofs.lemmas.Str.{IsUtf8-from_is_utf8}
+use Rattle.std.specs.Str.{IsUtf8, is_utf8}
+use Rattle.bp_load.specs.Opt.{opt_line_of, page_of, has_count, are_of_form}
+use Rattle.bp_load.specs.OptFields.{seven}
+use Rattle.bp_load.proofs.LineLemmas.{no_break}
+
+abbrev pub is_comma : ℕ → Bool
+is_comma c = c == 44
+
+-- what the first field and the rest are, where a comma stands between them
+pub record Cuts (text field others : List ℕ) : Type 0 where
+  pub first : field ≡ slice_index_or (slice_split is_comma text) 0 []
+  pub rest : slice_split is_comma others ≡ drop 1 (slice_split is_comma text)
+  pub more : true ≡ nat_lt 1 (length (slice_split is_comma text))
+
+more_than_one : (x : List ℕ) (xs : List (List ℕ)) → 0 < length xs → true ≡ nat_lt 1 (length (x ∷ xs))
+more_than_one x xs some = sym (lt-ltb 1 (length (x ∷ xs)) (omega arith))
+
+cuts_of : (text field others : List ℕ) → slice_split is_comma text ≡ field ∷ slice_split is_comma others → Cuts text field others
+cuts_of text field others e = record {
+  first = sym (ap (λ fields. slice_index_or fields 0 []) e);
+  rest = sym (ap (drop 1) e);
+  more = more_than_one field (slice_split is_comma others) (omega (arith, length-slice_split is_comma others)) ∙ sym (ap (λ fields. nat_lt 1 (length fields)) e);
+}
+
+pub cuts : (text field others : List ℕ) → position_or_len is_comma text < length text → field ≡ before_first is_comma text → others ≡ after_first is_comma text → Cuts text field others
+cuts text field others there before after =
+    cuts_of text field others (slice_split_first is_comma text 0 there ∙ ap (λ x. x ∷ slice_split is_comma (after_first is_comma text)) (sym before) ∙ ap (λ y. field ∷ slice_split is_comma y) (sym after))
+
+-- bytes that aren't UTF-8 fail the test
+pub not_utf8 : (bs : List ℕ) → ¬ (IsUtf8 bs) → is_utf8 bs ≡ false
+not_utf8 bs no_text =
+    elim (cases_Bool (is_utf8 bs)) [
+      inl passes ↦ absurd (no_text (IsUtf8-from_is_utf8 bs passes))
+    | inr fails ↦ fails
+    ]
+
+pub opt_none : (line : List ℕ) → is_utf8 line ≡ false → opt_line_of line ≡ None
+opt_none line e = rw e refl
+
+pub opt_some : (line : List ℕ) (found : List (List ℕ)) → is_utf8 line ≡ true → list_any (λ c. c == 13) line ≡ false → has_count (slice_split is_comma line) ≡ true → found ≡ seven (slice_split is_comma line) → are_of_form found ≡ true → opt_line_of line ≡ Some (page_of found)
+opt_some line found text clean count same form =
+    let formed : are_of_form (slice_split is_comma line) ≡ true = ap are_of_form (sym same) ∙ form in
+    rw (text, clean, count, formed, same) refl

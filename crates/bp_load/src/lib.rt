@@ -1,0 +1,7 @@
+//! Load files, both ways: OPT (a line a page) and DAT (a line a document, and a line of column names).
+#![tactic(auto)]
+
+mod lines;
+mod opt;
+
+pub use opt::{OptLine, OptList, read_opt};

@@ -1,2 +1,4 @@
 pub mod LineLemmas
 pub mod OptLemmas
+pub mod TextLemmas
+pub mod OptWritten

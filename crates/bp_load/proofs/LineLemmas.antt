@@ -18,14 +18,14 @@ pub no_break : {X : Type 0} (p : X → Bool) → (xs : List X) → length xs ≤
 no_break p [] h = refl
 no_break p (x ∷ xs) h =
     elim (cases_Bool (p x)) [
-      inl passes ↦ absurd (omega (arith, ap (λ b. cond (not b) (1 + position_or_len p xs) 0) passes))
-    | inr fails ↦ slice_split-cons_no p x xs fails ∙ ap (onto_first x) (no_break p xs (omega (arith, ap (λ b. cond (not b) (1 + position_or_len p xs) 0) fails)))
+      | inl passes ↦ absurd (omega (arith, ap (λ b. cond (not b) (1 + position_or_len p xs) 0) passes))
+      | inr fails ↦ slice_split-cons_no p x xs fails ∙ ap (onto_first x) (no_break p xs (omega (arith, ap (λ b. cond (not b) (1 + position_or_len p xs) 0) fails)))
     ]
 
 lines_alone : (bs : List ℕ) → 0 < length bs → lines_of_parts (bs ∷ []) ≡ bs ∷ []
 lines_alone bs some = ap (λ b. cond b [] (bs ∷ [])) (ne_eqb (length bs) 0 (λ e. omega arith))
 
-lines_before : (x : List ℕ) (parts : List (List ℕ)) → 0 < length parts → lines_of_parts (x ∷ parts) ≡ strip_carriage_return x ∷ lines_of_parts parts
+pub lines_before : (x : List ℕ) (parts : List (List ℕ)) → 0 < length parts → lines_of_parts (x ∷ parts) ≡ strip_carriage_return x ∷ lines_of_parts parts
 lines_before x [] some = absurd (omega arith)
 lines_before x (y ∷ parts) some = refl
 
@@ -46,15 +46,15 @@ lines_first bs there =
 pub place_none : (n m : ℕ) → None ≡ cond (ltb n m) (Some n) None → m ≤ n
 place_none n m e =
     elim (cases_lt n m) [
-      inl less ↦ let f : None ≡ Some n = e ∙ ap (λ b. cond b (Some n) None) (lt-ltb n m less) in cc
-    | inr more ↦ more
+      | inl less ↦ let f : None ≡ Some n = e ∙ ap (λ b. cond b (Some n) None) (lt-ltb n m less) in cc
+      | inr more ↦ more
     ]
 
 pub place_some : (k n m : ℕ) → Some k ≡ cond (ltb n m) (Some n) None → (k ≡ n) × (n < m)
 place_some k n m e =
     elim (cases_lt n m) [
-      inl less ↦ let f : Some k ≡ Some n = e ∙ ap (λ b. cond b (Some n) None) (lt-ltb n m less) in (cc, less)
-    | inr more ↦ let f : Some k ≡ None = e ∙ ap (λ b. cond b (Some n) None) (le-ltb n m more) in cc
+      | inl less ↦ let f : Some k ≡ Some n = e ∙ ap (λ b. cond b (Some n) None) (lt-ltb n m less) in (cc, less)
+      | inr more ↦ let f : Some k ≡ None = e ∙ ap (λ b. cond b (Some n) None) (le-ltb n m more) in cc
     ]
 
 -- what stands after a place, as a slice says it
@@ -80,7 +80,7 @@ is_filled line = not (length line == 0)
 filled_skip : (line bs rest : List ℕ) → lines bs ≡ line ∷ lines rest → length line ≡ 0 → filled_lines bs ≡ filled_lines rest
 filled_skip line bs rest e none = ap (filter is_filled) e ∙ ap (λ b. cond (not b) (line ∷ filled_lines rest) (filled_lines rest)) (eq-eqb (length line) 0 none)
 
-filled_keep : (line bs rest : List ℕ) → lines bs ≡ line ∷ lines rest → 0 < length line → filled_lines bs ≡ line ∷ filled_lines rest
+pub filled_keep : (line bs rest : List ℕ) → lines bs ≡ line ∷ lines rest → 0 < length line → filled_lines bs ≡ line ∷ filled_lines rest
 filled_keep line bs rest e some = ap (filter is_filled) e ∙ ap (λ b. cond (not b) (line ∷ filled_lines rest) (filled_lines rest)) (ne_eqb (length line) 0 (λ z. omega arith))
 
 -- an empty line is passed over

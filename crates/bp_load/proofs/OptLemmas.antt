@@ -37,8 +37,8 @@ cuts text field others there before after =
 pub not_utf8 : (bs : List ℕ) → ¬ (IsUtf8 bs) → is_utf8 bs ≡ false
 not_utf8 bs no_text =
     elim (cases_Bool (is_utf8 bs)) [
-      inl passes ↦ absurd (no_text (IsUtf8-from_is_utf8 bs passes))
-    | inr fails ↦ fails
+      | inl passes ↦ absurd (no_text (IsUtf8-from_is_utf8 bs passes))
+      | inr fails ↦ fails
     ]
 
 pub opt_none : (line : List ℕ) → is_utf8 line ≡ false → opt_line_of line ≡ None

@@ -2,7 +2,7 @@
 use Rattle.std.specs.Prelude.{ℕ, Bool, true, List, [], ◌∷◌, ◌++◌, length, codes, nat_le, ◌==◌, ◌&&◌, ◌||◌, not, if◌then◌else◌, Option, Some, None, Result, slice_index_or, encode_utf8_all}
 use Rattle.std.specs.Char.{is_ascii_digit}
 use Rattle.std.specs.List.{slice_split, list_all, list_any, join_with_byte, flat_map}
-use Rattle.std.specs.Str.{chars, is_utf8, bytes_eq}
+use Rattle.std.specs.Str.{chars, is_utf8, bytes_eq, all_scalars}
 use Rattle.bp_core.specs.declared.rules.Rule.{Rule}
 use Rattle.bp_core.specs.declared.rules.RuleKind.TheVariants.{OptShape}
 use Rattle.bp_load.specs.declared.opt.OptLine.{OptLine}
@@ -75,8 +75,11 @@ abbrev pub opt_text : List OptLine → List ℕ
 opt_text lines = flat_map opt_line_text lines
 
 -- no comma, CR, LF or byte order mark
+abbrev pub is_plain_character : ℕ → Bool
+is_plain_character c = not (c == 44) && not (c == 13) && not (c == 10) && not (c == 0xFEFF)
+
 abbrev pub is_plain : List ℕ → Bool
-is_plain text = list_all (λ c. not ((c == 44) || (c == 13) || (c == 10) || (c == 0xFEFF))) text
+is_plain text = list_all is_plain_character text
 
 -- a line that can be written: plain texts, an image and a path, and a count
 abbrev pub is_opt_line : OptLine → Bool
@@ -87,3 +90,7 @@ is_opt_line line =
 -- lines that can be written
 abbrev pub are_opt_lines : List OptLine → Bool
 are_opt_lines lines = list_all is_opt_line lines
+
+-- the texts of a line are Unicode characters, as each text's are
+abbrev pub has_texts : OptLine → Bool
+has_texts line = all_scalars line.image && all_scalars line.volume && all_scalars line.path && all_scalars line.pages

@@ -4,4 +4,4 @@
 mod lines;
 mod opt;
 
-pub use opt::{OptLine, OptList, read_opt};
+pub use opt::{OptLine, OptList, opt_writable, read_opt, write_opt};

@@ -1,16 +1,16 @@
 // The OPT load file (Opticon): a line a page.
-ghost use Rattle.std.specs.Prelude.{◌≡◌, ◌==◌, true, false, ◌<◌, ◌^◌, length, drop, slice_index_or, [], nat_lt, is_some, IfOk, MatchOption};
+ghost use Rattle.std.specs.Prelude.{◌≡◌, ◌==◌, true, false, ◌<◌, ◌^◌, length, drop, slice_index_or, [], ◌∷◌, nat_lt, is_some, IfOk, OnOk, IsTrue, ◌++◌, encode_utf8_all, MatchOption};
 ghost use Rattle.std.specs.Option.{ok_or, option_copied};
 ghost use Rattle.std.specs.Char.{is_ascii_digit};
 ghost use Rattle.std.specs.List.{list_all, slice_split};
-ghost use Rattle.std.specs.Str.{chars};
+ghost use Rattle.std.specs.Str.{chars, all_scalars};
 ghost use Rattle.bp_core.specs.Answers.{Answers};
 ghost use Rattle.bp_load.specs.Lines.{at_line};
-ghost use Rattle.bp_load.specs.Opt.{opt_of, opt_line_of, is_flag, is_page_count, are_of_form, page_of, has_count};
+ghost use Rattle.bp_load.specs.Opt.{opt_of, opt_line_of, is_flag, is_page_count, are_of_form, page_of, has_count, is_plain, is_plain_character, is_opt_line, are_opt_lines, opt_line_text, opt_text, flag_text, has_texts};
 ghost use Rattle.bp_load.specs.OptFields.{fields_in, fields_of, seven};
 
 use crate::lines::{first_line, without_mark};
-use bp_core::{ListOf, OutOfMemory, Refusal, Rule, RuleKind, Text};
+use bp_core::{Bytes, ListOf, OutOfMemory, Refusal, Rule, RuleKind, Text};
 use std::alloc::Global;
 
 /// A page of a production: its image id, its volume and the path of its image, whether a document, a
@@ -89,7 +89,11 @@ fn form_of(line: &[u8]) -> Option<Fields<'_>>
     let Some(fields) = split_fields(text) else {
         return None;
     };
-    if is_of_form(&fields) { Some(fields) } else { None }
+    if is_of_form(&fields) {
+        Some(fields)
+    } else {
+        None
+    }
 }
 
 /// The three to seven fields between the commas, missing ones empty.
@@ -184,4 +188,92 @@ fn text_of(alloc: Global, text: &str) -> Result<Text, OutOfMemory>
     ensures { IfOk result (λ copied. copied ≡ chars text.now) }
 {
     Ok(Text::from_string(String::from_str(alloc, text)?))
+}
+
+/// Whether each line can be written: no comma, CR, LF or byte order mark in its texts, an image and a
+/// path, and pages that are empty or 1 to 9 digits.
+pub fn opt_writable(lines: &OptList) -> bool
+    ensures { result ≡ are_opt_lines lines.now }
+{
+    lines.as_slice().iter().all(|line| is_writable(line))
+}
+
+fn is_writable(line: &OptLine) -> bool
+    ensures { result ≡ is_opt_line line.now }
+{
+    is_plain(&line.image)
+        && is_plain(&line.volume)
+        && is_plain(&line.path)
+        && is_plain(&line.pages)
+        && !line.image.is_empty()
+        && !line.path.is_empty()
+        && is_count(&line.pages)
+}
+
+fn is_plain(text: &Text) -> bool
+    ensures { result ≡ is_plain text.now }
+{
+    text.as_str().chars().all(|c| is_plain_character(c))
+}
+
+fn is_plain_character(c: char) -> bool
+    ensures { result ≡ is_plain_character c }
+{
+    c != ',' && c != '\r' && c != '\n' && c != '\u{feff}'
+}
+
+fn is_count(text: &Text) -> bool
+    ensures { result ≡ is_page_count text.now }
+{
+    is_page_count(text.as_str().as_bytes())
+}
+
+/// The file of these lines: seven fields a line, each line ended by CR LF. Reading gives them back.
+pub fn write_opt(alloc: Global, lines: &OptList) -> Result<Bytes, OutOfMemory>
+    requires { IsTrue (are_opt_lines lines.now) }
+    ensures text { IfOk result (λ bytes. bytes ≡ opt_text lines.now) }
+    ensures read_back { IfOk result (λ bytes. opt_of bytes ≡ Ok lines.now) }
+{
+    let mut out = Vec::new(alloc);
+    for line in lines.as_slice() {
+        write_line(&mut out, line)?;
+    }
+    Ok(Bytes::from_vec(out))
+}
+
+/// Adds a line with its end.
+fn write_line(out: &mut Vec<u8>, line: &OptLine) -> Result<(), OutOfMemory>
+    ensures ok { OnOk result (out.new.items ≡ out.old.items ++ opt_line_text line.now) }
+    ensures texts { OnOk result (has_texts line.now ≡ true) }
+{
+    write_text(out, &line.image, b",")?;
+    write_text(out, &line.volume, b",")?;
+    write_text(out, &line.path, b",")?;
+    write_flag(out, line.doc_break)?;
+    write_flag(out, line.folder_break)?;
+    write_flag(out, line.box_break)?;
+    write_text(out, &line.pages, b"\r\n")
+}
+
+/// Adds a text, and what ends it.
+fn write_text(out: &mut Vec<u8>, text: &Text, end: &[u8]) -> Result<(), OutOfMemory>
+    ensures ok { OnOk result (out.new.items ≡ out.old.items ++ (encode_utf8_all text.now ++ end.now)) }
+    ensures scalars { OnOk result (all_scalars text.now ≡ true) }
+{
+    out.extend_from_slice(text.as_str().as_bytes())?;
+    out.extend_from_slice(end)?;
+    Ok(())
+}
+
+/// Adds `Y` or nothing, and a comma.
+fn write_flag(out: &mut Vec<u8>, is_set: bool) -> Result<(), OutOfMemory>
+    ensures { OnOk result (out.new.items ≡ out.old.items ++ (flag_text is_set ++ 44 ∷ [])) }
+{
+    let text = if is_set {
+        b"Y,".as_slice()
+    } else {
+        b",".as_slice()
+    };
+    out.extend_from_slice(text)?;
+    Ok(())
 }

@@ -1,10 +1,11 @@
 -- The first line of a text and the lines after it.
-use Rattle.std.proofs.Common.{◌≡◌, ℕ, ◌+◌, ◌-◌, ◌<◌, ◌≤◌, ◌==◌, Bool, true, false, not, cond, ltb, Result, Ok, Err, filter, append_assoc, Option, Some, None, List, [], ◌∷◌, ◌++◌, length, take, drop, refl, sym, ap, arith, ◌∙◌, inl, inr, length-append}
+use Rattle.std.proofs.Common.{◌≡◌, ℕ, ◌+◌, ◌-◌, ◌<◌, ◌≤◌, ◌==◌, Bool, true, false, not, cond, ltb, nat_lt, Result, Ok, Err, filter, append_assoc, Option, Some, None, List, [], ◌∷◌, ◌++◌, length, take, drop, refl, sym, ap, arith, ◌∙◌, inl, inr, length-append}
 use Rattle.std.specs.List.{slice_split, onto_first, position_or_len, before_first, after_first, count_by}
 use Rattle.std.specs.Str.Lines.{lines, lines_of_parts, strip_carriage_return}
 use Rattle.std.proofs.lemmas.Bool.{cases_Bool, cases_lt, ne_eqb, eq-eqb, lt-ltb, le-ltb}
 use Rattle.std.proofs.lemmas.List.{take_rest, length-drop}
 use Rattle.std.specs.Option.{ok_or}
+use Rattle.std.specs.Prelude.{slice_index_or}
 use Rattle.bp_core.specs.Answers.{Answers}
 use Rattle.bp_core.specs.declared.refusals.Refusal.{Refusal}
 use Rattle.bp_core.specs.declared.refusals.Refusal.TheVariants as refusals
@@ -112,3 +113,27 @@ pub bad_answer : {X Y V W : Type 0} (view : X → V) (views : Y → W) (o : Opti
 bad_answer view views None rule total (refusals.Rule broken) h bad = let e : rule ≡ broken = cc in bad refl ∙ ap Err e
 bad_answer view views (Some v) rule total (refusals.Rule broken) h bad = cc
 bad_answer view views o rule total refusals.OutOfMemory h bad = tt
+
+-- the test of a separator
+abbrev pub is_at : ℕ → ℕ → Bool
+is_at separator c = c == separator
+
+-- what the first field and the rest are, where a comma stands between them
+pub record Cuts (separator : ℕ) (text field others : List ℕ) : Type 0 where
+  pub first : field ≡ slice_index_or (slice_split (is_at separator) text) 0 []
+  pub rest : slice_split (is_at separator) others ≡ drop 1 (slice_split (is_at separator) text)
+  pub more : true ≡ nat_lt 1 (length (slice_split (is_at separator) text))
+
+more_than_one : (x : List ℕ) (xs : List (List ℕ)) → 0 < length xs → true ≡ nat_lt 1 (length (x ∷ xs))
+more_than_one x xs some = sym (lt-ltb 1 (length (x ∷ xs)) (omega arith))
+
+cuts_of : (separator : ℕ) (text field others : List ℕ) → slice_split (is_at separator) text ≡ field ∷ slice_split (is_at separator) others → Cuts separator text field others
+cuts_of separator text field others e = record {
+  first = sym (ap (λ fields. slice_index_or fields 0 []) e);
+  rest = sym (ap (drop 1) e);
+  more = more_than_one field (slice_split (is_at separator) others) (omega (arith, length-slice_split (is_at separator) others)) ∙ sym (ap (λ fields. nat_lt 1 (length fields)) e);
+}
+
+pub cuts : (separator : ℕ) (text field others : List ℕ) → position_or_len (is_at separator) text < length text → field ≡ before_first (is_at separator) text → others ≡ after_first (is_at separator) text → Cuts separator text field others
+cuts separator text field others there before after =
+    cuts_of separator text field others (slice_split_first (is_at separator) text 0 there ∙ ap (λ x. x ∷ slice_split (is_at separator) (after_first (is_at separator) text)) (sym before) ∙ ap (λ y. field ∷ slice_split (is_at separator) y) (sym after))

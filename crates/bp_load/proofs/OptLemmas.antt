@@ -13,26 +13,6 @@ use Rattle.bp_load.proofs.LineLemmas.{no_break}
 abbrev pub is_comma : ℕ → Bool
 is_comma c = c == 44
 
--- what the first field and the rest are, where a comma stands between them
-pub record Cuts (text field others : List ℕ) : Type 0 where
-  pub first : field ≡ slice_index_or (slice_split is_comma text) 0 []
-  pub rest : slice_split is_comma others ≡ drop 1 (slice_split is_comma text)
-  pub more : true ≡ nat_lt 1 (length (slice_split is_comma text))
-
-more_than_one : (x : List ℕ) (xs : List (List ℕ)) → 0 < length xs → true ≡ nat_lt 1 (length (x ∷ xs))
-more_than_one x xs some = sym (lt-ltb 1 (length (x ∷ xs)) (omega arith))
-
-cuts_of : (text field others : List ℕ) → slice_split is_comma text ≡ field ∷ slice_split is_comma others → Cuts text field others
-cuts_of text field others e = record {
-  first = sym (ap (λ fields. slice_index_or fields 0 []) e);
-  rest = sym (ap (drop 1) e);
-  more = more_than_one field (slice_split is_comma others) (omega (arith, length-slice_split is_comma others)) ∙ sym (ap (λ fields. nat_lt 1 (length fields)) e);
-}
-
-pub cuts : (text field others : List ℕ) → position_or_len is_comma text < length text → field ≡ before_first is_comma text → others ≡ after_first is_comma text → Cuts text field others
-cuts text field others there before after =
-    cuts_of text field others (slice_split_first is_comma text 0 there ∙ ap (λ x. x ∷ slice_split is_comma (after_first is_comma text)) (sym before) ∙ ap (λ y. field ∷ slice_split is_comma y) (sym after))
-
 -- bytes that aren't UTF-8 fail the test
 pub not_utf8 : (bs : List ℕ) → ¬ (IsUtf8 bs) → is_utf8 bs ≡ false
 not_utf8 bs no_text =

@@ -1,3 +1,5 @@
+pub mod Dat
+pub mod Fields
 pub mod Lines
 pub mod Opt
 pub mod OptFields

@@ -1,13 +1,7 @@
 -- The fields of an OPT line, as the reader holds them.
-use Rattle.std.specs.Prelude.{ℕ, List, [], ◌∷◌, ◌==◌, Option, Some, None}
-use Rattle.std.specs.List.{slice_split}
+use Rattle.std.specs.Prelude.{ℕ, List, [], ◌∷◌}
 use Rattle.bp_load.specs.declared.opt.Fields.{Fields}
 use Rattle.bp_load.specs.Opt.{field}
-
--- the fields in what is left of a line; none where nothing is
-abbrev pub fields_in : Option (List ℕ) → List (List ℕ)
-fields_in None = []
-fields_in (Some text) = slice_split (λ c. c == 44) text
 
 -- the seven fields as a list
 abbrev pub fields_of : Fields → List (List ℕ)

@@ -7,8 +7,9 @@ ghost use Rattle.std.specs.Str.{chars, all_scalars};
 ghost use Rattle.bp_core.specs.Answers.{Answers};
 ghost use Rattle.bp_load.specs.Lines.{at_line};
 ghost use Rattle.bp_load.specs.Opt.{opt_of, opt_line_of, is_flag, is_page_count, are_of_form, page_of, has_count, is_plain, is_plain_character, is_opt_line, are_opt_lines, opt_line_text, opt_text, flag_text, has_texts};
-ghost use Rattle.bp_load.specs.OptFields.{fields_in, fields_of, seven};
+ghost use Rattle.bp_load.specs.OptFields.{fields_of, seven};
 
+use crate::fields::next_field;
 use crate::lines::{first_line, without_mark};
 use bp_core::{Bytes, ListOf, OutOfMemory, Refusal, Rule, RuleKind, Text};
 use std::alloc::Global;
@@ -101,16 +102,16 @@ fn split_fields(text: &str) -> Option<Fields<'_>>
     ensures { let fields = slice_split (λ c. c == 44) text.now in
         MatchOption result (has_count fields ≡ false) (λ found. (has_count fields ≡ true) × (fields_of found ≡ seven fields)) }
 {
-    let (image, rest) = next_field(Some(text));
-    let (volume, rest) = next_field(rest);
+    let (image, rest) = next_field(Some(text), ',');
+    let (volume, rest) = next_field(rest, ',');
     if rest.is_none() {
         return None;
     }
-    let (path, rest) = next_field(rest);
-    let (doc_break, rest) = next_field(rest);
-    let (folder_break, rest) = next_field(rest);
-    let (box_break, rest) = next_field(rest);
-    let (pages, rest) = next_field(rest);
+    let (path, rest) = next_field(rest, ',');
+    let (doc_break, rest) = next_field(rest, ',');
+    let (folder_break, rest) = next_field(rest, ',');
+    let (box_break, rest) = next_field(rest, ',');
+    let (pages, rest) = next_field(rest, ',');
     if rest.is_some() {
         return None;
     }
@@ -123,21 +124,6 @@ fn split_fields(text: &str) -> Option<Fields<'_>>
         box_break,
         pages,
     })
-}
-
-/// The field up to the next comma, and what follows that comma. A missing field is empty.
-fn next_field(rest: Option<&str>) -> (&str, Option<&str>)
-    ensures field { result.0.now ≡ slice_index_or (fields_in (option_copied rest.entry)) 0 [] }
-    ensures others { fields_in (option_copied result.1) ≡ drop 1 (fields_in (option_copied rest.entry)) }
-    ensures more { is_some result.1 ≡ nat_lt 1 (length (fields_in (option_copied rest.entry))) }
-{
-    let Some(text) = rest else {
-        return ("", None);
-    };
-    match text.split_once(',') {
-        Some((field, others)) => (field, Some(others)),
-        None => (text, None),
-    }
 }
 
 fn is_of_form(fields: &Fields) -> bool
@@ -277,3 +263,6 @@ fn write_flag(out: &mut Vec<u8>, is_set: bool) -> Result<(), OutOfMemory>
     out.extend_from_slice(text)?;
     Ok(())
 }
+
+#[cfg(test)]
+mod tests;

@@ -2,3 +2,4 @@ pub mod LineLemmas
 pub mod OptLemmas
 pub mod TextLemmas
 pub mod OptWritten
+pub mod DatLemmas

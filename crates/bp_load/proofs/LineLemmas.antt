@@ -1,9 +1,15 @@
 -- The first line of a text and the lines after it.
-use Rattle.std.proofs.Common.{◌≡◌, ℕ, ◌+◌, ◌-◌, ◌<◌, ◌≤◌, ◌==◌, Bool, true, false, not, cond, ltb, nat_lt, Result, Ok, Err, filter, append_assoc, Option, Some, None, List, [], ◌∷◌, ◌++◌, length, take, drop, refl, sym, ap, arith, ◌∙◌, inl, inr, length-append}
-use Rattle.std.specs.List.{slice_split, onto_first, position_or_len, before_first, after_first, count_by}
+use Rattle.std.proofs.Common.{◌≡◌, ◌≢◌, lit<, ℕ, Bor, get_or, nat_eq, encode_utf8, ◌+◌, ◌-◌, ◌<◌, ◌≤◌, ◌==◌, Bool, true, false, not, cond, ltb, nat_lt, Result, Ok, Err, filter, append_assoc, Option, Some, None, List, [], ◌∷◌, ◌++◌, length, take, drop, refl, sym, ap, arith, ◌∙◌, inl, inr, length-append}
+use Rattle.std.specs.Option.{MatchOption, unwrap_or}
+use Rattle.std.specs.Char.{len_utf8}
+use Rattle.std.specs.Str.Pattern.{FindsCharPrefix, HasCharAt}
+use Rattle.std.proofs.Math.Utf8.{encode}
+use Rattle.std.proofs.Math.Seq.{get_or-append_seam}
+use Rattle.std.proofs.lemmas.Slice.Eq.{bytes_eq-Decides}
+use Rattle.std.specs.List.{starts_with, slice_split, onto_first, position_or_len, before_first, after_first, count_by}
 use Rattle.std.specs.Str.Lines.{lines, lines_of_parts, strip_carriage_return}
-use Rattle.std.proofs.lemmas.Bool.{cases_Bool, cases_lt, ne_eqb, eq-eqb, lt-ltb, le-ltb}
-use Rattle.std.proofs.lemmas.List.{take_rest, length-drop}
+use Rattle.std.proofs.lemmas.Bool.{cases_Bool, cases_lt, ne_eqb, eq-eqb, eqb-true, lt-ltb, le-ltb}
+use Rattle.std.proofs.lemmas.List.{take_rest, take_at, take-append-drop, drop_more, drop_all}
 use Rattle.std.specs.Option.{ok_or}
 use Rattle.std.specs.Prelude.{slice_index_or}
 use Rattle.bp_core.specs.Answers.{Answers}
@@ -11,7 +17,7 @@ use Rattle.bp_core.specs.declared.refusals.Refusal.{Refusal}
 use Rattle.bp_core.specs.declared.refusals.Refusal.TheVariants as refusals
 use Rattle.bp_core.specs.declared.rules.Rule.{Rule}
 use Rattle.bp_core.specs.declared.rules.RuleKind.{RuleKind}
-use Rattle.bp_load.specs.Lines.{filled_lines, each_line, first_then, onto, at_line}
+use Rattle.bp_load.specs.Lines.{without_mark, byte_order_mark, filled_lines, each_line, first_then, onto, at_line}
 use Rattle.std.proofs.lemmas.List.Splits.{slice_split_first, slice_split-cons_no, length-slice_split}
 
 -- what follows an index is what stands after the first that passes
@@ -78,7 +84,7 @@ front_more front v (Err rule) = refl
 abbrev is_filled : List ℕ → Bool
 is_filled line = not (length line == 0)
 
-filled_skip : (line bs rest : List ℕ) → lines bs ≡ line ∷ lines rest → length line ≡ 0 → filled_lines bs ≡ filled_lines rest
+pub filled_skip : (line bs rest : List ℕ) → lines bs ≡ line ∷ lines rest → length line ≡ 0 → filled_lines bs ≡ filled_lines rest
 filled_skip line bs rest e none = ap (filter is_filled) e ∙ ap (λ b. cond (not b) (line ∷ filled_lines rest) (filled_lines rest)) (eq-eqb (length line) 0 none)
 
 pub filled_keep : (line bs rest : List ℕ) → lines bs ≡ line ∷ lines rest → 0 < length line → filled_lines bs ≡ line ∷ filled_lines rest
@@ -90,19 +96,27 @@ pub each_skip : {V : Type 0} (read : List ℕ → Option V) (kind : RuleKind) (n
 each_skip read kind n front line bs rest e none = ap (λ ls. after_front front (each_line read kind n ls)) (sym (filled_skip line bs rest e none))
 
 -- a line that is read gives the next value
-pub each_more : {V : Type 0} (read : List ℕ → Option V) (kind : RuleKind) (n : ℕ) (front : List V) (v : V) (line bs rest : List ℕ) → lines bs ≡ line ∷ lines rest → 0 < length line → read line ≡ Some v
+pub next_more : {V : Type 0} (read : List ℕ → Option V) (kind : RuleKind) (n : ℕ) (front : List V) (v : V) (line bs rest : List ℕ) → filled_lines bs ≡ line ∷ filled_lines rest → read line ≡ Some v
     → after_front (front ++ v ∷ []) (each_line read kind (n + 1) (filled_lines rest)) ≡ after_front front (each_line read kind n (filled_lines bs))
-each_more read kind n front v line bs rest e some is =
-    sym (ap (λ ls. after_front front (each_line read kind n ls)) (filled_keep line bs rest e some)
+next_more read kind n front v line bs rest e is =
+    sym (ap (λ ls. after_front front (each_line read kind n ls)) e
     ∙ ap (λ o. after_front front (first_then o (at_line kind n) (each_line read kind (n + 1) (filled_lines rest)))) is
     ∙ front_more front v (each_line read kind (n + 1) (filled_lines rest)))
 
+pub each_more : {V : Type 0} (read : List ℕ → Option V) (kind : RuleKind) (n : ℕ) (front : List V) (v : V) (line bs rest : List ℕ) → lines bs ≡ line ∷ lines rest → 0 < length line → read line ≡ Some v
+    → after_front (front ++ v ∷ []) (each_line read kind (n + 1) (filled_lines rest)) ≡ after_front front (each_line read kind n (filled_lines bs))
+each_more read kind n front v line bs rest e some is = next_more read kind n front v line bs rest (filled_keep line bs rest e some) is
+
 -- a line that isn't ends it
+pub next_bad : {V : Type 0} (read : List ℕ → Option V) (kind : RuleKind) (n : ℕ) (front : List V) (line bs rest : List ℕ) → filled_lines bs ≡ line ∷ filled_lines rest → read line ≡ None
+    → after_front front (each_line read kind n (filled_lines bs)) ≡ Err (at_line kind n)
+next_bad read kind n front line bs rest e is =
+    ap (λ ls. after_front front (each_line read kind n ls)) e
+    ∙ ap (λ o. after_front front (first_then o (at_line kind n) (each_line read kind (n + 1) (filled_lines rest)))) is
+
 pub each_bad : {V : Type 0} (read : List ℕ → Option V) (kind : RuleKind) (n : ℕ) (front : List V) (line bs rest : List ℕ) → lines bs ≡ line ∷ lines rest → 0 < length line → read line ≡ None
     → after_front front (each_line read kind n (filled_lines bs)) ≡ Err (at_line kind n)
-each_bad read kind n front line bs rest e some is =
-    ap (λ ls. after_front front (each_line read kind n ls)) (filled_keep line bs rest e some)
-    ∙ ap (λ o. after_front front (first_then o (at_line kind n) (each_line read kind (n + 1) (filled_lines rest)))) is
+each_bad read kind n front line bs rest e some is = next_bad read kind n front line bs rest (filled_keep line bs rest e some) is
 
 pub found_in : {V : Type 0} (o : Option V) (rule : Rule) (v : V) → ok_or o rule ≡ Ok v → o ≡ Some v
 found_in None rule v e = cc
@@ -137,3 +151,51 @@ cuts_of separator text field others e = record {
 pub cuts : (separator : ℕ) (text field others : List ℕ) → position_or_len (is_at separator) text < length text → field ≡ before_first (is_at separator) text → others ≡ after_first (is_at separator) text → Cuts separator text field others
 cuts separator text field others there before after =
     cuts_of separator text field others (slice_split_first (is_at separator) text 0 there ∙ ap (λ x. x ∷ slice_split (is_at separator) (after_first (is_at separator) text)) (sym before) ∙ ap (λ y. field ∷ slice_split (is_at separator) y) (sym after))
+
+strip_with : (b : List ℕ) → strip_carriage_return (b ++ 13 ∷ []) ≡ b
+strip_with b =
+    let l : List ℕ = b ++ 13 ∷ [] in
+    let e : length (b ++ 13 ∷ []) - 1 ≡ length b = omega (arith, length-append b (13 ∷ [])) in
+    ap (λ n. cond (get_or l n 0 == 13) (take n l) l) e ∙ ap (λ x. cond (x == 13) (take (length b) l) l) (get_or-append_seam b 13 [] 0) ∙ take_at b (13 ∷ []) (length b) refl
+
+pub ends_in : (d : ℕ) (bs : List ℕ) → 0 < d → get_or bs (length bs - 1) 0 ≡ d → bs ≡ take (length bs - 1) bs ++ d ∷ []
+ends_in d [] some e = absurd (omega (arith, e))
+ends_in d (b ∷ bs) some e =
+    let l : List ℕ = b ∷ bs in
+    let n : ℕ = length l - 1 in
+    sym (take-append-drop n l) ∙ ap (λ xs. take n l ++ xs) (drop_more l n 0 (omega arith) ∙ ap (λ x. x ∷ drop (n + 1) l) e ∙ ap (λ xs. d ∷ xs) (drop_all (n + 1) l (omega arith)))
+
+strip_without : (bs : List ℕ) → ((front : List ℕ) → bs ≢ front ++ 13 ∷ []) → strip_carriage_return bs ≡ bs
+strip_without bs other =
+    elim (cases_Bool (get_or bs (length bs - 1) 0 == 13)) [
+      inl ends ↦ absurd (other (take (length bs - 1) bs) (ends_in 13 bs (lit< tt) (eqb-true _ 13 ends)))
+    | inr not_there ↦ ap (λ b. cond b (take (length bs - 1) bs) bs) not_there
+    ]
+
+-- a line without its CR, as `strip_suffix` and `unwrap_or` give it
+pub stripped : (line : Bor (List ℕ)) (r : Option (Bor (List ℕ))) → MatchOption r ((front : List ℕ) → line.now ≢ front ++ 13 ∷ []) (λ x. line.now ≡ x.now ++ 13 ∷ []) → (unwrap_or r line).now ≡ strip_carriage_return line.now
+stripped line None h = sym (strip_without line.now h)
+stripped line (Some x) h = sym (ap strip_carriage_return h ∙ strip_with x.now)
+
+-- the mark at the head, as bytes and as a character
+pub mark_bytes : (bytes : List ℕ) → starts_with nat_eq bytes byte_order_mark ≡ true → bytes ≡ encode_utf8 0xFEFF ++ drop 3 bytes
+unfolding encode
+mark_bytes bytes h = sym (take-append-drop 3 bytes) ∙ ap (λ front. front ++ drop 3 bytes) (sym ((bytes_eq-Decides byte_order_mark (take 3 bytes)).0 h))
+
+mark_starts : (rest : List ℕ) → starts_with nat_eq (encode_utf8 0xFEFF ++ rest) byte_order_mark ≡ true
+unfolding encode
+mark_starts rest = refl
+
+three : len_utf8 0xFEFF ≡ 3
+three = refl
+
+-- a text without its mark, as `strip_prefix` and `unwrap_or` give it
+pub unmarked : (text : Bor (List ℕ)) (r : Option (Bor (List ℕ))) → MatchOption r (FindsCharPrefix 0xFEFF text.now None) (λ x. (n : ℕ) × FindsCharPrefix 0xFEFF text.now (Some n) × (x.now ≡ drop n text.now) × (length x.now + n ≡ length text.now)) → (unwrap_or r text).now ≡ without_mark text.now
+unmarked text None h =
+    elim (cases_Bool (starts_with nat_eq text.now byte_order_mark)) [
+      inl marked ↦ absurd (h (drop 3 text.now) (mark_bytes text.now marked))
+    | inr plainly ↦ sym (ap (λ b. cond b (drop 3 text.now) text.now) plainly)
+    ]
+unmarked text (Some x) h =
+    let starts : starts_with nat_eq text.now byte_order_mark ≡ true = ap (λ t. starts_with nat_eq t byte_order_mark) h.1.split ∙ mark_starts (drop h.0 text.now) in
+    h.2 ∙ ap (λ n. drop n text.now) (h.1.ends ∙ three) ∙ sym (ap (λ b. cond b (drop 3 text.now) text.now) starts)

@@ -20,7 +20,7 @@ use Rattle.bp_load.specs.Lines.{without_mark, byte_order_mark, filled_lines, eac
 use Rattle.bp_load.specs.declared.opt.OptLine.{OptLine}
 use Rattle.bp_core.specs.declared.rules.RuleKind.TheVariants.{OptShape}
 use Rattle.bp_load.proofs.OptLemmas.{is_comma, opt_some}
-use Rattle.bp_load.proofs.LineLemmas.{is_lf, lines_before, filled_keep}
+use Rattle.bp_load.proofs.LineLemmas.{is_lf, lines_before, filled_keep, mark_bytes}
 use Rattle.bp_load.proofs.TextLemmas.{passing_bytes, failing_bytes, own_bytes, weaker}
 
 no_digit : (b : ℕ) → 128 ≤ b → is_ascii_digit b ≡ false
@@ -276,10 +276,6 @@ written_lines n (line ∷ ls) h texts =
     ap (each_line opt_line_of OptShape n) (filled_keep (line_bytes line) (opt_text (line ∷ ls)) (opt_text ls) (ended_line (line_bytes line) (opt_text ls) (no_breaks line fits)) (some_line line fits))
     ∙ ap (λ o. first_then o (at_line OptShape n) (each_line opt_line_of OptShape (n + 1) (filled_lines (opt_text ls)))) (read_line line fits (texts_of line text.0))
     ∙ ap (onto line) later
-
-mark_bytes : (bytes : List ℕ) → starts_with nat_eq bytes byte_order_mark ≡ true → bytes ≡ encode_utf8 0xFEFF ++ drop 3 bytes
-unfolding encode
-mark_bytes bytes h = sym (take-append-drop 3 bytes) ∙ ap (λ front. front ++ drop 3 bytes) (sym ((bytes_eq-Decides byte_order_mark (take 3 bytes)).0 h))
 
 not_mark : (image rest : List ℕ) → is_plain image ≡ true → not (length image == 0) ≡ true → without_mark (encode_utf8_all image ++ rest) ≡ encode_utf8_all image ++ rest
 not_mark [] rest plain some = let e : false ≡ true = some in cc

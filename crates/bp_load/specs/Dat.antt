@@ -4,16 +4,8 @@ use Rattle.std.specs.List.{slice_split, list_all, join_with_byte, flat_map}
 use Rattle.std.specs.Str.{chars, is_utf8}
 use Rattle.bp_core.specs.declared.rules.Rule.{Rule}
 use Rattle.bp_core.specs.declared.rules.RuleKind.TheVariants.{DatShape, DatEncoding}
+use Rattle.bp_load.specs.Table.{Table}
 use Rattle.bp_load.specs.Lines.{without_mark, filled_lines, each_line, at_line}
-
--- column names, and rows of cells, each text as its characters
-pub record Table : Type 0 where
-  pub columns : List (List ℕ)
-  pub rows : List (List (List ℕ))
-
--- each row is as long as the columns
-abbrev pub is_even : Table → Bool
-is_even table = list_all (λ row. length row == length table.columns) table.rows
 
 -- the quote U+00FE stands at both ends
 abbrev pub is_quoted : List ℕ → Bool

@@ -3,3 +3,4 @@ pub mod Fields
 pub mod Lines
 pub mod Opt
 pub mod OptFields
+pub mod Table

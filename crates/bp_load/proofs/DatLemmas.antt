@@ -1,0 +1,86 @@
+-- The quotes and the values of a DAT line.
+use Rattle.std.proofs.Common.{◌≡◌, ◌≢◌, lit<, ℕ, Bor, get_or, encode_utf8, encode_utf8_all, ◌+◌, ◌-◌, ◌<◌, ◌≤◌, ◌==◌, Bool, true, false, ◌&&◌, not, cond, nat_le, Option, Some, None, List, [], ◌∷◌, ◌++◌, length, take, drop, refl, sym, ap, arith, ◌∙◌, inl, inr, length-append, append-nil, suc, subst}
+use Rattle.std.specs.Option.{MatchOption}
+use Rattle.std.specs.Char.{len_utf8}
+use Rattle.std.specs.Str.{chars, IsUtf8}
+use Rattle.std.specs.Str.Pattern.{FindsCharPrefix, FindsCharSuffix}
+use Rattle.std.proofs.Math.Seq.{get_or-append_seam}
+use Rattle.std.proofs.lemmas.Bool.{cases_Bool, and_parts, and_from, eqb-true, eq-eqb, leb-true, le-leb}
+use Rattle.std.proofs.lemmas.Bool.Decides.{nat_tests}
+use Rattle.std.proofs.lemmas.List.{take_at, take-append-drop, drop_all}
+use Rattle.std.proofs.lemmas.Str.{encodes-chars, encodes-append, chars-append, chars-encodes, chars_past_char, IsUtf8-past_char, IsUtf8-take}
+use Rattle.bp_load.specs.Dat.{is_quoted, inside}
+use Rattle.bp_load.proofs.LineLemmas.{ends_in}
+
+begins : (cs : List ℕ) → get_or cs 0 0 ≡ 254 → cs ≡ 254 ∷ drop 1 cs
+begins [] e = absurd (omega (arith, e))
+begins (c ∷ cs) e = ap (λ x. x ∷ cs) e
+
+first_quote : (cs : List ℕ) → is_quoted cs ≡ true → get_or cs 0 0 ≡ 254
+first_quote cs h = eqb-true (get_or cs 0 0) 254 (and_parts _ _ (and_parts _ _ h).0).1
+
+last_quote : (cs : List ℕ) → is_quoted cs ≡ true → get_or cs (length cs - 1) 0 ≡ 254
+last_quote cs h = eqb-true (get_or cs (length cs - 1) 0) 254 (and_parts _ _ h).1
+
+two : (cs : List ℕ) → is_quoted cs ≡ true → 2 ≤ length cs
+two cs h = leb-true 2 (length cs) (and_parts _ _ (and_parts _ _ h).0).0
+
+-- a text that doesn't begin with the quote
+pub no_front : (s : List ℕ) → IsUtf8 s → ((rest : List ℕ) → s ≢ encode_utf8 254 ++ rest) → is_quoted (chars s) ≡ false
+no_front s text other =
+    elim (cases_Bool (is_quoted (chars s))) [
+      inl quoted ↦ absurd (other (encode_utf8_all (drop 1 (chars s))) (sym (encodes-chars s text) ∙ ap encode_utf8_all (begins (chars s) (first_quote (chars s) quoted))))
+    | inr other' ↦ other'
+    ]
+
+tail_last : (c : ℕ) (es : List ℕ) → 0 < length es → get_or (c ∷ es) (length (c ∷ es) - 1) 0 ≡ get_or es (length es - 1) 0
+tail_last c es some =
+    let e : length (c ∷ es) - 1 ≡ suc (length es - 1) = omega arith in
+    ap (λ n. get_or (c ∷ es) n 0) e
+
+-- a text that begins with the quote, and doesn't end with another
+no_end : (x : List ℕ) → IsUtf8 x → ((front : List ℕ) → x ≢ front ++ encode_utf8 254) → is_quoted (254 ∷ chars x) ≡ false
+no_end x text other =
+    let es : List ℕ = chars x in
+    elim (cases_Bool (is_quoted (254 ∷ es))) [
+      inl quoted ↦ absurd (
+        let some : 0 < length es = omega (arith, two (254 ∷ es) quoted) in
+        let last = sym (tail_last 254 es some) ∙ last_quote (254 ∷ es) quoted in
+        other (encode_utf8_all (take (length es - 1) es))
+        (sym (encodes-chars x text) ∙ ap encode_utf8_all (ends_in 254 es (lit< tt) last) ∙ encodes-append (take (length es - 1) es) (254 ∷ []) ∙ ap (λ q. encode_utf8_all (take (length es - 1) es) ++ q) (append-nil (encode_utf8 254))))
+    | inr other' ↦ other'
+    ]
+
+both : (fs : List ℕ) → (is_quoted (254 ∷ (fs ++ 254 ∷ [])) ≡ true) × (fs ≡ inside (254 ∷ (fs ++ 254 ∷ [])))
+both fs =
+    let cs : List ℕ = 254 ∷ (fs ++ 254 ∷ []) in
+    let size : length cs ≡ length fs + 2 = omega (arith, length-append fs (254 ∷ [])) in
+    let before : length cs - 1 ≡ suc (length fs) = omega arith in
+    let middle : length cs - 2 ≡ length fs = omega arith in
+    let last : get_or cs (length cs - 1) 0 ≡ 254 = ap (λ n. get_or cs n 0) before ∙ get_or-append_seam fs 254 [] 0 in
+    (and_from _ _ (and_from _ _ (le-leb 2 (length cs) (omega arith)) refl) (eq-eqb _ 254 last),
+        sym (ap (λ n. take n (fs ++ 254 ∷ [])) middle ∙ take_at fs (254 ∷ []) (length fs) refl))
+
+-- the quote alone
+one_quote : chars (encode_utf8 254) ≡ 254 ∷ []
+one_quote = ap chars (sym (append-nil (encode_utf8 254))) ∙ chars-encodes (254 ∷ []) refl
+
+pub unquoted_facts : (s x : List ℕ) (r : Option (Bor (List ℕ))) → IsUtf8 x → chars s ≡ 254 ∷ chars x
+    → MatchOption r (FindsCharSuffix 254 x None) (λ y. (n : ℕ) × FindsCharSuffix 254 x (Some n) × (y.now ≡ take (length x - n) x) × (length y.now + n ≡ length x))
+    → MatchOption r (is_quoted (chars s) ≡ false) (λ inner. (is_quoted (chars s) ≡ true) × (chars inner.now ≡ inside (chars s)))
+unquoted_facts s x None text e h = ap is_quoted e ∙ no_end x text h
+unquoted_facts s x (Some y) text e h =
+    let n : ℕ = h.0 in
+    let P : List ℕ → Type 0 = λ t. IsUtf8 t in
+    let front : IsUtf8 y.now = subst P (ap (λ k. take (length x - k) x) (sym h.1.0) ∙ sym h.2) (IsUtf8-take x (length x - len_utf8 254) text h.1.2) in
+    let cut : x ≡ y.now ++ encode_utf8 254 = sym (take-append-drop (length x - n) x) ∙ ap (λ f. f ++ drop (length x - n) x) (sym h.2)
+      ∙ ap (λ t. y.now ++ t) (h.1.1.split ∙ ap (λ t. encode_utf8 254 ++ t) (drop_all (length x) x (omega arith)) ∙ append-nil (encode_utf8 254)) in
+    let es : chars s ≡ 254 ∷ (chars y.now ++ 254 ∷ []) = e ∙ ap (λ t. 254 ∷ t) (ap chars cut ∙ chars-append y.now (encode_utf8 254) front ∙ ap (λ t. chars y.now ++ t) one_quote) in
+    let k = both (chars y.now) in
+    (ap is_quoted es ∙ k.0, k.1 ∙ sym (ap inside es))
+
+-- what is left after the first quote
+pub after_quote : (s x : List ℕ) (n : ℕ) → IsUtf8 s → FindsCharPrefix 254 s (Some n) → x ≡ drop n s → IsUtf8 x × (chars s ≡ 254 ∷ chars x)
+after_quote s x n text h e =
+    let P : List ℕ → Type 0 = λ t. IsUtf8 t in
+    (subst P (sym e) (IsUtf8-past_char s (drop n s) 254 text h.split), chars_past_char s (drop n s) 254 text h.split ∙ ap (λ t. 254 ∷ chars t) (sym e))

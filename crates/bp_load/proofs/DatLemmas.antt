@@ -1,16 +1,20 @@
 -- The quotes and the values of a DAT line.
-use Rattle.std.proofs.Common.{◌≡◌, ◌≢◌, lit<, ℕ, Bor, get_or, encode_utf8, encode_utf8_all, ◌+◌, ◌-◌, ◌<◌, ◌≤◌, ◌==◌, Bool, true, false, ◌&&◌, not, cond, nat_le, Option, Some, None, List, [], ◌∷◌, ◌++◌, length, take, drop, refl, sym, ap, arith, ◌∙◌, inl, inr, length-append, append-nil, suc, subst}
-use Rattle.std.specs.Option.{MatchOption}
+use Rattle.std.proofs.Common.{◌≡◌, ◌≢◌, lit<, ℕ, Bor, get_or, encode_utf8, encode_utf8_all, ◌+◌, ◌-◌, ◌<◌, ◌≤◌, ◌==◌, Bool, true, false, ◌&&◌, not, cond, nat_le, Option, Some, None, List, [], ◌∷◌, ◌++◌, length, take, drop, refl, sym, ap, arith, ◌∙◌, inl, inr, length-append, append-nil, suc, subst, map, append_assoc, is_some}
+use Rattle.std.specs.Prelude.{slice_index_or}
+use Rattle.std.proofs.lemmas.List.Splits.{length-slice_split}
+use Rattle.std.specs.List.{list_all}
+use Rattle.std.specs.Option.{MatchOption, option_copied}
 use Rattle.std.specs.Char.{len_utf8}
 use Rattle.std.specs.Str.{chars, IsUtf8}
 use Rattle.std.specs.Str.Pattern.{FindsCharPrefix, FindsCharSuffix}
 use Rattle.std.proofs.Math.Seq.{get_or-append_seam}
 use Rattle.std.proofs.lemmas.Bool.{cases_Bool, and_parts, and_from, eqb-true, eq-eqb, leb-true, le-leb}
 use Rattle.std.proofs.lemmas.Bool.Decides.{nat_tests}
-use Rattle.std.proofs.lemmas.List.{take_at, take-append-drop, drop_all}
-use Rattle.std.proofs.lemmas.Str.{encodes-chars, encodes-append, chars-append, chars-encodes, chars_past_char, IsUtf8-past_char, IsUtf8-take}
-use Rattle.bp_load.specs.Dat.{is_quoted, inside}
-use Rattle.bp_load.proofs.LineLemmas.{ends_in}
+use Rattle.std.proofs.lemmas.List.{take_at, take-append-drop, drop_all, map-append}
+use Rattle.std.proofs.lemmas.Str.{encodes-chars, encodes-append, chars-append, chars-encodes, chars_past_char, IsUtf8-past_char, IsUtf8-take, chars_from_encodes}
+use Rattle.bp_load.specs.Dat.{is_quoted, inside, is_inner, read_character, quoted_value, together, each_value, values_of, of_number, row_of}
+use Rattle.bp_load.proofs.LineLemmas.{ends_in, is_at}
+use Rattle.bp_load.specs.Fields.{fields_in}
 
 begins : (cs : List ℕ) → get_or cs 0 0 ≡ 254 → cs ≡ 254 ∷ drop 1 cs
 begins [] e = absurd (omega (arith, e))
@@ -84,3 +88,60 @@ pub after_quote : (s x : List ℕ) (n : ℕ) → IsUtf8 s → FindsCharPrefix 25
 after_quote s x n text h e =
     let P : List ℕ → Type 0 = λ t. IsUtf8 t in
     (subst P (sym e) (IsUtf8-past_char s (drop n s) 254 text h.split), chars_past_char s (drop n s) 254 text h.split ∙ ap (λ t. 254 ∷ chars t) (sym e))
+
+-- one character more is read
+pub one_read_more : (cs : List ℕ) (c : ℕ) → encode_utf8_all (map read_character cs) ++ encode_utf8 (read_character c) ≡ encode_utf8_all (map read_character (cs ++ c ∷ []))
+one_read_more cs c =
+    sym (ap encode_utf8_all (map-append read_character cs (c ∷ [])) ∙ encodes-append (map read_character cs) (read_character c ∷ [])
+    ∙ ap (λ q. encode_utf8_all (map read_character cs) ++ q) (append-nil (encode_utf8 (read_character c))))
+
+-- the value of what a text reads as
+pub value_some : (piece inner text bytes : List ℕ) → is_quoted piece ≡ true → inner ≡ inside piece → list_all is_inner inner ≡ true → text ≡ chars bytes → IsUtf8 bytes → bytes ≡ encode_utf8_all (map read_character inner) → Some text ≡ quoted_value piece
+value_some piece inner text bytes quoted same fine e utf8 read =
+    let values : text ≡ map read_character (inside piece) = e ∙ sym (chars_from_encodes (map read_character inner) bytes utf8 (sym read)) ∙ ap (map read_character) same in
+    let passes : list_all is_inner (inside piece) ≡ true = ap (list_all is_inner) (sym same) ∙ fine in
+    rw (quoted, passes) (ap Some values)
+
+pub map_same : (xs : List ℕ) → map (λ x. x) xs ≡ xs
+map_same [] = refl
+map_same (x ∷ xs) = ap (λ ys. x ∷ ys) (map_same xs)
+
+-- values before those that are read next
+abbrev pub values_after : List (List ℕ) → Option (List (List ℕ)) → Option (List (List ℕ))
+values_after front None = None
+values_after front (Some vs) = Some (front ++ vs)
+
+pub values_first : (o : Option (List (List ℕ))) → values_after [] o ≡ o
+values_first None = refl
+values_first (Some vs) = refl
+
+pub values_more : (front : List (List ℕ)) (v : List ℕ) (o : Option (List (List ℕ))) → values_after (front ++ v ∷ []) o ≡ values_after front (together (Some v) o)
+values_more front v None = refl
+values_more front v (Some vs) = ap Some (append_assoc front (v ∷ []) vs)
+
+none_together : (o : Option (List (List ℕ))) → together None o ≡ None
+none_together o = refl
+
+-- the first field and those after it
+pub fields_cons : (fields : List (List ℕ)) (piece : List ℕ) (rest : List (List ℕ)) → 0 < length fields → piece ≡ slice_index_or fields 0 [] → rest ≡ drop 1 fields → fields ≡ piece ∷ rest
+fields_cons [] piece rest some e f = absurd (omega arith)
+fields_cons (x ∷ xs) piece rest some e f = ap (λ p. p ∷ xs) (sym e) ∙ ap (λ r. piece ∷ r) (sym f)
+
+some_fields : (separator : ℕ) (rest : Option (Bor (List ℕ))) → is_some rest ≡ true → 0 < length (fields_in separator (option_copied rest))
+some_fields separator None h = cc
+some_fields separator (Some text) h = omega (arith, length-slice_split (is_at separator) text.now)
+
+-- the next piece and those after it
+pub pieces_cons : (rest after : Option (Bor (List ℕ))) (piece : List ℕ) → is_some rest ≡ true → piece ≡ slice_index_or (fields_in 0x14 (option_copied rest)) 0 []
+    → fields_in 0x14 (option_copied after) ≡ drop 1 (fields_in 0x14 (option_copied rest)) → fields_in 0x14 (option_copied rest) ≡ piece ∷ fields_in 0x14 (option_copied after)
+pieces_cons rest after piece some first others = fields_cons (fields_in 0x14 (option_copied rest)) piece (fields_in 0x14 (option_copied after)) (some_fields 0x14 rest some) first others
+
+-- a piece that is a value is the next of them
+pub value_next : (front : List (List ℕ)) (pieces later : List (List ℕ)) (piece v : List ℕ) → pieces ≡ piece ∷ later → Some v ≡ quoted_value (chars piece) → values_after (front ++ v ∷ []) (each_value later) ≡ values_after front (each_value pieces)
+value_next front pieces later piece v e is =
+    values_more front v (each_value later) ∙ ap (λ o. values_after front (together o (each_value later))) is ∙ sym (ap (λ ps. values_after front (each_value ps)) e)
+
+-- a piece that is none ends them
+pub value_bad : (front : List (List ℕ)) (pieces later : List (List ℕ)) (piece : List ℕ) → pieces ≡ piece ∷ later → None ≡ quoted_value (chars piece) → None ≡ values_after front (each_value pieces)
+value_bad front pieces later piece e is =
+    ap (λ o. values_after front (together o (each_value later))) is ∙ sym (ap (λ ps. values_after front (each_value ps)) e)

@@ -1,5 +1,5 @@
 // The DAT load file (Concordance): a line of column names, and a line a record.
-ghost use Rattle.std.specs.Prelude.{◌≡◌, ◌+◌, ◌<◌, ◌^◌, ◌∷◌, [], length, true, false, IfOk, IsTrue, MatchOption, map};
+ghost use Rattle.std.specs.Prelude.{◌≡◌, ◌+◌, ◌<◌, ◌^◌, ◌∷◌, [], length, true, false, IfOk, IsTrue, MatchOption, map, encode_utf8_all};
 ghost use Rattle.std.specs.List.{list_all};
 ghost use Rattle.std.specs.Option.{ok_or};
 ghost use Rattle.std.specs.Str.{chars};
@@ -161,7 +161,7 @@ fn read_value(alloc: Global, piece: &str) -> Result<Option<Text>, OutOfMemory>
     let Some(inner) = unquoted(piece) else {
         return Ok(None);
     };
-    if !inner.chars().all(|c| is_inner(c)) {
+    if !are_inner(inner) {
         return Ok(None);
     }
     let text = with_newlines(alloc, inner)?;
@@ -176,6 +176,12 @@ fn unquoted(piece: &str) -> Option<&str>
     piece.strip_prefix('\u{fe}')?.strip_suffix('\u{fe}')
 }
 
+fn are_inner(text: &str) -> bool
+    ensures { result ≡ list_all is_inner (chars text.now) }
+{
+    text.chars().all(|c| is_inner(c))
+}
+
 fn is_inner(c: char) -> bool
     ensures { result ≡ is_inner c }
 {
@@ -184,9 +190,13 @@ fn is_inner(c: char) -> bool
 
 /// The text with a newline for each sign of one.
 fn with_newlines(alloc: Global, text: &str) -> Result<String, OutOfMemory>
-    ensures { IfOk result (λ read. chars (string_bytes read) ≡ map read_character (chars text.now)) }
+    ensures { IfOk result (λ read. string_bytes read ≡ encode_utf8_all (map read_character (chars text.now))) }
 {
-    Ok(text.chars().map(|c| read_character(c)).collect(alloc)?)
+    let mut read = String::with_capacity(alloc, text.len())?;
+    for c in text.chars() {
+        read.push(read_character(c))?;
+    }
+    Ok(read)
 }
 
 fn read_character(c: char) -> char

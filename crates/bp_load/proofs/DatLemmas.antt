@@ -33,8 +33,8 @@ two cs h = leb-true 2 (length cs) (and_parts _ _ (and_parts _ _ h).0).0
 pub no_front : (s : List ℕ) → IsUtf8 s → ((rest : List ℕ) → s ≢ encode_utf8 254 ++ rest) → is_quoted (chars s) ≡ false
 no_front s text other =
     elim (cases_Bool (is_quoted (chars s))) [
-      inl quoted ↦ absurd (other (encode_utf8_all (drop 1 (chars s))) (sym (encodes-chars s text) ∙ ap encode_utf8_all (begins (chars s) (first_quote (chars s) quoted))))
-    | inr other' ↦ other'
+      | inl quoted ↦ absurd (other (encode_utf8_all (drop 1 (chars s))) (sym (encodes-chars s text) ∙ ap encode_utf8_all (begins (chars s) (first_quote (chars s) quoted))))
+      | inr other' ↦ other'
     ]
 
 tail_last : (c : ℕ) (es : List ℕ) → 0 < length es → get_or (c ∷ es) (length (c ∷ es) - 1) 0 ≡ get_or es (length es - 1) 0
@@ -47,12 +47,12 @@ no_end : (x : List ℕ) → IsUtf8 x → ((front : List ℕ) → x ≢ front ++ 
 no_end x text other =
     let es : List ℕ = chars x in
     elim (cases_Bool (is_quoted (254 ∷ es))) [
-      inl quoted ↦ absurd (
-        let some : 0 < length es = omega (arith, two (254 ∷ es) quoted) in
-        let last = sym (tail_last 254 es some) ∙ last_quote (254 ∷ es) quoted in
-        other (encode_utf8_all (take (length es - 1) es))
-        (sym (encodes-chars x text) ∙ ap encode_utf8_all (ends_in 254 es (lit< tt) last) ∙ encodes-append (take (length es - 1) es) (254 ∷ []) ∙ ap (λ q. encode_utf8_all (take (length es - 1) es) ++ q) (append-nil (encode_utf8 254))))
-    | inr other' ↦ other'
+      | inl quoted ↦ absurd (
+          let some : 0 < length es = omega (arith, two (254 ∷ es) quoted) in
+          let last = sym (tail_last 254 es some) ∙ last_quote (254 ∷ es) quoted in
+          other (encode_utf8_all (take (length es - 1) es))
+          (sym (encodes-chars x text) ∙ ap encode_utf8_all (ends_in 254 es (lit< tt) last) ∙ encodes-append (take (length es - 1) es) (254 ∷ []) ∙ ap (λ q. encode_utf8_all (take (length es - 1) es) ++ q) (append-nil (encode_utf8 254))))
+      | inr other' ↦ other'
     ]
 
 both : (fs : List ℕ) → (is_quoted (254 ∷ (fs ++ 254 ∷ [])) ≡ true) × (fs ≡ inside (254 ∷ (fs ++ 254 ∷ [])))
@@ -61,9 +61,10 @@ both fs =
     let size : length cs ≡ length fs + 2 = omega (arith, length-append fs (254 ∷ [])) in
     let before : length cs - 1 ≡ suc (length fs) = omega arith in
     let middle : length cs - 2 ≡ length fs = omega arith in
-    let last : get_or cs (length cs - 1) 0 ≡ 254 = ap (λ n. get_or cs n 0) before ∙ get_or-append_seam fs 254 [] 0 in
-    (and_from _ _ (and_from _ _ (le-leb 2 (length cs) (omega arith)) refl) (eq-eqb _ 254 last),
-        sym (ap (λ n. take n (fs ++ 254 ∷ [])) middle ∙ take_at fs (254 ∷ []) (length fs) refl))
+    let last : get_or cs (length cs - 1) 0 ≡ 254 = ap (λ n. get_or cs n 0) before ∙ get_or-append_seam fs 254 [] 0 in (
+      and_from _ _ (and_from _ _ (le-leb 2 (length cs) (omega arith)) refl) (eq-eqb _ 254 last),
+      sym (ap (λ n. take n (fs ++ 254 ∷ [])) middle ∙ take_at fs (254 ∷ []) (length fs) refl),
+    )
 
 -- the quote alone
 one_quote : chars (encode_utf8 254) ≡ 254 ∷ []
@@ -78,7 +79,7 @@ unquoted_facts s x (Some y) text e h =
     let P : List ℕ → Type 0 = λ t. IsUtf8 t in
     let front : IsUtf8 y.now = subst P (ap (λ k. take (length x - k) x) (sym h.1.0) ∙ sym h.2) (IsUtf8-take x (length x - len_utf8 254) text h.1.2) in
     let cut : x ≡ y.now ++ encode_utf8 254 = sym (take-append-drop (length x - n) x) ∙ ap (λ f. f ++ drop (length x - n) x) (sym h.2)
-      ∙ ap (λ t. y.now ++ t) (h.1.1.split ∙ ap (λ t. encode_utf8 254 ++ t) (drop_all (length x) x (omega arith)) ∙ append-nil (encode_utf8 254)) in
+    ∙ ap (λ t. y.now ++ t) (h.1.1.split ∙ ap (λ t. encode_utf8 254 ++ t) (drop_all (length x) x (omega arith)) ∙ append-nil (encode_utf8 254)) in
     let es : chars s ≡ 254 ∷ (chars y.now ++ 254 ∷ []) = e ∙ ap (λ t. 254 ∷ t) (ap chars cut ∙ chars-append y.now (encode_utf8 254) front ∙ ap (λ t. chars y.now ++ t) one_quote) in
     let k = both (chars y.now) in
     (ap is_quoted es ∙ k.0, k.1 ∙ sym (ap inside es))

@@ -3,3 +3,4 @@ pub mod OptLemmas
 pub mod TextLemmas
 pub mod OptWritten
 pub mod DatLemmas
+pub mod DatTables

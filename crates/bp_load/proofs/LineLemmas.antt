@@ -168,8 +168,8 @@ ends_in d (b ∷ bs) some e =
 strip_without : (bs : List ℕ) → ((front : List ℕ) → bs ≢ front ++ 13 ∷ []) → strip_carriage_return bs ≡ bs
 strip_without bs other =
     elim (cases_Bool (get_or bs (length bs - 1) 0 == 13)) [
-      inl ends ↦ absurd (other (take (length bs - 1) bs) (ends_in 13 bs (lit< tt) (eqb-true _ 13 ends)))
-    | inr not_there ↦ ap (λ b. cond b (take (length bs - 1) bs) bs) not_there
+      | inl ends ↦ absurd (other (take (length bs - 1) bs) (ends_in 13 bs (lit< tt) (eqb-true _ 13 ends)))
+      | inr not_there ↦ ap (λ b. cond b (take (length bs - 1) bs) bs) not_there
     ]
 
 -- a line without its CR, as `strip_suffix` and `unwrap_or` give it
@@ -193,8 +193,8 @@ three = refl
 pub unmarked : (text : Bor (List ℕ)) (r : Option (Bor (List ℕ))) → MatchOption r (FindsCharPrefix 0xFEFF text.now None) (λ x. (n : ℕ) × FindsCharPrefix 0xFEFF text.now (Some n) × (x.now ≡ drop n text.now) × (length x.now + n ≡ length text.now)) → (unwrap_or r text).now ≡ without_mark text.now
 unmarked text None h =
     elim (cases_Bool (starts_with nat_eq text.now byte_order_mark)) [
-      inl marked ↦ absurd (h (drop 3 text.now) (mark_bytes text.now marked))
-    | inr plainly ↦ sym (ap (λ b. cond b (drop 3 text.now) text.now) plainly)
+      | inl marked ↦ absurd (h (drop 3 text.now) (mark_bytes text.now marked))
+      | inr plainly ↦ sym (ap (λ b. cond b (drop 3 text.now) text.now) plainly)
     ]
 unmarked text (Some x) h =
     let starts : starts_with nat_eq text.now byte_order_mark ≡ true = ap (λ t. starts_with nat_eq t byte_order_mark) h.1.split ∙ mark_starts (drop h.0 text.now) in

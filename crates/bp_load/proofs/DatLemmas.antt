@@ -1,18 +1,17 @@
 -- The quotes and the values of a DAT line.
-use Rattle.std.proofs.Common.{◌≡◌, ◌≢◌, lit<, ℕ, Bor, get_or, encode_utf8, encode_utf8_all, ◌+◌, ◌-◌, ◌<◌, ◌≤◌, ◌==◌, Bool, true, false, ◌&&◌, not, cond, nat_le, Option, Some, None, List, [], ◌∷◌, ◌++◌, length, take, drop, refl, sym, ap, arith, ◌∙◌, inl, inr, length-append, append-nil, suc, subst, map, append_assoc, is_some}
+use Rattle.std.proofs.Common.{◌≡◌, ◌≢◌, lit<, ℕ, Bor, get_or, encode_utf8, encode_utf8_all, ◌+◌, ◌-◌, ◌<◌, ◌≤◌, true, false, Option, Some, None, List, [], ◌∷◌, ◌++◌, length, take, drop, refl, sym, ap, arith, ◌∙◌, inl, inr, length-append, append-nil, suc, subst, map, append_assoc, is_some}
 use Rattle.std.specs.Prelude.{slice_index_or}
 use Rattle.std.proofs.lemmas.List.Splits.{length-slice_split}
-use Rattle.std.specs.List.{list_all}
+use Rattle.std.specs.List.{list_all, flat_map, join_with_byte}
 use Rattle.std.specs.Option.{MatchOption, option_copied}
 use Rattle.std.specs.Char.{len_utf8}
 use Rattle.std.specs.Str.{chars, IsUtf8}
 use Rattle.std.specs.Str.Pattern.{FindsCharPrefix, FindsCharSuffix}
 use Rattle.std.proofs.Math.Seq.{get_or-append_seam}
 use Rattle.std.proofs.lemmas.Bool.{cases_Bool, and_parts, and_from, eqb-true, eq-eqb, leb-true, le-leb}
-use Rattle.std.proofs.lemmas.Bool.Decides.{nat_tests}
 use Rattle.std.proofs.lemmas.List.{take_at, take-append-drop, drop_all, map-append}
 use Rattle.std.proofs.lemmas.Str.{encodes-chars, encodes-append, chars-append, chars-encodes, chars_past_char, IsUtf8-past_char, IsUtf8-take, chars_from_encodes}
-use Rattle.bp_load.specs.Dat.{is_quoted, inside, is_inner, read_character, quoted_value, together, each_value, values_of, of_number, row_of}
+use Rattle.bp_load.specs.Dat.{is_quoted, inside, is_inner, read_character, write_character, quoted, dat_values_text, quoted_value, together, each_value}
 use Rattle.bp_load.proofs.LineLemmas.{ends_in, is_at}
 use Rattle.bp_load.specs.Fields.{fields_in}
 
@@ -55,7 +54,7 @@ no_end x text other =
       | inr other' ↦ other'
     ]
 
-both : (fs : List ℕ) → (is_quoted (254 ∷ (fs ++ 254 ∷ [])) ≡ true) × (fs ≡ inside (254 ∷ (fs ++ 254 ∷ [])))
+pub both : (fs : List ℕ) → (is_quoted (254 ∷ (fs ++ 254 ∷ [])) ≡ true) × (fs ≡ inside (254 ∷ (fs ++ 254 ∷ [])))
 both fs =
     let cs : List ℕ = 254 ∷ (fs ++ 254 ∷ []) in
     let size : length cs ≡ length fs + 2 = omega (arith, length-append fs (254 ∷ [])) in
@@ -90,11 +89,10 @@ after_quote s x n text h e =
     let P : List ℕ → Type 0 = λ t. IsUtf8 t in
     (subst P (sym e) (IsUtf8-past_char s (drop n s) 254 text h.split), chars_past_char s (drop n s) 254 text h.split ∙ ap (λ t. 254 ∷ chars t) (sym e))
 
--- one character more is read
-pub one_read_more : (cs : List ℕ) (c : ℕ) → encode_utf8_all (map read_character cs) ++ encode_utf8 (read_character c) ≡ encode_utf8_all (map read_character (cs ++ c ∷ []))
-one_read_more cs c =
-    sym (ap encode_utf8_all (map-append read_character cs (c ∷ [])) ∙ encodes-append (map read_character cs) (read_character c ∷ [])
-    ∙ ap (λ q. encode_utf8_all (map read_character cs) ++ q) (append-nil (encode_utf8 (read_character c))))
+-- one character more is read, or written
+pub one_more : (f : ℕ → ℕ) (cs : List ℕ) (c : ℕ) → encode_utf8_all (map f cs) ++ encode_utf8 (f c) ≡ encode_utf8_all (map f (cs ++ c ∷ []))
+one_more f cs c =
+    sym (ap encode_utf8_all (map-append f cs (c ∷ [])) ∙ encodes-append (map f cs) (f c ∷ []) ∙ ap (λ q. encode_utf8_all (map f cs) ++ q) (append-nil (encode_utf8 (f c))))
 
 -- the value of what a text reads as
 pub value_some : (piece inner text bytes : List ℕ) → is_quoted piece ≡ true → inner ≡ inside piece → list_all is_inner inner ≡ true → text ≡ chars bytes → IsUtf8 bytes → bytes ≡ encode_utf8_all (map read_character inner) → Some text ≡ quoted_value piece
@@ -146,3 +144,22 @@ value_next front pieces later piece v e is =
 pub value_bad : (front : List (List ℕ)) (pieces later : List (List ℕ)) (piece : List ℕ) → pieces ≡ piece ∷ later → None ≡ quoted_value (chars piece) → None ≡ values_after front (each_value pieces)
 value_bad front pieces later piece e is =
     ap (λ o. values_after front (together o (each_value later))) is ∙ sym (ap (λ ps. values_after front (each_value ps)) e)
+
+-- the parts of a written value
+pub quoted_parts : (old cs : List ℕ) → ((old ++ encode_utf8 254) ++ encode_utf8_all (map write_character cs)) ++ encode_utf8 254 ≡ old ++ encode_utf8_all (quoted cs)
+quoted_parts old cs =
+    let middle : List ℕ = encode_utf8_all (map write_character cs) in
+    append_assoc (old ++ encode_utf8 254) middle (encode_utf8 254) ∙ append_assoc old (encode_utf8 254) (middle ++ encode_utf8 254)
+    ∙ ap (λ t. old ++ (encode_utf8 254 ++ t)) (ap (λ q. middle ++ q) (sym (append-nil (encode_utf8 254))) ∙ sym (encodes-append (map write_character cs) (254 ∷ [])))
+
+-- a value, and each other after a separator
+pub joined_flat : (f : List ℕ → List ℕ) (v : List ℕ) (vs : List (List ℕ)) → f v ++ flat_map (λ x. 0x14 ∷ f x) vs ≡ join_with_byte 0x14 (map f (v ∷ vs))
+joined_flat f v [] = append-nil (f v)
+joined_flat f v (w ∷ ws) = ap (λ t. f v ++ (0x14 ∷ t)) (joined_flat f w ws)
+
+pub values_parts : (values : List (List ℕ)) (first : List ℕ) (others : List (List ℕ)) (old o1 o2 : List ℕ) → values ≡ first ∷ others → o1 ≡ old ++ encode_utf8_all (quoted first)
+    → o2 ≡ o1 ++ flat_map (λ value. 0x14 ∷ encode_utf8_all (quoted value)) others → o2 ≡ old ++ dat_values_text values
+values_parts values first others old o1 o2 e e1 e2 =
+    let f : List ℕ → List ℕ = λ value. encode_utf8_all (quoted value) in
+    e2 ∙ ap (λ o. o ++ flat_map (λ x. 0x14 ∷ f x) others) e1 ∙ append_assoc old (f first) (flat_map (λ x. 0x14 ∷ f x) others)
+    ∙ ap (λ t. old ++ t) (joined_flat f first others ∙ ap dat_values_text (sym e))

@@ -1,11 +1,11 @@
 -- The rows of a table that was read, and the file as a whole.
-use Rattle.std.proofs.Common.{◌≡◌, ℕ, ◌+◌, ◌==◌, Bool, true, false, ◌&&◌, cond, Option, Some, None, Result, Ok, Err, List, [], ◌∷◌, length, refl, sym, ap, ◌∙◌, inl, inr, subst}
+use Rattle.std.proofs.Common.{◌≡◌, ℕ, ◌+◌, ◌==◌, true, false, cond, Option, Some, None, Result, Ok, Err, List, [], ◌∷◌, length, refl, sym, ap, ◌∙◌, inl, inr}
 use Rattle.std.specs.List.{list_all}
 use Rattle.std.specs.Str.{is_utf8}
 use Rattle.std.proofs.lemmas.Bool.{cases_Bool, and_from}
 use Rattle.bp_core.specs.declared.rules.Rule.{Rule}
 use Rattle.bp_core.specs.declared.rules.RuleKind.TheVariants.{DatShape, DatEncoding}
-use Rattle.bp_load.specs.Lines.{without_mark, filled_lines, each_line, first_then, onto, at_line}
+use Rattle.bp_load.specs.Lines.{without_mark, filled_lines, each_line, first_then, at_line}
 use Rattle.bp_load.specs.Dat.{dat_of, table_of, row_of, of_number, values_of}
 
 of_number_is : (n : ℕ) (o : Option (List (List ℕ))) (v : List (List ℕ)) → of_number n o ≡ Some v → (length v == n) ≡ true

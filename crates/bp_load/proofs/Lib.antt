@@ -4,3 +4,6 @@ pub mod TextLemmas
 pub mod OptWritten
 pub mod DatLemmas
 pub mod DatTables
+pub mod JoinLemmas
+pub mod EndedLines
+pub mod DatWritten

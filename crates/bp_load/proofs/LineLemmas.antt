@@ -1,12 +1,12 @@
 -- The first line of a text and the lines after it.
-use Rattle.std.proofs.Common.{◌≡◌, ◌≢◌, lit<, ℕ, Bor, get_or, nat_eq, encode_utf8, ◌+◌, ◌-◌, ◌<◌, ◌≤◌, ◌==◌, Bool, true, false, not, cond, ltb, nat_lt, Result, Ok, Err, filter, append_assoc, Option, Some, None, List, [], ◌∷◌, ◌++◌, length, take, drop, refl, sym, ap, arith, ◌∙◌, inl, inr, length-append}
+use Rattle.std.proofs.Common.{◌≡◌, ◌≢◌, lit<, ℕ, Bor, get_or, nat_eq, encode_utf8, ◌+◌, ◌-◌, ◌<◌, ◌≤◌, ◌==◌, Bool, true, not, cond, ltb, nat_lt, Result, Ok, Err, filter, append_assoc, Option, Some, None, List, [], ◌∷◌, ◌++◌, length, take, drop, refl, sym, ap, arith, ◌∙◌, inl, inr, length-append}
 use Rattle.std.specs.Option.{MatchOption, unwrap_or}
 use Rattle.std.specs.Char.{len_utf8}
-use Rattle.std.specs.Str.Pattern.{FindsCharPrefix, HasCharAt}
+use Rattle.std.specs.Str.Pattern.{FindsCharPrefix}
 use Rattle.std.proofs.Math.Utf8.{encode}
 use Rattle.std.proofs.Math.Seq.{get_or-append_seam}
 use Rattle.std.proofs.lemmas.Slice.Eq.{bytes_eq-Decides}
-use Rattle.std.specs.List.{starts_with, slice_split, onto_first, position_or_len, before_first, after_first, count_by}
+use Rattle.std.specs.List.{starts_with, slice_split, onto_first, position_or_len, before_first, after_first}
 use Rattle.std.specs.Str.Lines.{lines, lines_of_parts, strip_carriage_return}
 use Rattle.std.proofs.lemmas.Bool.{cases_Bool, cases_lt, ne_eqb, eq-eqb, eqb-true, lt-ltb, le-ltb}
 use Rattle.std.proofs.lemmas.List.{take_rest, take_at, take-append-drop, drop_more, drop_all}
@@ -152,7 +152,7 @@ pub cuts : (separator : ℕ) (text field others : List ℕ) → position_or_len 
 cuts separator text field others there before after =
     cuts_of separator text field others (slice_split_first (is_at separator) text 0 there ∙ ap (λ x. x ∷ slice_split (is_at separator) (after_first (is_at separator) text)) (sym before) ∙ ap (λ y. field ∷ slice_split (is_at separator) y) (sym after))
 
-strip_with : (b : List ℕ) → strip_carriage_return (b ++ 13 ∷ []) ≡ b
+pub strip_with : (b : List ℕ) → strip_carriage_return (b ++ 13 ∷ []) ≡ b
 strip_with b =
     let l : List ℕ = b ++ 13 ∷ [] in
     let e : length (b ++ 13 ∷ []) - 1 ≡ length b = omega (arith, length-append b (13 ∷ [])) in

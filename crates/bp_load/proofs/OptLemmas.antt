@@ -1,14 +1,11 @@
 -- The fields of an OPT line.
-use Rattle.std.proofs.Common.{◌≡◌, ℕ, ◌+◌, ◌-◌, ◌<◌, ◌≤◌, ◌==◌, Bool, true, false, not, cond, ltb, nat_lt, Option, Some, None, List, [], ◌∷◌, ◌++◌, length, take, drop, get_or, refl, sym, ap, arith, add-zero, ◌∙◌, inl, inr}
-use Rattle.std.specs.List.{slice_split, position_or_len, before_first, after_first, list_any}
-use Rattle.std.specs.Prelude.{slice_index_or}
-use Rattle.std.proofs.lemmas.Bool.{cases_Bool, cases_lt, ne_eqb, lt-ltb, le-ltb}
-use Rattle.std.proofs.lemmas.List.Splits.{slice_split_first, length-slice_split}
+use Rattle.std.proofs.Common.{◌≡◌, ℕ, ◌==◌, Bool, true, false, Some, None, List, refl, sym, ap, ◌∙◌, inl, inr}
+use Rattle.std.specs.List.{slice_split, list_any}
+use Rattle.std.proofs.lemmas.Bool.{cases_Bool}
 use Rattle.std.proofs.lemmas.Str.{IsUtf8-from_is_utf8}
 use Rattle.std.specs.Str.{IsUtf8, is_utf8}
 use Rattle.bp_load.specs.Opt.{opt_line_of, page_of, has_count, are_of_form}
 use Rattle.bp_load.specs.OptFields.{seven}
-use Rattle.bp_load.proofs.LineLemmas.{no_break}
 
 abbrev pub is_comma : ℕ → Bool
 is_comma c = c == 44

@@ -1,18 +1,12 @@
 -- A written OPT file is read as the lines that it was written of.
-use Rattle.std.proofs.Common.{◌≡◌, ℕ, ◌+◌, ◌<◌, ◌≤◌, ◌==◌, Bool, true, false, ◌&&◌, ◌||◌, not, cond, nat_le, nat_eq, lit<, ◌-◌, List, [], ◌∷◌, ◌++◌, length, get_or, take, drop, refl, sym, ap, arith, ◌∙◌, encode_utf8_all, encode_utf8, length-append, append_assoc, inl, inr, Option, Some, None, Result, Ok, Err}
+use Rattle.std.proofs.Common.{◌≡◌, ℕ, ◌+◌, ◌<◌, ◌≤◌, ◌==◌, Bool, true, false, ◌&&◌, not, cond, nat_le, nat_eq, lit<, List, [], ◌∷◌, ◌++◌, length, drop, refl, sym, ap, arith, ◌∙◌, encode_utf8_all, encode_utf8, length-append, append_assoc, inl, inr, Some, Ok}
 use Rattle.std.specs.Char.{is_ascii_digit}
-use Rattle.std.specs.Str.{IsUtf8, all_scalars, bytes_eq}
-use Rattle.std.specs.Str.Lines.{lines, lines_of_parts, strip_carriage_return}
-use Rattle.std.specs.List.{All, AllByRecursion, starts_with, list_all, list_any, slice_split, join_with_byte}
-use Rattle.std.proofs.lemmas.List.Folds.{list_all-append, list_any_none}
-use Rattle.std.proofs.lemmas.List.Sums.{AllPass-from_list_all}
-use Rattle.std.proofs.lemmas.List.Splits.{slice_split_none, slice_split_at, length-slice_split}
+use Rattle.std.specs.Str.{IsUtf8, all_scalars}
+use Rattle.std.specs.List.{starts_with, list_all, slice_split, join_with_byte}
+use Rattle.std.proofs.lemmas.List.Folds.{list_any_none}
 use Rattle.std.proofs.lemmas.Bool.{cases_Bool, and_parts, and_from, not-true, eqb-false}
-use Rattle.std.proofs.lemmas.Str.{IsUtf8-append, IsUtf8-nil, is_utf8-from_IsUtf8, length-le-encodes, chars-encodes, encode_same, encode_ascii}
+use Rattle.std.proofs.lemmas.Str.{IsUtf8-nil, is_utf8-from_IsUtf8, length-le-encodes, chars-encodes, encode_same, encode_ascii}
 use Rattle.std.proofs.Math.Utf8.{encode}
-use Rattle.std.proofs.lemmas.Slice.Eq.{bytes_eq-Decides}
-use Rattle.std.proofs.lemmas.List.{take_at, take-append-drop}
-use Rattle.std.proofs.Math.Seq.{get_or-append_seam}
 use Rattle.std.proofs.lemmas.Bool.Decides.{nat_tests}
 use Rattle.bp_load.specs.Opt.{is_page_count, opt_fields, opt_line_text, opt_text, opt_of, flag_text, is_flag, is_yes, is_plain, is_plain_character, is_opt_line, has_texts, opt_line_of, page_of, has_count, are_of_form}
 use Rattle.bp_load.specs.OptFields.{seven}
@@ -20,7 +14,9 @@ use Rattle.bp_load.specs.Lines.{without_mark, byte_order_mark, filled_lines, eac
 use Rattle.bp_load.specs.declared.opt.OptLine.{OptLine}
 use Rattle.bp_core.specs.declared.rules.RuleKind.TheVariants.{OptShape}
 use Rattle.bp_load.proofs.OptLemmas.{is_comma, opt_some}
-use Rattle.bp_load.proofs.LineLemmas.{is_lf, lines_before, filled_keep, mark_bytes}
+use Rattle.bp_load.proofs.LineLemmas.{filled_keep, mark_bytes}
+use Rattle.bp_load.proofs.JoinLemmas.{not_at, none_of, joined, split_joined, utf8_joined}
+use Rattle.bp_load.proofs.EndedLines.{no_break, ended_line}
 use Rattle.bp_load.proofs.TextLemmas.{passing_bytes, failing_bytes, own_bytes, weaker}
 
 no_digit : (b : ℕ) → 128 ≤ b → is_ascii_digit b ≡ false
@@ -81,14 +77,8 @@ unfolding is_clean
 clean_flag true = refl
 clean_flag false = refl
 
-no_comma : ℕ → Bool
-no_comma c = not (c == 44)
-
-pub no_break : ℕ → Bool
-no_break c = not (c == 13) && not (c == 10)
-
-clean_comma : (c : ℕ) → is_clean c ≡ true → no_comma c ≡ true
-unfolding is_clean no_comma
+clean_comma : (c : ℕ) → is_clean c ≡ true → (not_at 44) c ≡ true
+unfolding is_clean
 clean_comma c h = (and_parts _ _ (and_parts _ _ h).0).0
 
 clean_break : (c : ℕ) → is_clean c ≡ true → no_break c ≡ true
@@ -96,29 +86,6 @@ unfolding is_clean no_break
 clean_break c h =
     let last = and_parts (not (c == 44) && not (c == 13)) (not (c == 10)) h in
     and_from (not (c == 13)) (not (c == 10)) (and_parts (not (c == 44)) (not (c == 13)) last.0).1 last.1
-
--- a test that each field passes, and the comma, the line passes
-joined : (p : ℕ → Bool) → p 44 ≡ true → (fields : List (List ℕ)) → list_all (list_all p) fields ≡ true → list_all p (join_with_byte 44 fields) ≡ true
-joined p comma [] h = refl
-joined p comma (x ∷ []) h = (and_parts _ _ h).0
-joined p comma (x ∷ y ∷ fields) h =
-    let parts = and_parts (list_all p x) (list_all (list_all p) (y ∷ fields)) h in
-    list_all-append p x (44 ∷ join_with_byte 44 (y ∷ fields)) ∙ and_from _ _ parts.0 (and_from _ _ comma (joined p comma (y ∷ fields) parts.1))
-
-none_of : (p q : ℕ → Bool) → ((c : ℕ) → q c ≡ true → p c ≡ false) → (cs : List ℕ) → list_all q cs ≡ true → All (λ c. p c ≡ false) cs
-none_of p q out cs h = λ k d fits. out (get_or cs k d) (AllPass-from_list_all q cs h k d fits)
-
-none_comma : (cs : List ℕ) → list_all no_comma cs ≡ true → All (λ c. is_comma c ≡ false) cs
-unfolding no_comma
-none_comma cs h = none_of is_comma no_comma (λ c. not-true (c == 44)) cs h
-
--- fields without a comma are what stands between the commas of their line
-split_joined : (fields : List (List ℕ)) → 0 < length fields → list_all (list_all no_comma) fields ≡ true → slice_split is_comma (join_with_byte 44 fields) ≡ fields
-split_joined [] some h = absurd (omega arith)
-split_joined (x ∷ []) some h = slice_split_none is_comma x (none_comma x (and_parts _ _ h).0)
-split_joined (x ∷ y ∷ fields) some h =
-    let parts = and_parts (list_all no_comma x) (list_all (list_all no_comma) (y ∷ fields)) h in
-    slice_split_at is_comma x 44 (join_with_byte 44 (y ∷ fields)) (none_comma x parts.0) refl ∙ ap (λ more. x ∷ more) (split_joined (y ∷ fields) (omega arith) parts.1)
 
 -- what a line that can be written is
 record Fits (line : OptLine) : Type 0 where
@@ -169,21 +136,13 @@ break_comma = refl
 
 no_breaks : (line : OptLine) → Fits line → list_all no_break (line_bytes line) ≡ true
 no_breaks line fits =
-    joined no_break break_comma (opt_fields line)
+    joined 44 no_break break_comma (opt_fields line)
     (weaker (list_all is_clean) (list_all no_break) (λ xs. weaker is_clean no_break clean_break xs) (opt_fields line) (clean_fields line fits))
 
 split_line : (line : OptLine) → Fits line → slice_split is_comma (line_bytes line) ≡ opt_fields line
 split_line line fits =
-    split_joined (opt_fields line) (lit< tt)
-    (weaker (list_all is_clean) (list_all no_comma) (λ xs. weaker is_clean no_comma clean_comma xs) (opt_fields line) (clean_fields line fits))
-
-utf8_comma : (bs : List ℕ) → IsUtf8 bs → IsUtf8 (44 ∷ bs)
-utf8_comma bs text = IsUtf8-append (44 ∷ []) bs (44 ∷ [], (refl, ap (λ e. e ++ []) (encode_ascii 44 (lit< tt)))) text
-
-utf8_joined : (fields : List (List ℕ)) → AllByRecursion IsUtf8 fields → IsUtf8 (join_with_byte 44 fields)
-utf8_joined [] h = IsUtf8-nil
-utf8_joined (x ∷ []) h = h.0
-utf8_joined (x ∷ y ∷ fields) h = IsUtf8-append x (44 ∷ join_with_byte 44 (y ∷ fields)) h.0 (utf8_comma (join_with_byte 44 (y ∷ fields)) (utf8_joined (y ∷ fields) h.1))
+    split_joined 44 (opt_fields line) (lit< tt)
+    (weaker (list_all is_clean) (list_all (not_at 44)) (λ xs. weaker is_clean (not_at 44) clean_comma xs) (opt_fields line) (clean_fields line fits)) refl
 
 utf8_text : (cs : List ℕ) → all_scalars cs ≡ true → IsUtf8 (encode_utf8_all cs)
 utf8_text cs h = (cs, (h, refl))
@@ -194,7 +153,7 @@ utf8_flag false = IsUtf8-nil
 
 utf8_line : (line : OptLine) → Texts line → IsUtf8 (line_bytes line)
 utf8_line line texts =
-    utf8_joined (opt_fields line)
+    utf8_joined 44 (lit< tt) refl (opt_fields line)
     (utf8_text line.image texts.image, (utf8_text line.volume texts.volume, (utf8_text line.path texts.path, (utf8_flag line.doc_break, (utf8_flag line.folder_break, (utf8_flag line.box_break, (utf8_text line.pages texts.pages, tt)))))))
 
 yes_flag : (b : Bool) → is_yes (flag_text b) ≡ b
@@ -225,10 +184,6 @@ cr_free : (c : ℕ) → no_break c ≡ true → (c == 13) ≡ false
 unfolding no_break
 cr_free c h = not-true (c == 13) (and_parts (not (c == 13)) (not (c == 10)) h).0
 
-lf_free : (c : ℕ) → no_break c ≡ true → is_lf c ≡ false
-unfolding no_break
-lf_free c h = not-true (c == 10) (and_parts (not (c == 13)) (not (c == 10)) h).1
-
 -- a written line is read as the line
 read_line : (line : OptLine) → Fits line → Texts line → opt_line_of (line_bytes line) ≡ Some line
 read_line line fits texts =
@@ -236,28 +191,6 @@ read_line line fits texts =
     opt_some (line_bytes line) (opt_fields line) (is_utf8-from_IsUtf8 (line_bytes line) (utf8_line line texts))
     (list_any_none (λ c. c == 13) (line_bytes line) (none_of (λ c. c == 13) no_break cr_free (line_bytes line) (no_breaks line fits)))
     (ap has_count split) (sym (ap seven split)) (form_line line fits) ∙ ap Some (page_line line texts)
-
-strip_return : (b : List ℕ) → strip_carriage_return (b ++ 13 ∷ []) ≡ b
-strip_return b =
-    let l : List ℕ = b ++ 13 ∷ [] in
-    let e : length (b ++ 13 ∷ []) - 1 ≡ length b = omega (arith, length-append b (13 ∷ [])) in
-    ap (λ n. cond (get_or l n 0 == 13) (take n l) l) e ∙ ap (λ x. cond (x == 13) (take (length b) l) l) (get_or-append_seam b 13 [] 0) ∙ take_at b (13 ∷ []) (length b) refl
-
-abbrev no_lf : ℕ → Bool
-no_lf c = not (c == 10)
-
-lf_free_return : (b : List ℕ) → list_all no_break b ≡ true → All (λ c. is_lf c ≡ false) (b ++ 13 ∷ [])
-lf_free_return b h = none_of is_lf no_lf (λ c. not-true (c == 10)) (b ++ 13 ∷ [])
-    (list_all-append no_lf b (13 ∷ []) ∙ and_from _ _ (weaker no_break no_lf (λ c k. rw (lf_free c k) refl) b h) refl)
-
-regroup : (b rest : List ℕ) → (b ++ 13 ∷ 10 ∷ []) ++ rest ≡ (b ++ 13 ∷ []) ++ 10 ∷ rest
-regroup b rest = simp append_assoc
-
--- a line that ends in CR LF comes first
-pub ended_line : (b rest : List ℕ) → list_all no_break b ≡ true → lines ((b ++ 13 ∷ 10 ∷ []) ++ rest) ≡ b ∷ lines rest
-ended_line b rest h =
-    ap lines (regroup b rest) ∙ ap lines_of_parts (slice_split_at is_lf (b ++ 13 ∷ []) 10 rest (lf_free_return b h) refl)
-    ∙ lines_before (b ++ 13 ∷ []) (slice_split is_lf rest) (omega (arith, length-slice_split is_lf rest)) ∙ ap (λ x. x ∷ lines rest) (strip_return b)
 
 some_line : (line : OptLine) → Fits line → 0 < length (line_bytes line)
 some_line line fits =

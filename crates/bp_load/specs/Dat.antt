@@ -1,5 +1,5 @@
 -- The DAT load file (Concordance): a line of column names, and a line a record.
-use Rattle.std.specs.Prelude.{ℕ, ◌+◌, ◌-◌, Bool, List, [], ◌∷◌, ◌++◌, length, map, take, drop, slice_index, nat_le, ◌==◌, ◌&&◌, not, if◌then◌else◌, Option, Some, None, Result, Ok, Err, encode_utf8_all}
+use Rattle.std.specs.Prelude.{ℕ, ◌-◌, Bool, List, [], ◌∷◌, ◌++◌, length, map, take, drop, slice_index, nat_le, ◌==◌, ◌&&◌, not, if◌then◌else◌, Option, Some, None, Result, Ok, Err, encode_utf8_all}
 use Rattle.std.specs.List.{slice_split, list_all, join_with_byte, flat_map}
 use Rattle.std.specs.Str.{chars, is_utf8}
 use Rattle.bp_core.specs.declared.rules.Rule.{Rule}
@@ -67,3 +67,38 @@ table_of (header ∷ records) = after_header (values_of header) records
 -- what a file says, or DatEncoding where it isn't UTF-8, or DatShape with the number of its first bad line
 abbrev pub dat_of : List ℕ → Result Table Rule
 dat_of bytes = if is_utf8 bytes then table_of (filled_lines (without_mark bytes)) else Err (at_line DatEncoding 0)
+
+-- a newline is written as the sign
+abbrev pub write_character : ℕ → ℕ
+write_character c = if c == 10 then 0xAE else c
+
+-- a value between two quotes
+abbrev pub quoted : List ℕ → List ℕ
+quoted value = 0xFE ∷ (map write_character value ++ 0xFE ∷ [])
+
+-- the values of a line, with a separator between each two
+abbrev pub dat_values_text : List (List ℕ) → List ℕ
+dat_values_text values = join_with_byte 0x14 (map (λ value. encode_utf8_all (quoted value)) values)
+
+-- the written line, with its end
+abbrev pub dat_line_text : List (List ℕ) → List ℕ
+dat_line_text values = dat_values_text values ++ 13 ∷ 10 ∷ []
+
+-- the written file
+abbrev pub dat_text : Table → List ℕ
+dat_text table = dat_line_text table.columns ++ flat_map dat_line_text table.rows
+
+-- no quote, separator, CR or sign for a newline
+abbrev pub is_cell_character : ℕ → Bool
+is_cell_character c = not (c == 0xFE) && not (c == 0x14) && not (c == 13) && not (c == 0xAE)
+
+abbrev pub is_cell : List ℕ → Bool
+is_cell text = list_all is_cell_character text
+
+-- the same, and no newline
+abbrev pub is_name : List ℕ → Bool
+is_name text = is_cell text && list_all (λ c. not (c == 10)) text
+
+-- there is a column, and each name and each cell can be written
+abbrev pub is_writable : Table → Bool
+is_writable table = not (length table.columns == 0) && list_all is_name table.columns && list_all (list_all is_cell) table.rows

@@ -1,18 +1,18 @@
 // The DAT load file (Concordance): a line of column names, and a line a record.
-ghost use Rattle.std.specs.Prelude.{◌≡◌, ◌+◌, ◌<◌, ◌^◌, ◌∷◌, [], length, true, false, IfOk, IsTrue, MatchOption, map, encode_utf8_all};
-ghost use Rattle.std.specs.List.{list_all};
+ghost use Rattle.std.specs.Prelude.{◌≡◌, ◌+◌, ◌<◌, ◌^◌, ◌∷◌, [], length, true, false, IfOk, IsTrue, OnOk, ◌==◌, ◌++◌, not, MatchOption, map, encode_utf8_all};
+ghost use Rattle.std.specs.List.{list_all, flat_map};
 ghost use Rattle.std.specs.Option.{ok_or};
-ghost use Rattle.std.specs.Str.{chars};
+ghost use Rattle.std.specs.Str.{chars, all_scalars};
 ghost use Rattle.std.specs.String.{string_bytes};
 ghost use Rattle.bp_core.specs.Answers.{Answers};
 ghost use Rattle.bp_core.specs.declared.rules.RuleKind.TheVariants.{DatShape};
 ghost use Rattle.bp_load.specs.Lines.{at_line, each_line, filled_lines};
-ghost use Rattle.bp_load.specs.Dat.{dat_of, table_of, row_of, values_of, quoted_value, is_quoted, inside, is_inner, read_character};
+ghost use Rattle.bp_load.specs.Dat.{dat_of, table_of, row_of, values_of, quoted_value, is_quoted, inside, is_inner, read_character, write_character, quoted, dat_values_text, dat_line_text, dat_text, is_cell_character, is_cell, is_name, is_writable};
 ghost use Rattle.bp_load.specs.Table.{is_even};
 
 use crate::fields::next_field;
 use crate::lines::{first_filled_line, text_without_mark};
-use bp_core::{ListOf, OutOfMemory, Refusal, Rule, RuleKind, Text, TextList};
+use bp_core::{Bytes, ListOf, OutOfMemory, Refusal, Rule, RuleKind, Text, TextList};
 use std::alloc::Global;
 use std::marker::Model;
 
@@ -59,6 +59,16 @@ impl Dat {
         ensures even { IsTrue (is_even self.now) }
     {
         &self.rows
+    }
+
+    /// Whether it can be written: there is a column, no cell and no column name has U+00FE, U+0014, CR or
+    /// U+00AE, and no column name has a newline.
+    pub fn writable(&self) -> bool
+        ensures { result ≡ is_writable self.now }
+    {
+        !self.columns.is_empty()
+            && are_names(self.columns.as_slice())
+            && are_rows(self.rows.as_slice())
     }
 
     /// The column names and the rows. It takes no memory.
@@ -203,4 +213,121 @@ fn read_character(c: char) -> char
     ensures { result ≡ read_character c }
 {
     if c == '\u{ae}' { '\n' } else { c }
+}
+
+fn are_rows(rows: &[TextList]) -> bool
+    ensures { result ≡ list_all (list_all is_cell) rows.now }
+{
+    rows.iter().all(|row| are_cells(row.as_slice()))
+}
+
+fn are_cells(cells: &[Text]) -> bool
+    ensures { result ≡ list_all is_cell cells.now }
+{
+    cells.iter().all(|cell| is_cell(cell))
+}
+
+fn are_names(names: &[Text]) -> bool
+    ensures { result ≡ list_all is_name names.now }
+{
+    names.iter().all(|name| is_name(name))
+}
+
+fn is_cell(text: &Text) -> bool
+    ensures { result ≡ is_cell text.now }
+{
+    text.as_str().chars().all(|c| is_cell_character(c))
+}
+
+fn is_cell_character(c: char) -> bool
+    ensures { result ≡ is_cell_character c }
+{
+    c != '\u{fe}' && c != '\u{14}' && c != '\r' && c != '\u{ae}'
+}
+
+fn is_name(text: &Text) -> bool
+    ensures { result ≡ is_name text.now }
+{
+    is_cell(text) && has_no_newline(text)
+}
+
+fn has_no_newline(text: &Text) -> bool
+    ensures { result ≡ list_all (λ c. not (c == 10)) text.now }
+{
+    text.as_str().chars().all(|c| c != '\n')
+}
+
+/// The file of a table: a line of column names and a line a row, each ended by CR LF, without a mark.
+/// Reading gives the table back.
+pub fn write_dat(alloc: Global, dat: &Dat) -> Result<Bytes, OutOfMemory>
+    requires { IsTrue (is_writable dat.now) }
+    ensures text { IfOk result (λ bytes. bytes ≡ dat_text dat.now) }
+    ensures read_back { IfOk result (λ bytes. dat_of bytes ≡ Ok dat.now) }
+{
+    let mut out = String::new(alloc);
+    write_line(&mut out, dat.columns().as_slice())?;
+    for row in dat.rows().as_slice() {
+        write_line(&mut out, row.as_slice())?;
+    }
+    Ok(Bytes::from_vec(out.into_bytes()))
+}
+
+/// Adds a line of these values with its end.
+fn write_line(out: &mut String, values: &[Text]) -> Result<(), OutOfMemory>
+    ensures ok { OnOk result (string_bytes out.new ≡ string_bytes out.old ++ dat_line_text values.now) }
+    ensures scalars { OnOk result (list_all all_scalars values.now ≡ true) }
+{
+    write_values(out, values)?;
+    out.push_str("\r\n")?;
+    Ok(())
+}
+
+/// Adds the values with a separator between each two.
+fn write_values(out: &mut String, values: &[Text]) -> Result<(), OutOfMemory>
+    ensures ok { OnOk result (string_bytes out.new ≡ string_bytes out.old ++ dat_values_text values.now) }
+    ensures scalars { OnOk result (list_all all_scalars values.now ≡ true) }
+{
+    let Some((first, others)) = values.split_first() else {
+        return Ok(());
+    };
+    write_value(out, first)?;
+    write_others(out, others)
+}
+
+/// Adds each value, with a separator before it.
+fn write_others(out: &mut String, values: &[Text]) -> Result<(), OutOfMemory>
+    ensures ok { OnOk result (string_bytes out.new ≡ string_bytes out.old ++ flat_map (λ value. 0x14 ∷ encode_utf8_all (quoted value)) values.now) }
+    ensures scalars { OnOk result (list_all all_scalars values.now ≡ true) }
+{
+    for value in values {
+        out.push('\u{14}')?;
+        write_value(out, value)?;
+    }
+    Ok(())
+}
+
+/// Adds a value between two quotes, with the sign for each newline.
+fn write_value(out: &mut String, value: &Text) -> Result<(), OutOfMemory>
+    ensures ok { OnOk result (string_bytes out.new ≡ string_bytes out.old ++ encode_utf8_all (quoted value.now)) }
+    ensures scalars { OnOk result (all_scalars value.now ≡ true) }
+{
+    out.push('\u{fe}')?;
+    write_characters(out, value.as_str())?;
+    out.push('\u{fe}')?;
+    Ok(())
+}
+
+fn write_characters(out: &mut String, text: &str) -> Result<(), OutOfMemory>
+    ensures { OnOk result (string_bytes out.new ≡ string_bytes out.old ++ encode_utf8_all (map write_character (chars text.now))) }
+{
+    for c in text.chars() {
+        out.push(write_character(c))?;
+    }
+    Ok(())
+}
+
+fn write_character(c: char) -> char
+    ensures { result ≡ write_character c }
+{
+    if c == '\n' { '\u{ae}' } else { c }
 }

@@ -6,5 +6,5 @@ mod fields;
 mod lines;
 mod opt;
 
-pub use dat::{Dat, TextTable, read_dat};
+pub use dat::{Dat, TextTable, read_dat, write_dat};
 pub use opt::{OptLine, OptList, opt_writable, read_opt, write_opt};

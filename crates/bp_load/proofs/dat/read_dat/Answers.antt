@@ -1,8 +1,7 @@
-use Rattle.std.proofs.Common.{◌≡◌, ◌∙◌, sym, ap, subst, Result, Err}
+use Rattle.std.proofs.Common.{subst, Result}
 use Rattle.bp_core.specs.Answers.{Answers}
 use Rattle.bp_core.specs.declared.rules.Rule.{Rule}
 use Rattle.bp_load.specs.Table.{Table}
-use Rattle.bp_load.specs.Dat.{dat_of}
 use Rattle.std.proofs.lemmas.Str.{is_utf8-from_IsUtf8}
 use Rattle.bp_load.proofs.OptLemmas.{not_utf8}
 use Rattle.bp_load.proofs.DatTables.{dat_text, dat_other}

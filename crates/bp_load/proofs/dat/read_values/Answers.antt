@@ -1,4 +1,4 @@
-use Rattle.std.proofs.Common.{◌≡◌, ◌∷◌, ap, sym, ◌∙◌, arith, length, true, is_some}
+use Rattle.std.proofs.Common.{ap, sym, ◌∙◌, arith, length}
 use Rattle.std.specs.Option.{option_copied}
 use Rattle.bp_load.specs.Dat.{each_value}
 use Rattle.bp_load.specs.Fields.{fields_in}

@@ -1,7 +1,3 @@
-use Rattle.std.proofs.Common.{◌≡◌, false, true}
-use Rattle.std.specs.Option.{MatchOption}
-use Rattle.std.specs.Str.{chars}
-use Rattle.bp_load.specs.Dat.{is_quoted, inside}
 use Rattle.bp_load.proofs.DatLemmas.{no_front, unquoted_facts, after_quote}
 use Rattle.bp_load.proofs.dat.unquoted.Goals as goal
 

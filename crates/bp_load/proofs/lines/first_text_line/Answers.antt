@@ -1,4 +1,4 @@
-use Rattle.std.proofs.Common.{◌≡◌, ◌∷◌, ◌∙◌, ap, sym, lit<, arith}
+use Rattle.std.proofs.Common.{◌∷◌, ◌∙◌, ap, sym, lit<, arith}
 use Rattle.std.proofs.lemmas.Str.Pattern.{split_once_first, strip_suffix_char}
 use Rattle.std.specs.List.{after_first}
 use Rattle.std.specs.Str.Lines.{lines, strip_carriage_return}

@@ -1,9 +1,7 @@
-use Rattle.std.proofs.Common.{ap, sym, ◌∙◌}
-use Rattle.std.specs.List.{slice_split, list_any}
+use Rattle.std.proofs.Common.{sym, ◌∙◌}
 use Rattle.std.proofs.lemmas.Str.{is_utf8-from_IsUtf8}
-use Rattle.bp_load.specs.Opt.{has_count}
-use Rattle.bp_load.specs.OptFields.{seven, fields_of}
-use Rattle.bp_load.proofs.OptLemmas.{is_comma, not_utf8, opt_none, opt_some}
+use Rattle.bp_load.specs.OptFields.{fields_of}
+use Rattle.bp_load.proofs.OptLemmas.{not_utf8, opt_none, opt_some}
 use Rattle.bp_load.proofs.opt.form_of.Goals as goal
 
 pub returns-in_default : goal.returns-in_default

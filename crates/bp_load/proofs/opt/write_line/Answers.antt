@@ -1,4 +1,3 @@
-use Rattle.std.proofs.Common.{encode_utf8_all}
 use Rattle.std.proofs.lemmas.Result.{on_ok_weaker}
 use Rattle.bp_load.proofs.OptWritten.{line_written}
 use Rattle.bp_load.proofs.opt.write_line.Goals as goal

@@ -331,3 +331,6 @@ fn write_character(c: char) -> char
 {
     if c == '\n' { '\u{ae}' } else { c }
 }
+
+#[cfg(test)]
+mod tests;

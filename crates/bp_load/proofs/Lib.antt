@@ -7,3 +7,4 @@ pub mod DatTables
 pub mod JoinLemmas
 pub mod EndedLines
 pub mod DatWritten
+mod Examples

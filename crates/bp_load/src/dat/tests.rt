@@ -11,7 +11,8 @@ fn refused_by(rt: &HostRuntime, bytes: &[u8]) -> Option<Refusal> {
 
 #[test]
 fn reads_records(rt: HostRuntime) -> Result<(), Fail> {
-    let bytes = "\u{feff}þBEGDOCþ\u{14}þBEGATTACHþ\u{14}þNOTEþ\nþA1þ\u{14}þþ\u{14}þone®twoþ\n".as_bytes();
+    let bytes =
+        "\u{feff}þBEGDOCþ\u{14}þBEGATTACHþ\u{14}þNOTEþ\nþA1þ\u{14}þþ\u{14}þone®twoþ\n".as_bytes();
     assert!(rt; bytes.len() < 100);
     let dat = read_dat(rt.alloc(), bytes)?;
     assert!(rt; dat.writable());
@@ -53,11 +54,23 @@ fn refuses_bad_files(rt: HostRuntime) {
         ("\r".as_bytes(), RuleKind::DatShape, 1),
         ("þAþ\r\r\n".as_bytes(), RuleKind::DatShape, 1),
         ("\u{feff}\u{feff}þAþ\n".as_bytes(), RuleKind::DatShape, 1),
-        ("\nþAþ\n\nþ1þ\nþ1þ\u{14}þ2þ\n".as_bytes(), RuleKind::DatShape, 3),
-        ("þAþ\u{14}þBþ\nþ1þ\u{14}þ2þ\nþ1þ\nx\n".as_bytes(), RuleKind::DatShape, 3),
+        (
+            "\nþAþ\n\nþ1þ\nþ1þ\u{14}þ2þ\n".as_bytes(),
+            RuleKind::DatShape,
+            3,
+        ),
+        (
+            "þAþ\u{14}þBþ\nþ1þ\u{14}þ2þ\nþ1þ\nx\n".as_bytes(),
+            RuleKind::DatShape,
+            3,
+        ),
     ];
     for (bytes, kind, line) in cases {
-        assert_eq!(rt; refused_by(&rt, bytes), Some(refused(kind, line)), "at {line}");
+        assert_eq!(rt;
+            refused_by(&rt, bytes),
+            Some(refused(kind, line)),
+            "at {line}"
+        );
     }
 }
 

@@ -1,0 +1,46 @@
+-- Worked examples of the definitions in specs/, each run by the check.
+use Rattle.std.proofs.Common.{◌≡◌, true, false, refl, Ok, Err}
+use Rattle.std.specs.Prelude.{codes}
+use Rattle.bp_core.specs.declared.rules.RuleKind.TheVariants.{BatesFull}
+use Rattle.bp_bates.specs.Prefixes.{is_good_prefix}
+use Rattle.bp_bates.specs.Spans.{largest_of, taken_of}
+use Rattle.bp_bates.specs.Labels.{label_of}
+
+good : is_good_prefix (codes "AB-") 4 ≡ true
+good = refl
+
+twelve : is_good_prefix (codes "ABCDEFGHIJK_") 10 ≡ true
+twelve = refl
+
+thirteen : is_good_prefix (codes "ABCDEFGHIJKL_") 10 ≡ false
+thirteen = refl
+
+ends_in_one : is_good_prefix (codes "AB1") 4 ≡ false
+ends_in_one = refl
+
+dash_first : is_good_prefix (codes "-AB") 4 ≡ false
+dash_first = refl
+
+lower_case : is_good_prefix (codes "Ab") 4 ≡ false
+lower_case = refl
+
+empty : is_good_prefix (codes "") 4 ≡ false
+empty = refl
+
+three_digits : is_good_prefix (codes "AB") 3 ≡ false
+three_digits = refl
+
+eleven_digits : is_good_prefix (codes "AB") 11 ≡ false
+eleven_digits = refl
+
+nines : largest_of 4 ≡ 9999
+nines = refl
+
+last_two : taken_of 9998 4 2 ≡ Ok (record { span = record { first = 9998; last = 9999 }; next = 10000 })
+last_two = refl
+
+one_past : taken_of 10000 4 1 ≡ Err (record { kind = BatesFull; line = 0; a = 9999; b = 0 })
+one_past = refl
+
+twelfth : label_of (codes "AB-") 4 12 ≡ codes "AB-0012"
+twelfth = refl

@@ -1,0 +1,72 @@
+-- Worked examples of the definitions in specs/, each run by the check.
+use Rattle.std.proofs.Common.{◌≡◌, List, ℕ, [], ◌∷◌, ◌++◌, true, false, refl, Some, None, Ok, Err}
+use Rattle.std.specs.Prelude.{codes}
+use Rattle.std.specs.Str.{chars, is_utf8}
+use Rattle.std.proofs.Math.Utf8.{encode}
+use Rattle.bp_core.specs.declared.rules.RuleKind.TheVariants.{OptShape, DatShape, DatEncoding}
+use Rattle.bp_load.specs.Lines.{without_mark, filled_lines, at_line}
+use Rattle.bp_load.specs.Opt.{opt_of, opt_text, are_opt_lines}
+use Rattle.bp_load.specs.declared.opt.OptLine.{OptLine}
+use Rattle.bp_load.specs.Dat.{dat_of, dat_text, quoted_value, is_writable}
+use Rattle.bp_load.specs.Table.{Table}
+
+one_mark : without_mark (0xEF ∷ 0xBB ∷ 0xBF ∷ 0xEF ∷ 0xBB ∷ 0xBF ∷ []) ≡ 0xEF ∷ 0xBB ∷ 0xBF ∷ []
+one_mark = refl
+
+-- empty lines are passed over, and a CR before no LF is part of its line
+kept_lines : filled_lines (codes "A" ++ 13 ∷ 10 ∷ 10 ∷ codes "B" ++ 13 ∷ []) ≡ codes "A" ∷ (codes "B" ++ 13 ∷ []) ∷ []
+kept_lines = refl
+
+-- a line of one CR is not empty
+lone_return : filled_lines (13 ∷ []) ≡ (13 ∷ []) ∷ []
+lone_return = refl
+
+abbrev page : OptLine
+page = record {
+  image = codes "AB-0001";
+  volume = codes "V";
+  path = codes "V/a.tif";
+  doc_break = true;
+  folder_break = false;
+  box_break = false;
+  pages = codes "2";
+}
+
+written_page : opt_text (page ∷ []) ≡ codes "AB-0001,V,V/a.tif,Y,,,2" ++ 13 ∷ 10 ∷ []
+unfolding encode
+written_page = refl
+
+page_can_be_written : are_opt_lines (page ∷ []) ≡ true
+page_can_be_written = refl
+
+page_read : opt_of (codes "AB-0001,V,V/a.tif,Y,,,2" ++ 10 ∷ []) ≡ Ok (page ∷ [])
+unfolding chars is_utf8 encode
+page_read = refl
+
+eight_fields : opt_of (codes "A,,a" ++ 10 ∷ codes "B,,a,,,,,") ≡ Err (at_line OptShape 2)
+unfolding chars is_utf8 encode
+eight_fields = refl
+
+no_bytes : dat_of [] ≡ Err (at_line DatShape 1)
+unfolding chars is_utf8 encode
+no_bytes = refl
+
+utf16 : dat_of (0xFF ∷ 0xFE ∷ []) ≡ Err (at_line DatEncoding 0)
+unfolding chars is_utf8 encode
+utf16 = refl
+
+sign_read : quoted_value (0xFE ∷ codes "one" ++ 0xAE ∷ codes "two" ++ 0xFE ∷ []) ≡ Some (codes "one" ++ 10 ∷ codes "two")
+sign_read = refl
+
+quote_inside : quoted_value (0xFE ∷ 0xFE ∷ 0xFE ∷ []) ≡ None
+quote_inside = refl
+
+abbrev small : Table
+small = record { columns = codes "ID" ∷ codes "NOTE" ∷ []; rows = (codes "A1" ∷ (codes "one" ++ 10 ∷ codes "two") ∷ []) ∷ [] }
+
+small_can_be_written : is_writable small ≡ true
+small_can_be_written = refl
+
+small_read : dat_of (dat_text small) ≡ Ok small
+unfolding chars is_utf8 encode
+small_read = refl

@@ -1,0 +1,10 @@
+//! Load files, both ways: OPT (a line a page) and DAT (a line a document, and a line of column names).
+#![tactic(auto)]
+
+mod dat;
+mod fields;
+mod lines;
+mod opt;
+
+pub use dat::{Dat, TextTable, read_dat, write_dat};
+pub use opt::{OptLine, OptList, opt_writable, read_opt, write_opt};

@@ -1,0 +1,71 @@
+/* Runs two commands in turn, as often as it is told, and prints of both the median and the least wall time and the
+ * peak memory, and the ratios of the first over the second. Words: label, rounds, first command, --, second command.
+ * What the commands print is dropped; each must end with status 0. */
+#define _GNU_SOURCE
+#include <fcntl.h>
+#include <spawn.h>
+#include <stdio.h>
+#include <stdlib.h>
+#include <string.h>
+#include <sys/resource.h>
+#include <sys/wait.h>
+#include <time.h>
+
+extern char **environ;
+
+struct side {
+    char **words;
+    double *milliseconds;
+    long kilobytes;
+};
+
+static void stop(const char *why) {
+    fprintf(stderr, "side_by_side: %s\n", why);
+    exit(1);
+}
+
+static double now(void) {
+    struct timespec at;
+    clock_gettime(CLOCK_MONOTONIC, &at);
+    return at.tv_sec * 1e3 + at.tv_nsec / 1e6;
+}
+
+static void run(struct side *side, int round) {
+    posix_spawn_file_actions_t actions;
+    posix_spawn_file_actions_init(&actions);
+    posix_spawn_file_actions_addopen(&actions, 1, "/dev/null", O_WRONLY, 0);
+    pid_t child;
+    int status;
+    struct rusage used;
+    double start = now();
+    if (posix_spawn(&child, side->words[0], &actions, NULL, side->words, environ)) stop("cannot start a command");
+    if (wait4(child, &status, 0, &used) != child) stop("cannot wait for a command");
+    side->milliseconds[round] = now() - start;
+    if (!WIFEXITED(status) || WEXITSTATUS(status)) stop("a command failed");
+    if (used.ru_maxrss > side->kilobytes) side->kilobytes = used.ru_maxrss;
+    posix_spawn_file_actions_destroy(&actions);
+}
+
+static int by_size(const void *one, const void *other) {
+    double a = *(const double *)one, b = *(const double *)other;
+    return (a > b) - (a < b);
+}
+
+int main(int count, char **words) {
+    int rounds = count > 2 ? atoi(words[2]) : 0, split = 3;
+    while (split < count && strcmp(words[split], "--")) split++;
+    if (rounds < 1 || split == 3 || split + 1 >= count) stop("usage: LABEL ROUNDS COMMAND.. -- COMMAND..");
+    words[split] = NULL;
+    struct side sides[2] = {{words + 3, NULL, 0}, {words + split + 1, NULL, 0}};
+    for (int at = 0; at < 2; at++)
+        if (!(sides[at].milliseconds = malloc(rounds * sizeof(double)))) stop("out of memory");
+    for (int round = 0; round < rounds; round++)
+        for (int at = 0; at < 2; at++) run(&sides[at], round);
+    for (int at = 0; at < 2; at++) qsort(sides[at].milliseconds, rounds, sizeof(double), by_size);
+    double mine = sides[0].milliseconds[rounds / 2], other = sides[1].milliseconds[rounds / 2];
+    double least = sides[0].milliseconds[0], other_least = sides[1].milliseconds[0];
+    printf("%-18s median %8.2f ms over %8.2f ms: %4.2f   least %8.2f ms over %8.2f ms: %4.2f   peak %6.1f MB over %6.1f MB: %4.2f\n",
+           words[1], mine, other, mine / other, least, other_least, least / other_least, sides[0].kilobytes / 1024.0,
+           sides[1].kilobytes / 1024.0, (double)sides[0].kilobytes / sides[1].kilobytes);
+    return 0;
+}

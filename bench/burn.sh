@@ -27,7 +27,8 @@ cd "$scratch"
 # width, height: a page whose pixels are bytes of the letter page, over and over
 page() {
     printf 'P4\n%s %s\n' "$1" "$2"
-    left=$((($1 + 7) / 8 * $2))
+    row_bytes=$((($1 + 7) / 8))
+    left=$((row_bytes * $2))
     while [ "$left" -gt 0 ]; do
         tail -c 1000000 "$top/examples/letter.tif" | head -c "$left"
         left=$((left - 1000000))

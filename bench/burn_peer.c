@@ -33,7 +33,7 @@ int main(int count, char **words) {
     uint32_t left = strtoul(words[2], NULL, 10), top = strtoul(words[3], NULL, 10);
     uint32_t wide = strtoul(words[4], NULL, 10), high = strtoul(words[5], NULL, 10);
 
-    TIFF *in = TIFFOpen(words[1], "r");
+    TIFF *in = TIFFOpen(words[1], "rcm"); /* one strip stays one, and is read without a map of the file, which takes least */
     need(in != NULL, "cannot open the page");
     uint32_t width = 0, height = 0;
     uint16_t bits = 0, compression = 0, photometric = 0, unit = 0;

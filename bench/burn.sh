@@ -48,6 +48,7 @@ compare() {
     ./side_by_side "$label" "$rounds" "$program" burn "$@" product.tif plain -- ./burn_peer "$@" peer.tif
 }
 
+printf '%-18s%-31s%-31s%s\n' "product / peer" "  median wall time" "  least wall time" "  peak memory"
 compare "8 by 1" 300 small.tif 1 0 6 1
 compare "2,550 by 3,300" 100 letter.tif 320 1755 1910 370
 compare "20,000 by 10,000" 15 large.tif 1003 997 17995 8001

@@ -64,8 +64,8 @@ int main(int count, char **words) {
     for (int at = 0; at < 2; at++) qsort(sides[at].milliseconds, rounds, sizeof(double), by_size);
     double mine = sides[0].milliseconds[rounds / 2], other = sides[1].milliseconds[rounds / 2];
     double least = sides[0].milliseconds[0], other_least = sides[1].milliseconds[0];
-    printf("%-18s median %8.2f ms over %8.2f ms: %4.2f   least %8.2f ms over %8.2f ms: %4.2f   peak %6.1f MB over %6.1f MB: %4.2f\n",
-           words[1], mine, other, mine / other, least, other_least, least / other_least, sides[0].kilobytes / 1024.0,
-           sides[1].kilobytes / 1024.0, (double)sides[0].kilobytes / sides[1].kilobytes);
+    printf("%-18s%9.2f /%9.2f ms = %4.2f%9.2f /%9.2f ms = %4.2f%9.1f /%9.1f MB = %4.2f\n", words[1], mine, other, mine / other,
+           least, other_least, least / other_least, sides[0].kilobytes / 1024.0, sides[1].kilobytes / 1024.0,
+           (double)sides[0].kilobytes / sides[1].kilobytes);
     return 0;
 }

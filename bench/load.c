@@ -93,13 +93,15 @@ static struct value copied(const char *at, const char *end) {
     return value;
 }
 
-/* What stands between two quotes, with a newline for each sign of one. */
+/* What stands between two quotes, with a newline for each sign of one; without the sign's first byte it is copied
+   whole. */
 static struct value unquoted(const char *at, const char *end) {
     struct value value = {NULL, 0};
     if (end - at < 4 || memcmp(at, "\xC3\xBE", 2) != 0 || memcmp(end - 2, "\xC3\xBE", 2) != 0) exit(2);
     at += 2;
     end -= 2;
     if (at == end) return value;
+    if (!memchr(at, 0xC2, (size_t)(end - at))) return copied(at, end);
     value.bytes = checked(malloc((size_t)(end - at)));
     while (at < end) {
         if (end - at > 1 && at[0] == '\xC2' && at[1] == '\xAE') {

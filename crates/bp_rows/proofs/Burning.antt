@@ -60,3 +60,11 @@ burned-AgreeOutside boxes p q agree =
     ∙ ap (λ x. image q.width q.height x p.yres p.unit (grid_of q.width q.height g)) agree.xres
     ∙ ap (λ y. image q.width q.height q.xres y p.unit (grid_of q.width q.height g)) agree.yres
     ∙ ap (λ u. image q.width q.height q.xres q.yres u (grid_of q.width q.height g)) agree.unit
+
+-- lists of boxes that cover the same pixels
+pub burned-covers : (p : Image) (some others : List Rect) → ((r c : ℕ) → r < p.height → c < p.width → covers some r c ≡ covers others r c) → burned p some ≡ burned p others
+burned-covers p some others same =
+    ap (with_rows p)
+    (same_grids p.width p.height (burned p some).rows (burned p others).rows (burned_is_grid p some) (burned_is_grid p others)
+    (λ r c down across.
+    pixel-burned p some r c down across ∙ ap (λ b. b || pixel p r c) (same r c down across) ∙ sym (pixel-burned p others r c down across)))

@@ -1,0 +1,6 @@
+mod Alike
+mod Boxes
+mod Making
+mod Printed
+mod Running
+mod WordLemmas

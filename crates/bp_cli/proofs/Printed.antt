@@ -1,0 +1,21 @@
+-- What writing a text prints.
+use Rattle.std.proofs.Common.{ℕ, ◌≡◌, ◌≤◌, Bool, true, List, [], ◌∷◌, length, take, Result, Ok, Err, refl, sym, ap, ◌∙◌, arith}
+use Rattle.std.proofs.lemmas.List.{take_all}
+use Rattle.bp_outside.specs.Counts.{risen}
+use Rattle.bp_outside.specs.Out.{OutView, with_written, WritesAll}
+use Rattle.bp_outside.specs.declared.refusals.OutRefusal.{OutRefusal}
+use Rattle.bp_outside.specs.declared.refusals.OutRefusal.TheVariants as outs
+use Rattle.bp_cli.specs.Ending.{WritesPart, quiet, faulty, Prints, instead, memory_line}
+
+-- a whole text is some prefix of it
+pub whole_part : (text : List ℕ) (out after : OutView) → after ≡ with_written out text → WritesPart text out after
+whole_part text out after written = quiet (length text) (written ∙ ap (with_written out) (sym (take_all (length text) text (omega arith))))
+
+pub part_of_write : (text : List ℕ) (out after : OutView) (r : Result (Unit {0}) OutRefusal) → WritesAll out text r after → WritesPart text out after
+part_of_write text out after (Ok _) written = whole_part text out after written
+part_of_write text out after (Err outs.Failed) part = faulty part.count part.written
+part_of_write text out after (Err outs.OutOfMemory) part = quiet part.count part.written
+
+-- whatever was to be printed, that memory ran out was printed instead
+pub lack_printed : (out after : OutView) (r : Result (Unit {0}) OutRefusal) → WritesAll out memory_line r after → (text : List ℕ) (wanted : ℕ) → Prints text wanted out after 6
+lack_printed out after r written text wanted = instead refl (part_of_write memory_line out after r written)

@@ -1,0 +1,55 @@
+-- Words and numbers.
+use Rattle.std.proofs.Common.{ℕ, ◌≡◌, ◌<◌, ◌≤◌, ◌^◌, Bool, true, false, not, ◌&&◌, ◌||◌, eqb, nat_le, List, [], ◌∷◌, length, map, Option, Some, None, Result, Ok, Err, get_or, refl, sym, ap, ◌∙◌, arith, String}
+use Rattle.std.specs.declared.alloc.Global.{Global}
+use Rattle.std.specs.List.{list_any, list_all}
+use Rattle.std.specs.Char.{is_ascii_digit}
+use Rattle.std.specs.Result.{result_ok}
+use Rattle.std.specs.Prelude.{codes}
+use Rattle.std.specs.Option.{option_map}
+use Rattle.std.specs.Str.{all_ascii_digits, bytes_eq}
+use Rattle.std.proofs.lemmas.List.{nil_from_length}
+use Rattle.std.specs.Str.Parse.{digits_value, ParsesUnsigned}
+use Rattle.std.specs.String.{string_bytes}
+use Rattle.std.proofs.lemmas.Bool.{and_parts, leb-true, cond-true, cond-false, eqb-true}
+use Rattle.std.proofs.lemmas.Str.Parse.{IsNumeralModel, numerals_by_value, tells_all_ascii_digits, parse_gives, digits_value_short}
+use Rattle.bp_cli.specs.Words.{BurnLine, CommandLine, burn, is_number, number_of, word_bytes, word_of, is_bad_word, burn_of, named_command, command_of}
+
+pub any_of_bytes : (words : List (String Global)) → list_any (λ word. is_bad_word (string_bytes word)) words ≡ list_any is_bad_word (word_bytes words)
+any_of_bytes [] = refl
+any_of_bytes (word ∷ words) = ap (λ rest. is_bad_word (string_bytes word) || rest) (any_of_bytes words)
+
+pub digits_alike : (word : List ℕ) → list_all is_ascii_digit word ≡ all_ascii_digits word
+digits_alike [] = refl
+digits_alike (c ∷ cs) = ap (λ rest. is_ascii_digit c && rest) (digits_alike cs)
+
+own : IsNumeralModel (λ ds. all_ascii_digits ds ≡ true) (digits_value 10)
+own = numerals_by_value _ tells_all_ascii_digits
+
+-- a number that is read
+pub number_read : {E : Type 0} (word : List ℕ) (r : Result ℕ E) → is_number word ≡ true → ParsesUnsigned 32 10 word r → result_ok r ≡ number_of word
+number_read word r good parsed =
+    let three = and_parts (nat_le 1 (length word) && nat_le (length word) 9 && (eqb (length word) 1 || not (eqb (get_or word 0 0) 48))) (all_ascii_digits word) good in
+    let two = and_parts (nat_le 1 (length word) && nat_le (length word) 9) (eqb (length word) 1 || not (eqb (get_or word 0 0) 48)) three.0 in
+    let one = and_parts (nat_le 1 (length word)) (nat_le (length word) 9) two.0 in
+    let some : 1 ≤ length word = leb-true 1 (length word) one.0 in
+    let few : length word ≤ 9 = leb-true (length word) 9 one.1 in
+    let value : digits_value 10 word < 2 ^ 32 = omega (arith, digits_value_short own word 9 three.1 few) in
+    ap result_ok (parse_gives own 32 word r parsed three.1 (omega arith) value)
+    ∙ sym (cond-true (is_number word) (Some (digits_value 10 word)) None good)
+
+pub no_number : (word : List ℕ) → is_number word ≡ false → None ≡ number_of word
+no_number word bad = sym (cond-false (is_number word) (Some (digits_value 10 word)) None bad)
+
+-- ---- command lines
+
+pub no_words : (words : List (String Global)) → eqb (length words) 0 ≡ true → None ≡ command_of (word_bytes words)
+no_words words empty = ap (λ ws. command_of (word_bytes ws)) (sym (nil_from_length words (eqb-true (length words) 0 empty)))
+
+pub bad_words : (words : List (List ℕ)) → list_any is_bad_word words ≡ true → None ≡ command_of words
+bad_words words bad = sym (cond-true (list_any is_bad_word words) None (named_command words) bad)
+
+pub good_burn : (words : List (List ℕ)) (b : BurnLine) → list_any is_bad_word words ≡ false → bytes_eq (word_of words 0) (codes "burn") ≡ true → Some b ≡ burn_of words → Some (burn b) ≡ command_of words
+good_burn words b good named operands =
+    ap (option_map burn) operands
+    ∙ sym (cond-true (bytes_eq (word_of words 0) (codes "burn")) (option_map burn (burn_of words)) None named)
+    ∙ sym (cond-false (list_any is_bad_word words) None (named_command words) good)

@@ -2,9 +2,14 @@
 // the built program from outside (bench/).
 //
 //     bp_bench codes white|black index|scan TIMES
+//     bp_bench dat ROWS TIMES
+//     bp_bench opt LINES TIMES
 #![tactic(auto)]
 
 mod codes;
+mod dat;
+mod opt;
+mod sums;
 
 use anyhow::{Result, bail};
 use std::alloc::Global;
@@ -24,6 +29,8 @@ fn run(alloc: Global, words: &[String]) -> Result<u64> {
     };
     match job.as_str() {
         "codes" => codes::run(alloc, operands),
+        "dat" => dat::run(alloc, operands),
+        "opt" => opt::run(alloc, operands),
         other => bail!("no job {other}"),
     }
 }

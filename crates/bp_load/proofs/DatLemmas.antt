@@ -1,5 +1,5 @@
 -- The quotes and the values of a DAT line.
-use Rattle.std.proofs.Common.{◌≡◌, ◌≢◌, lit<, ℕ, Bor, get_or, encode_utf8, encode_utf8_all, ◌+◌, ◌-◌, ◌<◌, ◌≤◌, true, false, Option, Some, None, List, [], ◌∷◌, ◌++◌, length, take, drop, refl, sym, ap, arith, ◌∙◌, inl, inr, length-append, append-nil, suc, subst, map, append_assoc, is_some}
+use Rattle.std.proofs.Common.{◌≡◌, ◌≢◌, lit<, ℕ, Bor, get_or, encode_utf8, encode_utf8_all, ◌+◌, ◌-◌, ◌<◌, ◌≤◌, true, false, not, cond, Option, Some, None, List, [], ◌∷◌, ◌++◌, length, take, drop, refl, sym, ap, arith, ◌∙◌, inl, inr, length-append, append-nil, suc, subst, map, append_assoc, is_some}
 use Rattle.std.specs.Prelude.{slice_index_or}
 use Rattle.std.proofs.lemmas.List.Splits.{length-slice_split}
 use Rattle.std.specs.List.{list_all, flat_map, join_with_byte}
@@ -8,11 +8,12 @@ use Rattle.std.specs.Char.{len_utf8}
 use Rattle.std.specs.Str.{chars, IsUtf8}
 use Rattle.std.specs.Str.Pattern.{FindsCharPrefix, FindsCharSuffix}
 use Rattle.std.proofs.Math.Seq.{get_or-append_seam}
-use Rattle.std.proofs.lemmas.Bool.{cases_Bool, and_parts, and_from, eqb-true, eq-eqb, leb-true, le-leb}
+use Rattle.std.proofs.lemmas.Bool.{cases_Bool, and_parts, and_from, eqb-true, eq-eqb, ne_eqb, ltb-true, leb-true, le-leb}
 use Rattle.std.proofs.lemmas.List.{take_at, take-append-drop, drop_all, map-append}
 use Rattle.std.proofs.lemmas.Str.{encodes-chars, encodes-append, chars-append, chars-encodes, chars_past_char, IsUtf8-past_char, IsUtf8-take, chars_from_encodes}
-use Rattle.bp_load.specs.Dat.{is_quoted, inside, is_inner, read_character, write_character, quoted, dat_values_text, quoted_value, together, each_value}
+use Rattle.bp_load.specs.Dat.{is_quoted, inside, is_inner, is_plain, read_character, write_character, quoted, dat_values_text, quoted_value, together, each_value}
 use Rattle.bp_load.proofs.LineLemmas.{ends_in, is_at}
+use Rattle.bp_load.proofs.TextLemmas.{failing_bytes, weaker}
 use Rattle.bp_load.specs.Fields.{fields_in}
 
 begins : (cs : List ℕ) → get_or cs 0 0 ≡ 254 → cs ≡ 254 ∷ drop 1 cs
@@ -93,6 +94,36 @@ after_quote s x n text h e =
 pub one_more : (f : ℕ → ℕ) (cs : List ℕ) (c : ℕ) → encode_utf8_all (map f cs) ++ encode_utf8 (f c) ≡ encode_utf8_all (map f (cs ++ c ∷ []))
 one_more f cs c =
     sym (ap encode_utf8_all (map-append f cs (c ∷ [])) ∙ encodes-append (map f cs) (f c ∷ []) ∙ ap (λ q. encode_utf8_all (map f cs) ++ q) (append-nil (encode_utf8 (f c))))
+
+plain_small : (b : ℕ) → is_plain b ≡ true → b < 128
+plain_small b h = ltb-true b 128 (and_parts _ _ h).0
+
+plain_large : (b : ℕ) → 128 ≤ b → is_plain b ≡ false
+plain_large b large =
+    elim (cases_Bool (is_plain b)) [
+      | inl plain ↦ absurd (omega (arith, plain_small b plain))
+      | inr other ↦ other
+    ]
+
+-- a character that such a byte is
+plain_inner : (b : ℕ) → is_plain b ≡ true → is_inner b ≡ true
+plain_inner b h = and_from _ _ (ap not (ne_eqb b 254 (λ e. absurd (omega (arith, plain_small b h, e))))) (and_parts _ _ h).1
+
+plain_read : (b : ℕ) → is_plain b ≡ true → read_character b ≡ b
+plain_read b h = ap (λ t. cond t 10 b) (ne_eqb b 0xAE (λ e. absurd (omega (arith, plain_small b h, e))))
+
+plain_reads : (cs : List ℕ) → list_all is_plain cs ≡ true → map read_character cs ≡ cs
+plain_reads [] h = refl
+plain_reads (c ∷ cs) h =
+    let parts = and_parts (is_plain c) (list_all is_plain cs) h in
+    ap (λ d. d ∷ map read_character cs) (plain_read c parts.0) ∙ ap (λ ds. c ∷ ds) (plain_reads cs parts.1)
+
+-- a text of such bytes has inner characters, and reads as itself
+pub plain_text : (s : List ℕ) → IsUtf8 s → list_all is_plain s ≡ true → (list_all is_inner (chars s) ≡ true) × (s ≡ encode_utf8_all (map read_character (chars s)))
+plain_text s text plain =
+    let own : encode_utf8_all (chars s) ≡ s = encodes-chars s text in
+    let passes : list_all is_plain (chars s) ≡ true = sym (failing_bytes is_plain plain_large (chars s)) ∙ ap (list_all is_plain) own ∙ plain in
+    (weaker is_plain is_inner plain_inner (chars s) passes, sym own ∙ ap encode_utf8_all (sym (plain_reads (chars s) passes)))
 
 -- the value of what a text reads as
 pub value_some : (piece inner text bytes : List ℕ) → is_quoted piece ≡ true → inner ≡ inside piece → list_all is_inner inner ≡ true → text ≡ chars bytes → IsUtf8 bytes → bytes ≡ encode_utf8_all (map read_character inner) → Some text ≡ quoted_value piece

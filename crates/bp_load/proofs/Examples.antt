@@ -1,13 +1,14 @@
 -- Worked examples of the definitions in specs/, each run by the check.
-use Rattle.std.proofs.Common.{◌≡◌, List, ℕ, [], ◌∷◌, ◌++◌, true, false, refl, Some, None, Ok, Err}
+use Rattle.std.proofs.Common.{◌≡◌, [], ◌∷◌, ◌++◌, true, false, refl, Some, None, Ok, Err}
 use Rattle.std.specs.Prelude.{codes}
+use Rattle.std.specs.List.{list_all}
 use Rattle.std.specs.Str.{chars, is_utf8}
 use Rattle.std.proofs.Math.Utf8.{encode}
 use Rattle.bp_core.specs.declared.rules.RuleKind.TheVariants.{OptShape, DatShape, DatEncoding}
 use Rattle.bp_load.specs.Lines.{without_mark, filled_lines, at_line}
 use Rattle.bp_load.specs.Opt.{opt_of, opt_text, are_opt_lines}
 use Rattle.bp_load.specs.declared.opt.OptLine.{OptLine}
-use Rattle.bp_load.specs.Dat.{dat_of, dat_text, quoted_value, is_writable}
+use Rattle.bp_load.specs.Dat.{dat_of, dat_text, quoted_value, is_plain, is_writable}
 use Rattle.bp_load.specs.Table.{Table}
 
 one_mark : without_mark (0xEF ∷ 0xBB ∷ 0xBF ∷ 0xEF ∷ 0xBB ∷ 0xBF ∷ []) ≡ 0xEF ∷ 0xBB ∷ 0xBF ∷ []
@@ -60,6 +61,15 @@ sign_read = refl
 
 quote_inside : quoted_value (0xFE ∷ 0xFE ∷ 0xFE ∷ []) ≡ None
 quote_inside = refl
+
+plain_bytes : list_all is_plain (codes "Fee note") ≡ true
+plain_bytes = refl
+
+return_is_not_plain : is_plain 13 ≡ false
+return_is_not_plain = refl
+
+outside_ascii_is_not_plain : is_plain 0x80 ≡ false
+outside_ascii_is_not_plain = refl
 
 abbrev small : Table
 small = record { columns = codes "ID" ∷ codes "NOTE" ∷ []; rows = (codes "A1" ∷ (codes "one" ++ 10 ∷ codes "two") ∷ []) ∷ [] }

@@ -1,6 +1,7 @@
 -- The DAT load file (Concordance): a line of column names, and a line a record.
 use Rattle.std.specs.Prelude.{ℕ, ◌-◌, Bool, List, [], ◌∷◌, ◌++◌, length, map, take, drop, slice_index, nat_le, ◌==◌, ◌&&◌, not, if◌then◌else◌, Option, Some, None, Result, Ok, Err, encode_utf8_all}
 use Rattle.std.specs.List.{slice_split, list_all, join_with_byte, flat_map}
+use Rattle.std.specs.Char.{is_ascii}
 use Rattle.std.specs.Str.{chars, is_utf8}
 use Rattle.bp_core.specs.declared.rules.Rule.{Rule}
 use Rattle.bp_core.specs.declared.rules.RuleKind.TheVariants.{DatShape, DatEncoding}
@@ -18,6 +19,10 @@ inside piece = take (length piece - 2) (drop 1 piece)
 -- neither a quote nor CR
 abbrev pub is_inner : ℕ → Bool
 is_inner c = not (c == 0xFE) && not (c == 13)
+
+-- a byte that is ASCII and no CR; a value of such bytes stands for itself
+abbrev pub is_plain : ℕ → Bool
+is_plain byte = is_ascii byte && not (byte == 13)
 
 -- the sign U+00AE stands for a newline
 abbrev pub read_character : ℕ → ℕ

@@ -7,7 +7,7 @@ ghost use Rattle.std.specs.String.{string_bytes};
 ghost use Rattle.bp_core.specs.Answers.{Answers};
 ghost use Rattle.bp_core.specs.declared.rules.RuleKind.TheVariants.{DatShape};
 ghost use Rattle.bp_load.specs.Lines.{at_line, each_line, filled_lines};
-ghost use Rattle.bp_load.specs.Dat.{dat_of, table_of, row_of, values_of, quoted_value, is_quoted, inside, is_inner, read_character, write_character, quoted, dat_values_text, dat_line_text, dat_text, is_cell_character, is_cell, is_name, is_writable};
+ghost use Rattle.bp_load.specs.Dat.{dat_of, table_of, row_of, values_of, quoted_value, is_quoted, inside, is_inner, is_plain, read_character, write_character, quoted, dat_values_text, dat_line_text, dat_text, is_cell_character, is_cell, is_name, is_writable};
 ghost use Rattle.bp_load.specs.Table.{is_even};
 
 use crate::fields::next_field;
@@ -114,7 +114,7 @@ fn read_table(alloc: Global, text: &str) -> Result<Dat, Refusal>
     let Some((header, rest)) = first_filled_line(text) else {
         return Err(refused(RuleKind::DatShape, 1));
     };
-    let Some(columns) = read_values(alloc, header)? else {
+    let Some(columns) = read_values(alloc, header, 0)? else {
         return Err(refused(RuleKind::DatShape, 1));
     };
     let rows = read_rows(alloc, rest, columns.len())?;
@@ -141,17 +141,17 @@ fn read_rows(alloc: Global, text: &str, width: usize) -> Result<TextTable, Refus
 fn read_row(alloc: Global, line: &str, width: usize, number: u32) -> Result<TextList, Refusal>
     ensures { Answers (λ row. row) result (ok_or (row_of width line.now) (at_line DatShape number)) }
 {
-    match read_values(alloc, line)? {
+    match read_values(alloc, line, width)? {
         Some(values) if values.len() == width => Ok(values),
         _ => Err(refused(RuleKind::DatShape, number)),
     }
 }
 
-/// The values of a line.
-fn read_values(alloc: Global, line: &str) -> Result<Option<TextList>, OutOfMemory>
+/// The values of a line, with room for so many from the start.
+fn read_values(alloc: Global, line: &str, room: usize) -> Result<Option<TextList>, OutOfMemory>
     ensures { IfOk result (λ found. found ≡ values_of line.now) }
 {
-    let mut values = Vec::new(alloc);
+    let mut values = Vec::with_capacity(alloc, room)?;
     let mut rest = Some(line);
     while rest.is_some() {
         let (piece, after) = next_field(rest, '\u{14}');
@@ -171,6 +171,10 @@ fn read_value(alloc: Global, piece: &str) -> Result<Option<Text>, OutOfMemory>
     let Some(inner) = unquoted(piece) else {
         return Ok(None);
     };
+    if are_plain(inner.as_bytes()) {
+        let text = String::from_str(alloc, inner)?;
+        return Ok(Some(Text::from_string(text)));
+    }
     if !are_inner(inner) {
         return Ok(None);
     }
@@ -184,6 +188,13 @@ fn unquoted(piece: &str) -> Option<&str>
         (λ inner. (is_quoted (chars piece.now) ≡ true) × (chars inner.now ≡ inside (chars piece.now))) }
 {
     piece.strip_prefix('\u{fe}')?.strip_suffix('\u{fe}')
+}
+
+/// Whether each byte is ASCII and no CR. Such a value, as most are, stands for itself, and is copied whole.
+fn are_plain(bytes: &[u8]) -> bool
+    ensures { result ≡ list_all is_plain bytes.now }
+{
+    bytes.iter().all(|byte| byte.is_ascii() && *byte != b'\r')
 }
 
 fn are_inner(text: &str) -> bool

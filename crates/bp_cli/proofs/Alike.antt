@@ -1,6 +1,5 @@
 -- Two matters that differ only in what a command withholds have one outcome.
-use Rattle.std.proofs.Common.{ℕ, ◌≡◌, ◌≤◌, ◌+◌, ◌*◌, ◌||◌, Bool, List, [], ◌∷◌, ◌++◌, length, Option, Some, Result, Ok, Err, refl, sym, ap, subst, ◌∙◌, arith, eqb, cond}
-use Rattle.std.specs.FinMap as map
+use Rattle.std.proofs.Common.{ℕ, ◌≡◌, ◌≤◌, ◌+◌, ◌*◌, ◌||◌, List, [], ◌∷◌, ◌++◌, length, Some, Result, Ok, Err, sym, ap, subst, ◌∙◌, arith, eqb, cond}
 use Rattle.std.proofs.lemmas.List.{length-append}
 use Rattle.bp_core.specs.declared.rules.Rule.{Rule}
 use Rattle.bp_core.specs.declared.rules.RuleKind.TheVariants as kinds
@@ -15,7 +14,7 @@ use Rattle.bp_rows.proofs.Packing.{length-packed_rows}
 use Rattle.bp_rows.proofs.Pages.{strip_small}
 use Rattle.bp_tiff.specs.declared.form.Form.TheVariants.{Plain}
 use Rattle.bp_tiff.specs.Tiff.{tiff_of, head_of, fields_of}
-use Rattle.bp_tiff.specs.Plain.{IsPlainFile, plain_answer}
+use Rattle.bp_tiff.specs.Plain.{IsPlainFile}
 use Rattle.bp_tiff.proofs.PlainFiles.{length-head_of, plain_answer-file}
 use Rattle.bp_cli.specs.Words.{BurnLine, CommandLine, burn}
 use Rattle.bp_cli.specs.Outcome.{BurnAlike, AlikeFor, bare_rule, burn_page, burn_read, burn_answer, burn_outcome, outcome_of, file_limit}

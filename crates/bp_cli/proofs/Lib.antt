@@ -1,5 +1,6 @@
 mod Alike
 mod Boxes
+mod Examples
 mod Making
 mod Printed
 mod Running

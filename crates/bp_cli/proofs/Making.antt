@@ -1,12 +1,11 @@
 -- From what a read gave to the outcome of the command.
-use Rattle.std.proofs.Common.{ℕ, ◌≡◌, ◌<◌, ◌≤◌, ◌+◌, Bool, true, false, cond, eqb, nat_lt, ◌||◌, List, [], ◌∷◌, length, replicate, Option, Some, None, Result, Ok, Err, refl, sym, ap, subst, ◌∙◌, arith, inl, inr}
+use Rattle.std.proofs.Common.{ℕ, ◌≡◌, ◌<◌, ◌≤◌, ◌+◌, Bool, true, false, cond, eqb, nat_lt, ◌||◌, List, [], ◌∷◌, length, replicate, Option, Some, None, Result, Ok, Err, refl, sym, ap, subst, ◌∙◌, arith}
 use Rattle.std.specs.Prelude.{IfSome, IsSomeAnd}
 use Rattle.std.specs.Option.{ok_or}
 use Rattle.std.specs.Ordering.{nat_cmp, eq_by_cmp}
 use Rattle.std.specs.Cmp.Lexicographic.{slice_cmp, texts_ties, nat_list_cmp_total}
 use Rattle.std.specs.FinMap as map
-use Rattle.std.specs.Str.{bytes_eq}
-use Rattle.std.proofs.lemmas.Bool.{cases_Bool, cond-true, cond-false, lt-ltb, le-ltb}
+use Rattle.std.proofs.lemmas.Bool.{cond-true, cond-false, lt-ltb, le-ltb}
 use Rattle.std.proofs.lemmas.Slice.Eq.{bytes_eq-Decides}
 use Rattle.std.proofs.lemmas.List.{length-replicate}
 use Rattle.bp_core.specs.declared.rules.Rule.{Rule}
@@ -22,7 +21,7 @@ use Rattle.bp_outside.specs.declared.refusals.ReadRefusal.TheVariants as reads
 use Rattle.bp_cli.specs.declared.ending.Stop.{Stop}
 use Rattle.bp_cli.specs.declared.ending.Stop.TheVariants as stops
 use Rattle.bp_cli.specs.Words.{BurnLine, burn}
-use Rattle.bp_cli.specs.Outcome.{Outcome, refused, IsOutcome, bare_rule, burn_page, burn_read, burn_answer, burn_outcome, burned_line, outcome_of, file_limit}
+use Rattle.bp_cli.specs.Outcome.{Outcome, refused, IsOutcome, bare_rule, burn_read, burn_answer, burn_outcome, burned_line, file_limit}
 use Rattle.bp_outside.specs.Folder.{FolderView, PutsPart, after_refusal, file}
 use Rattle.bp_outside.specs.declared.refusals.FolderRefusal.{FolderRefusal}
 use Rattle.bp_outside.specs.declared.refusals.FolderRefusal.TheVariants as folders

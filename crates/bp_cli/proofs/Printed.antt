@@ -1,7 +1,6 @@
 -- What writing a text prints.
-use Rattle.std.proofs.Common.{ℕ, ◌≡◌, ◌≤◌, Bool, true, List, [], ◌∷◌, length, take, Result, Ok, Err, refl, sym, ap, ◌∙◌, arith}
+use Rattle.std.proofs.Common.{ℕ, ◌≡◌, List, length, Result, Ok, Err, refl, sym, ap, ◌∙◌, arith}
 use Rattle.std.proofs.lemmas.List.{take_all}
-use Rattle.bp_outside.specs.Counts.{risen}
 use Rattle.bp_outside.specs.Out.{OutView, with_written, WritesAll}
 use Rattle.bp_outside.specs.declared.refusals.OutRefusal.{OutRefusal}
 use Rattle.bp_outside.specs.declared.refusals.OutRefusal.TheVariants as outs

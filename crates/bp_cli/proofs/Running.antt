@@ -1,6 +1,6 @@
 -- Every promise of a run, from how its work ended and what was printed. It names no command but for the law of two
 -- matters.
-use Rattle.std.proofs.Common.{ℕ, ◌≡◌, ◌≢◌, ◌≤◌, ◌+◌, ◌-◌, ◌^◌, Bool, true, false, ◌||◌, eqb, min, List, [], ◌∷◌, ◌++◌, length, Option, Some, None, Result, Ok, Err, IsTrue, refl, sym, ap, subst, ◌∙◌, arith, inl, inr, ◌⊎◌, ⊎_elim}
+use Rattle.std.proofs.Common.{ℕ, ◌≡◌, Bool, true, false, eqb, List, [], ◌∷◌, Option, Some, None, Ok, Err, refl, sym, ap, subst, ◌∙◌, arith, inl, inr, ◌⊎◌}
 use Rattle.std.specs.Prelude.{IfSome}
 use Rattle.std.proofs.lemmas.Bool.{eq-eqb, or_left, or_right}
 use Rattle.bp_core.specs.declared.rules.Rule.{Rule}
@@ -14,7 +14,7 @@ use Rattle.bp_cli.specs.declared.ending.Stop.TheVariants as stops
 use Rattle.bp_cli.specs.Words.{CommandLine}
 use Rattle.bp_cli.specs.Outcome as outcomes
 use Rattle.bp_cli.specs.Outcome.{Outcome, IsOutcome, outcome_of, AlikeFor}
-use Rattle.bp_cli.specs.Ending.{Ending, status_of, text_of, memory_line, with_files, AddsPart, Works, WorksFor, WritesPart, Prints, whole, cut, lacking, instead}
+use Rattle.bp_cli.specs.Ending.{Ending, status_of, text_of, with_files, AddsPart, Prints, whole, cut, lacking, instead}
 use Rattle.bp_cli.specs.Runs.{Outside, Worked, Ended, PrintedPart, IsAmong, outcome_status, Runs}
 use Rattle.bp_cli.proofs.Printed.{whole_part}
 use Rattle.bp_cli.proofs.Alike.{outcome_alike}

@@ -12,7 +12,7 @@ use Rattle.bp_outside.specs.declared.files.FileRow.{FileRow}
 use Rattle.bp_cli.specs.declared.ending.Stop.{Stop}
 use Rattle.bp_cli.specs.declared.ending.Stop.TheVariants as stops
 use Rattle.bp_cli.specs.Words.{CommandLine}
-use Rattle.bp_cli.specs.Outcome.{Outcome, done, refused, IsOutcome}
+use Rattle.bp_cli.specs.Outcome.{done, refused, IsOutcome}
 
 -- the line, or where the work stopped
 abbrev pub Ending : Type 0

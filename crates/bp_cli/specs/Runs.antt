@@ -1,5 +1,5 @@
 -- What a run of the program promises.
-use Rattle.std.specs.Prelude.{ℕ, ◌≡◌, ◌==◌, ◌⊎◌, Bool, true, Option, Some, None, Ok, Err, List, [], ◌∷◌, IsTrue}
+use Rattle.std.specs.Prelude.{ℕ, ◌≡◌, ◌==◌, ◌⊎◌, true, Option, Some, None, Ok, Err, List, [], ◌∷◌, IsTrue}
 use Rattle.std.specs.List.{list_any}
 use Rattle.bp_core.specs.declared.rules.Rule.{Rule}
 use Rattle.bp_outside.specs.Counts.{risen, Rose}

@@ -1,5 +1,4 @@
 -- A command of the code, as contracts see it.
-use Rattle.std.specs.Prelude.{ℕ, List}
 use Rattle.std.specs.Str.{chars}
 use Rattle.bp_cli.specs.declared.command.Burn.{Burn}
 use Rattle.bp_cli.specs.declared.command.Command.{Command}

@@ -6,6 +6,8 @@ mod burning;
 mod command;
 mod ending;
 mod printing;
+#[cfg(test)]
+mod tests;
 mod top;
 
 use crate::ending::Stop;

@@ -1,4 +1,4 @@
-use Rattle.std.proofs.Common.{◌≡◌, List, ℕ, Result, Err, sym, subst}
+use Rattle.std.proofs.Common.{Err, sym, subst}
 use Rattle.bp_cli.specs.declared.ending.Stop.{Stop}
 use Rattle.bp_cli.specs.Seen.{burn_seen}
 use Rattle.bp_cli.specs.Performs.{MakesFile}

@@ -1,4 +1,4 @@
-use Rattle.std.proofs.Common.{refl, sym, subst}
+use Rattle.std.proofs.Common.{refl, subst}
 use Rattle.bp_outside.specs.Out.{WritesPrefix, after_refusal}
 use Rattle.bp_outside.specs.declared.refusals.OutRefusal.{OutRefusal}
 use Rattle.bp_cli.specs.Ending.{lacking, quiet}

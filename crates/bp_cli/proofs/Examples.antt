@@ -1,0 +1,107 @@
+-- Worked examples of the definitions in specs/, each run by the check.
+use Rattle.std.proofs.Common.{ℕ, ◌≡◌, Bool, true, false, List, [], ◌∷◌, Some, None, Ok, Err, refl}
+use Rattle.std.specs.Prelude.{codes}
+use Rattle.std.specs.Fmt.{digits}
+use Rattle.std.specs.Str.{chars}
+use Rattle.bp_core.specs.declared.rules.RuleKind.TheVariants as kinds
+use Rattle.bp_outside.specs.Folder.{file}
+use Rattle.bp_rows.specs.declared.resolution.Unit.TheVariants as units
+use Rattle.bp_rows.specs.Image.{Image}
+use Rattle.bp_tiff.specs.declared.form.Form.TheVariants.{Plain}
+use Rattle.bp_tiff.specs.Tiff.{tiff_of}
+use Rattle.bp_tiff.specs.Plain.{form_not_built}
+use Rattle.bp_cli.specs.declared.ending.Stop.TheVariants as stops
+use Rattle.bp_cli.specs.Words.{BurnLine, burn, number_of, is_bad_word, command_of}
+use Rattle.bp_cli.specs.Outcome.{bare_rule, burn_answer, burn_outcome, done}
+use Rattle.bp_cli.specs.Ending.{status_of, text_of}
+
+-- ---- words
+
+number_0 : number_of (codes "0") ≡ Some 0
+number_0 = refl
+
+number_leading_zero : number_of (codes "01") ≡ None
+number_leading_zero = refl
+
+number_empty : number_of [] ≡ None
+number_empty = refl
+
+number_nine_digits : number_of (codes "123456789") ≡ Some 123456789
+number_nine_digits = refl
+
+number_ten_digits : number_of (codes "1234567890") ≡ None
+number_ten_digits = refl
+
+number_sign : number_of (codes "+1") ≡ None
+number_sign = refl
+
+bad_words : (is_bad_word [] ≡ true) × (is_bad_word (codes "-a") ≡ true) × (is_bad_word (codes "a-") ≡ false)
+bad_words = (refl, refl, refl)
+
+box : ℕ → ℕ → ℕ → ℕ → BurnLine
+box l t w h = record { from = codes "a.tif"; area = record { left = l; top = t; width = w; height = h }; to = codes "b.tif"; form = Plain }
+
+line : List ℕ → List (List ℕ)
+line left =
+    codes "burn" ∷ codes "a.tif" ∷ left ∷ codes "0" ∷ codes "8" ∷ codes "1" ∷ codes "b.tif" ∷ codes "plain" ∷ []
+
+worked_line : command_of (line (codes "0")) ≡ Some (burn (box 0 0 8 1))
+unfolding box line chars
+worked_line = refl
+
+no_left : command_of (line (codes "x")) ≡ None
+unfolding line
+no_left = refl
+
+burn_alone : command_of (codes "burn" ∷ []) ≡ None
+burn_alone = refl
+
+no_words : command_of [] ≡ None
+no_words = refl
+
+-- ---- the file, or the first broken rule
+
+-- a page of 8 by 1 pixels at 200 to the inch, all of one colour
+page : Bool → Image
+page black =
+    record {
+      width = 8;
+      height = 1;
+      xres = record { num = 200; den = 1 };
+      yres = record { num = 200; den = 1 };
+      unit = units.Inch;
+      rows = (black ∷ black ∷ black ∷ black ∷ black ∷ black ∷ black ∷ black ∷ []) ∷ [];
+    }
+
+burned_whole : burn_answer (box 0 0 8 1) (Some (tiff_of Plain (page false))) ≡ Ok (tiff_of Plain (page true))
+unfolding box page
+burned_whole = refl
+
+outside : burn_answer (box 1 0 8 1) (Some (tiff_of Plain (page false))) ≡ Err (bare_rule kinds.BoxOutside)
+unfolding box page
+outside = refl
+
+-- a box without a width that lies outside as well
+no_width : burn_answer (box 9 0 0 1) (Some (tiff_of Plain (page false))) ≡ Err (bare_rule kinds.BoxShape)
+unfolding box page
+no_width = refl
+
+no_page : burn_answer (box 0 0 0 1) (Some (codes "x")) ≡ Err form_not_built
+unfolding box
+no_page = refl
+
+no_file : burn_answer (box 0 0 8 1) None ≡ Err (bare_rule kinds.FileAbsent)
+no_file = refl
+
+told : burn_outcome (box 0 0 8 1) (Ok (tiff_of Plain (page true))) ≡ done (codes "burned 187\n") (file (codes "b.tif") (tiff_of Plain (page true)) ∷ [])
+unfolding box page digits
+told = refl
+
+-- ---- what is printed
+
+outside_line : text_of (Err (stops.Broken (bare_rule kinds.BoxOutside))) ≡ codes "refused 13 BoxOutside 0 0 0\n"
+unfolding digits
+outside_line = refl
+
+fault_line : (text_of (Err stops.SourceFault) ≡ codes "source fault\n") × (status_of (Err stops.SourceFault) ≡ 3)
+fault_line = (refl, refl)

@@ -1,0 +1,246 @@
+// Runs of the program over objects in memory.
+use crate::top::run;
+use bp_core::{Bytes, NumberList, Text};
+use bp_outside::{FileList, FileRow, MemFolder, MemOut, MemSource, paths_differ};
+use std::alloc::{AllocError, Global};
+use std::test::Fail;
+
+// The plain file of a white page of 8 by 1 pixels at 200 to the inch, from TIFF 6.0.
+const WHITE: [u8; 187] = [
+    0x49, 0x49, 0x2A, 0x00, 0x08, 0x00, 0x00, 0x00, 0x0D, 0x00, // header, count of entries
+    0x00, 0x01, 0x04, 0x00, 0x01, 0x00, 0x00, 0x00, 0x08, 0x00, 0x00, 0x00, // ImageWidth
+    0x01, 0x01, 0x04, 0x00, 0x01, 0x00, 0x00, 0x00, 0x01, 0x00, 0x00, 0x00, // ImageLength
+    0x02, 0x01, 0x03, 0x00, 0x01, 0x00, 0x00, 0x00, 0x01, 0x00, 0x00, 0x00, // BitsPerSample
+    0x03, 0x01, 0x03, 0x00, 0x01, 0x00, 0x00, 0x00, 0x01, 0x00, 0x00, 0x00, // Compression
+    0x06, 0x01, 0x03, 0x00, 0x01, 0x00, 0x00, 0x00, 0x00, 0x00, 0x00, 0x00, // Photometric
+    0x0A, 0x01, 0x03, 0x00, 0x01, 0x00, 0x00, 0x00, 0x01, 0x00, 0x00, 0x00, // FillOrder
+    0x11, 0x01, 0x04, 0x00, 0x01, 0x00, 0x00, 0x00, 0xBA, 0x00, 0x00, 0x00, // StripOffsets
+    0x15, 0x01, 0x03, 0x00, 0x01, 0x00, 0x00, 0x00, 0x01, 0x00, 0x00, 0x00, // SamplesPerPixel
+    0x16, 0x01, 0x04, 0x00, 0x01, 0x00, 0x00, 0x00, 0x01, 0x00, 0x00, 0x00, // RowsPerStrip
+    0x17, 0x01, 0x04, 0x00, 0x01, 0x00, 0x00, 0x00, 0x01, 0x00, 0x00, 0x00, // StripByteCounts
+    0x1A, 0x01, 0x05, 0x00, 0x01, 0x00, 0x00, 0x00, 0xAA, 0x00, 0x00, 0x00, // XResolution
+    0x1B, 0x01, 0x05, 0x00, 0x01, 0x00, 0x00, 0x00, 0xB2, 0x00, 0x00, 0x00, // YResolution
+    0x28, 0x01, 0x03, 0x00, 0x01, 0x00, 0x00, 0x00, 0x02, 0x00, 0x00, 0x00, // ResolutionUnit
+    0x00, 0x00, 0x00, 0x00, // no next directory
+    0xC8, 0x00, 0x00, 0x00, 0x01, 0x00, 0x00, 0x00, // 200/1
+    0xC8, 0x00, 0x00, 0x00, 0x01, 0x00, 0x00, 0x00, // 200/1
+    0x00,
+];
+
+const WORKED: &str = "burn a.tif 0 0 8 1 b.tif plain";
+
+fn row(alloc: Global, path: &str, bytes: &[u8]) -> Result<FileRow, AllocError> {
+    Ok(FileRow {
+        path: Text::from_string(String::from_str(alloc, path)?),
+        bytes: Bytes::from_vec(bytes.to_vec(alloc)?),
+    })
+}
+
+fn numbers(alloc: Global, of: &[u64]) -> Result<NumberList, AllocError> {
+    Ok(NumberList::from_vec(of.to_vec(alloc)?))
+}
+
+// The plain file of a page of those sides with this strip.
+fn file_of(alloc: Global, strip: u8) -> Result<Vec<u8>, AllocError> {
+    let mut bytes = WHITE[..186].to_vec(alloc)?;
+    bytes.push(strip)?;
+    Ok(bytes)
+}
+
+// Which calls of the source, the folder and the out are to fail.
+#[derive(Clone, Copy)]
+struct Failing<'a> {
+    source: &'a [u64],
+    folder: &'a [u64],
+    out: &'a [u64],
+}
+
+const NOTHING_FAILS: Failing<'static> = Failing {
+    source: &[],
+    folder: &[],
+    out: &[],
+};
+
+// What a run gave.
+#[derive(Drop)]
+struct Seen {
+    status: u8,
+    folder: MemFolder,
+    out: MemOut,
+}
+
+// The words of a line with one space between them; a line of none has none.
+fn words_of(alloc: Global, line: &str) -> Result<Vec<String>, AllocError> {
+    let mut words = Vec::new(alloc);
+    if !line.is_empty() {
+        for word in line.split(' ') {
+            words.push(String::from_str(alloc, word)?)?;
+        }
+    }
+    Ok(words)
+}
+
+// Runs the words of a line over a source with the page at a.tif and the one byte `x` at x.tif.
+fn ran(alloc: Global, line: &str, failing: &Failing<'_>) -> Result<Seen, Fail> {
+    let words = words_of(alloc, line)?;
+    let rows = vec![in alloc; row(alloc, "a.tif", &WHITE)?, row(alloc, "x.tif", b"x")?]?;
+    let files = FileList::from_vec(rows);
+    if !paths_differ(&files) {
+        return Err(Fail::from("two files at one path"));
+    }
+    let mut source = MemSource::over(files, numbers(alloc, failing.source)?);
+    let mut folder = MemFolder::over(FileList::new(alloc), numbers(alloc, failing.folder)?);
+    let mut out = MemOut::over(
+        Bytes::from_vec(Vec::new(alloc)),
+        numbers(alloc, failing.out)?,
+    );
+    let status = run(alloc, &words, &mut source, &mut folder, &mut out);
+    Ok(Seen {
+        status,
+        folder,
+        out,
+    })
+}
+
+#[test]
+fn a_box_is_burned(rt: HostRuntime) -> Result<(), Fail> {
+    let alloc = rt.alloc();
+    for (line, strip) in [
+        (WORKED, 0xFFu8),
+        ("burn a.tif 1 0 1 1 b.tif plain", 0x40),
+        ("burn a.tif 7 0 1 1 b.tif plain", 0x01),
+        ("burn a.tif 2 0 5 1 b.tif plain", 0x3E),
+    ] {
+        let seen = ran(alloc, line, &NOTHING_FAILS)?;
+        assert_eq!(rt; seen.status, 0, "{line}");
+        assert_eq!(rt; seen.out.written(), b"burned 187\n".as_slice(), "{line}");
+        let [file] = seen.folder.files() else {
+            return Err(Fail::from("not one file"));
+        };
+        assert_eq!(rt; file.path.as_str(), "b.tif");
+        assert_eq!(rt;
+            file.bytes.as_slice(),
+            file_of(alloc, strip)?.as_slice(),
+            "{line}"
+        );
+    }
+    Ok(())
+}
+
+#[test]
+fn a_broken_rule_is_named(rt: HostRuntime) -> Result<(), Fail> {
+    let alloc = rt.alloc();
+    for (line, printed) in [
+        (
+            "burn a.tif 1 0 8 1 b.tif plain",
+            "refused 13 BoxOutside 0 0 0\n",
+        ),
+        (
+            "burn a.tif 0 1 8 1 b.tif plain",
+            "refused 13 BoxOutside 0 0 0\n",
+        ),
+        (
+            "burn a.tif 0 0 0 1 b.tif plain",
+            "refused 14 BoxShape 0 0 0\n",
+        ),
+        (
+            "burn a.tif 9 0 8 0 b.tif plain",
+            "refused 14 BoxShape 0 0 0\n",
+        ),
+        (
+            "burn x.tif 0 0 0 1 b.tif plain",
+            "refused 88 FormNotBuilt 0 0 0\n",
+        ),
+        (
+            "burn c.tif 0 0 0 1 b.tif plain",
+            "refused 54 FileAbsent 0 0 0\n",
+        ),
+    ] {
+        let seen = ran(alloc, line, &NOTHING_FAILS)?;
+        assert_eq!(rt; seen.status, 2, "{line}");
+        assert_eq!(rt; seen.out.written(), printed.as_bytes(), "{line}");
+        assert!(rt; seen.folder.files().is_empty(), "{line}");
+    }
+    Ok(())
+}
+
+#[test]
+fn words_that_are_no_command_line_are_refused(rt: HostRuntime) -> Result<(), Fail> {
+    let alloc = rt.alloc();
+    for line in [
+        "",
+        "burn",
+        "Burn a.tif 0 0 8 1 b.tif plain",
+        "burns a.tif 0 0 8 1 b.tif plain",
+        "burn a.tif 0 0 8 1 b.tif",
+        "burn a.tif 0 0 8 1 b.tif plain plain",
+        "burn a.tif 0 0 8 1 b.tif g4",
+        "burn a.tif 0 0 8 1 b.tif Plain",
+        "burn a.tif 00 0 8 1 b.tif plain",
+        "burn a.tif 0 01 8 1 b.tif plain",
+        "burn a.tif 0 0 1234567890 1 b.tif plain",
+        "burn a.tif 0 0 8 +1 b.tif plain",
+        "burn a.tif 0 0 8 1x b.tif plain",
+        "burn a.tif 0 0 -8 1 b.tif plain",
+        "burn -a.tif 0 0 8 1 b.tif plain",
+        "burn a.tif 0 0 8 1 -b.tif plain",
+        "burn  0 0 8 1 b.tif plain",
+        "burn a.tif 0 0 8 1  plain",
+    ] {
+        let seen = ran(alloc, line, &NOTHING_FAILS)?;
+        assert_eq!(rt; seen.status, 1, "{line}");
+        assert_eq!(rt; seen.out.written(), b"words refused\n".as_slice(), "{line}");
+        assert!(rt; seen.folder.files().is_empty(), "{line}");
+    }
+    Ok(())
+}
+
+#[test]
+fn a_fault_of_the_source_leaves_nothing(rt: HostRuntime) -> Result<(), Fail> {
+    let failing = Failing {
+        source: &[0],
+        ..NOTHING_FAILS
+    };
+    let seen = ran(rt.alloc(), WORKED, &failing)?;
+    assert_eq!(rt; seen.status, 3);
+    assert_eq!(rt; seen.out.written(), b"source fault\n".as_slice());
+    assert!(rt; seen.folder.files().is_empty());
+    Ok(())
+}
+
+// A call that fails has added half of what it would have taken.
+#[test]
+fn a_fault_of_the_folder_leaves_a_prefix(rt: HostRuntime) -> Result<(), Fail> {
+    for (call, length) in [(0u64, 0usize), (1, 93), (2, 187)] {
+        let calls = [call];
+        let failing = Failing {
+            folder: &calls,
+            ..NOTHING_FAILS
+        };
+        let seen = ran(rt.alloc(), WORKED, &failing)?;
+        assert_eq!(rt; seen.status, 4, "at call {call}");
+        assert_eq!(rt;
+            seen.out.written(),
+            b"folder fault\n".as_slice(),
+            "at call {call}"
+        );
+        let part = seen.folder.files().first().map(|file| file.bytes.len());
+        assert_eq!(rt; part.unwrap_or(0), length, "at call {call}");
+    }
+    Ok(())
+}
+
+#[test]
+fn a_fault_of_the_out_leaves_a_prefix(rt: HostRuntime) -> Result<(), Fail> {
+    let failing = Failing {
+        out: &[0],
+        ..NOTHING_FAILS
+    };
+    for (line, printed, files) in [(WORKED, "burne", 1), ("burn", "words r", 0)] {
+        let seen = ran(rt.alloc(), line, &failing)?;
+        assert_eq!(rt; seen.status, 7, "{line}");
+        assert_eq!(rt; seen.out.written(), printed.as_bytes(), "{line}");
+        assert_eq!(rt; seen.folder.files().len(), files, "{line}");
+    }
+    Ok(())
+}

@@ -14,8 +14,8 @@ use Rattle.bp_cli.specs.declared.ending.Stop.TheVariants as stops
 use Rattle.bp_cli.specs.Words.{CommandLine}
 use Rattle.bp_cli.specs.Outcome as outcomes
 use Rattle.bp_cli.specs.Outcome.{Outcome, IsOutcome, outcome_of, AlikeFor}
-use Rattle.bp_cli.specs.Ending.{Ending, status_of, text_of, with_files, AddsPart, Prints, whole, cut, lacking, instead}
-use Rattle.bp_cli.specs.Runs.{Outside, Worked, Ended, PrintedPart, IsAmong, outcome_status, Runs}
+use Rattle.bp_cli.specs.Ending.{Ending, status_of, text_of, refused_line, with_files, AddsPart, Prints, whole, cut, lacking, instead}
+use Rattle.bp_cli.specs.Runs.{Outside, Worked, Ended, PrintedPart, IsAmong, outcome_status, Gives, Runs}
 use Rattle.bp_cli.proofs.Printed.{whole_part}
 use Rattle.bp_cli.proofs.Alike.{outcome_alike}
 
@@ -227,6 +227,15 @@ full_ending c before after files (Err stops.SourceFault) told calm quiet worked 
 full_ending c before after files (Err stops.FolderFault) told calm quiet worked = absurd (quiet (folder_rose (Some c) before after worked))
 full_ending c before after files (Err stops.OutOfMemory) told calm quiet worked = inr refl
 
+-- what came out of a command that ended by its outcome
+done_gives : (c : CommandLine) (before after : Outside) (files : FileMap) (line : List ℕ) → before.source.files ≡ Some files → Worked (Some c) before after (Ok line) → after.out ≡ with_written before.out line → Gives (outcome_of c files) before after
+done_gives c before after files line told worked written =
+    subst (λ (o : Outcome). Gives o before after) (sym (told_outcome c before.source (outcomes.done line worked.0) files told worked.1)) (worked.3, written)
+
+refused_gives : (c : CommandLine) (before after : Outside) (files : FileMap) (rule : Rule) → before.source.files ≡ Some files → Worked (Some c) before after (Err (stops.Broken rule)) → after.out ≡ with_written before.out (refused_line rule) → Gives (outcome_of c files) before after
+refused_gives c before after files rule told worked written =
+    subst (λ (o : Outcome). Gives o before after) (sym (told_outcome c before.source (outcomes.refused rule) files told worked.0)) (worked.2, written)
+
 -- ---- objects that can't fail
 
 no_rise : (before now : ℕ) → now ≡ 0 → Rose before now → ⊥
@@ -326,6 +335,18 @@ module _ (command : Option CommandLine) (before after : Outside) (status : ℕ) 
       among_two (text_of e) (status_of e) before.out after.out status (outcome_status (outcome_of c files)) still
       (full_ending c before after files e told calm quiet (subst (λ (o : Option CommandLine). Worked o before after e) is worked)) printed
 
+  run_gives : (c : CommandLine) (files : FileMap) → command ≡ Some c → before.source.files ≡ Some files → (status ≡ 0) ⊎ (status ≡ 2) → Gives (outcome_of c files) before after
+  run_gives c files is told (inl done) =
+      let d = run_done done in
+      done_gives c before after files d.0 told (subst (λ (o : Option CommandLine). Worked o before after (Ok d.0)) is d.1.0) d.1.1
+  run_gives c files is told (inr refused) =
+      let r = run_refused refused in
+      refused_gives c before after files r.0 told (subst (λ (o : Option CommandLine). Worked o before after (Err (stops.Broken r.0))) is r.1.0) r.1.1
+
+  run_alike : (c : CommandLine) (files files' : FileMap) → command ≡ Some c → before.source.files ≡ Some files → AlikeFor c files files' → (status ≡ 0) ⊎ (status ≡ 2) → Gives (outcome_of c files') before after
+  run_alike c files files' is told alike ended_so =
+      subst (λ (o : Outcome). Gives o before after) (sym (outcome_alike c files files' alike)) (run_gives c files is told ended_so)
+
 pub runs : (command : Option CommandLine) (before after : Outside) (status : ℕ) (e : Ending) → Worked command before after e → Prints (text_of e) (status_of e) before.out after.out status → (after.source.sure ≡ true → after.source.faults ≡ 0) → (after.folder.sure ≡ true → after.folder.faults ≡ 0) → (after.out.sure ≡ true → after.out.faults ≡ 0) → Runs command before after status
 runs command before after status e worked printed source_law folder_law out_law = record {
   known = status_known (text_of e) e before.out after.out status printed;
@@ -340,5 +361,5 @@ runs command before after status e worked printed source_law folder_law out_law 
   rule_met = run_rule_met command before after status e worked printed;
   complete = run_complete command before after status e worked printed;
   unfailing = λ source_is folder_is out_is. sure_printing (text_of e) (status_of e) before.out after.out status out_is out_law (sure_ending command before after e source_is folder_is source_law folder_law worked) printed;
-  alike = λ c files files' is told alike. outcome_alike c files files' alike;
+  alike = run_alike command before after status e worked printed;
 }

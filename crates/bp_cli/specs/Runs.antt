@@ -10,7 +10,7 @@ use Rattle.bp_cli.specs.declared.ending.Stop.TheVariants as stops
 use Rattle.bp_cli.specs.Words.{CommandLine}
 use Rattle.bp_cli.specs.Outcome as outcomes
 use Rattle.bp_cli.specs.Outcome.{Outcome, outcome_of, AlikeFor}
-use Rattle.bp_cli.specs.Ending.{Ending, status_of, text_of, memory_line, Works, WritesPart}
+use Rattle.bp_cli.specs.Ending.{Ending, status_of, text_of, memory_line, refused_line, with_files, Works, WritesPart}
 
 -- what is known of the outside at a moment
 pub record Outside : Type 0 where
@@ -40,6 +40,13 @@ abbrev pub outcome_status : Outcome → ℕ
 outcome_status (outcomes.done line files) = 0
 outcome_status (outcomes.refused rule) = 2
 
+-- folder and out got what the outcome says, and nothing else
+abbrev pub Gives : Outcome → Outside → Outside → Type 0
+Gives (outcomes.done line files) before after =
+    (after.folder ≡ with_files before.folder files) × (after.out ≡ with_written before.out line)
+Gives (outcomes.refused rule) before after =
+    (after.folder ≡ before.folder) × (after.out ≡ with_written before.out (refused_line rule))
+
 pub record Runs (command : Option CommandLine) (before after : Outside) (status : ℕ) : Type 0 where
   -- there are no other statuses
   pub known : IsAmong status (0 ∷ 1 ∷ 2 ∷ 3 ∷ 4 ∷ 6 ∷ 7 ∷ [])
@@ -63,5 +70,5 @@ pub record Runs (command : Option CommandLine) (before after : Outside) (status 
   pub complete : (c : CommandLine) (files : FileMap) → command ≡ Some c → before.source.files ≡ Some files → (Rose before.source.faults after.source.faults → ⊥) → (Rose before.folder.faults after.folder.faults → ⊥) → (Rose before.out.faults after.out.faults → ⊥) → IsAmong status (outcome_status (outcome_of c files) ∷ 6 ∷ [])
   -- objects that can't fail give no fault
   pub unfailing : before.source.sure ≡ true → before.folder.sure ≡ true → before.out.sure ≡ true → IsAmong status (0 ∷ 1 ∷ 2 ∷ 6 ∷ [])
-  -- two matters: what the command withholds changes nothing of what comes out
-  pub alike : (c : CommandLine) (files files' : FileMap) → command ≡ Some c → before.source.files ≡ Some files → AlikeFor c files files' → outcome_of c files' ≡ outcome_of c files
+  -- two matters: what comes out is the outcome of every other matter that differs only in what the command withholds
+  pub alike : (c : CommandLine) (files files' : FileMap) → command ≡ Some c → before.source.files ≡ Some files → AlikeFor c files files' → (status ≡ 0) ⊎ (status ≡ 2) → Gives (outcome_of c files') before after

@@ -1,17 +1,17 @@
 -- What writing a text prints.
 use Rattle.std.proofs.Common.{ℕ, ◌≡◌, List, length, Result, Ok, Err, refl, sym, ap, ◌∙◌, arith}
 use Rattle.std.proofs.lemmas.List.{take_all}
-use Rattle.bp_outside.specs.Out.{OutView, with_written, WritesAll}
+use Rattle.bp_outside.specs.Out.{OutView, with_written, WritesAll, WritesPrefix}
 use Rattle.bp_outside.specs.declared.refusals.OutRefusal.{OutRefusal}
 use Rattle.bp_outside.specs.declared.refusals.OutRefusal.TheVariants as outs
 use Rattle.bp_cli.specs.Ending.{WritesPart, quiet, faulty, Prints, instead, memory_line}
 
 -- a whole text is some prefix of it
-pub whole_part : (text : List ℕ) (out after : OutView) → after ≡ with_written out text → WritesPart text out after
-whole_part text out after written = quiet (length text) (written ∙ ap (with_written out) (sym (take_all (length text) text (omega arith))))
+pub whole_prefix : (text : List ℕ) (out after : OutView) → after ≡ with_written out text → WritesPrefix out text after
+whole_prefix text out after written = record { count = length text; written = written ∙ ap (with_written out) (sym (take_all (length text) text (omega arith))) }
 
 pub part_of_write : (text : List ℕ) (out after : OutView) (r : Result (Unit {0}) OutRefusal) → WritesAll out text r after → WritesPart text out after
-part_of_write text out after (Ok _) written = whole_part text out after written
+part_of_write text out after (Ok _) written = let part = whole_prefix text out after written in quiet part.count part.written
 part_of_write text out after (Err outs.Failed) part = faulty part.count part.written
 part_of_write text out after (Err outs.OutOfMemory) part = quiet part.count part.written
 

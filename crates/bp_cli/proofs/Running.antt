@@ -16,7 +16,7 @@ use Rattle.bp_cli.specs.Outcome as outcomes
 use Rattle.bp_cli.specs.Outcome.{Outcome, IsOutcome, outcome_of, AlikeFor}
 use Rattle.bp_cli.specs.Ending.{Ending, status_of, text_of, refused_line, with_files, AddsPart, Prints, whole, cut, lacking, instead}
 use Rattle.bp_cli.specs.Runs.{Outside, Worked, Ended, PrintedPart, IsAmong, outcome_status, Gives, Runs}
-use Rattle.bp_cli.proofs.Printed.{whole_part}
+use Rattle.bp_cli.proofs.Printed.{whole_prefix}
 use Rattle.bp_cli.proofs.Alike.{outcome_alike}
 
 -- ---- statuses
@@ -130,7 +130,7 @@ never_seven (Err stops.OutOfMemory) at = omega arith
 
 -- what was printed where memory ran out
 lacking_part : (text : List ℕ) (wanted : ℕ) (out after : OutView) (status : ℕ) → Prints text wanted out after status → status ≡ 6 → PrintedPart text out after
-lacking_part text wanted out after status (whole is written) at = inl (whole_part text out after written)
+lacking_part text wanted out after status (whole is written) at = inl (whole_prefix text out after written)
 lacking_part text wanted out after status (cut some is part) at = let z : 7 ≡ 6 = sym is ∙ at in absurd (omega (arith, z))
 lacking_part text wanted out after status (lacking is part) at = inl part
 lacking_part text wanted out after status (instead is part) at = inr part

@@ -97,5 +97,5 @@ pub data WritesPart (text : List ℕ) (out : OutView) (after : OutView) : Type 0
 pub data Prints (text : List ℕ) (wanted : ℕ) (out : OutView) (after : OutView) (status : ℕ) : Type 0 where
   whole : status ≡ wanted → after ≡ with_written out text → Prints text wanted out after status
   cut : (wanted ≡ 6 → ⊥) → status ≡ 7 → WritesPrefix (record out { faults = risen out.faults }) text after → Prints text wanted out after status
-  lacking : status ≡ 6 → WritesPart text out after → Prints text wanted out after status
+  lacking : status ≡ 6 → WritesPrefix out text after → Prints text wanted out after status
   instead : status ≡ 6 → WritesPart memory_line out after → Prints text wanted out after status

@@ -31,7 +31,7 @@ Ended command before after ending = Worked command before after ending × (after
 
 -- some prefix of a text was printed, or of the line that says that memory ran out
 abbrev pub PrintedPart : List ℕ → OutView → OutView → Type 0
-PrintedPart text out after = WritesPart text out after ⊎ WritesPart memory_line out after
+PrintedPart text out after = WritesPrefix out text after ⊎ WritesPart memory_line out after
 
 abbrev pub IsAmong : ℕ → List ℕ → Type 0
 IsAmong n ns = IsTrue (list_any (λ m. m == n) ns)

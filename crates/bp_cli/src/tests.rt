@@ -80,10 +80,15 @@ fn words_of(alloc: Global, line: &str) -> Result<Vec<String>, AllocError> {
     Ok(words)
 }
 
-// Runs the words of a line over a source with the page at a.tif and the one byte `x` at x.tif.
+// Runs the words of a line over a source with the white page at a.tif, a black one at k.tif, and the one
+// byte `x` at x.tif.
 fn ran(alloc: Global, line: &str, failing: &Failing<'_>) -> Result<Seen, Fail> {
     let words = words_of(alloc, line)?;
-    let rows = vec![in alloc; row(alloc, "a.tif", &WHITE)?, row(alloc, "x.tif", b"x")?]?;
+    let rows = vec![in alloc;
+        row(alloc, "a.tif", &WHITE)?,
+        row(alloc, "k.tif", &file_of(alloc, 0xFF)?)?,
+        row(alloc, "x.tif", b"x")?,
+    ]?;
     let files = FileList::from_vec(rows);
     if !paths_differ(&files) {
         return Err(Fail::from("two files at one path"));
@@ -110,6 +115,9 @@ fn a_box_is_burned(rt: HostRuntime) -> Result<(), Fail> {
         ("burn a.tif 1 0 1 1 b.tif plain", 0x40),
         ("burn a.tif 7 0 1 1 b.tif plain", 0x01),
         ("burn a.tif 2 0 5 1 b.tif plain", 0x3E),
+        // What the box covers was black here, and nothing else may tell.
+        ("burn k.tif 0 0 8 1 b.tif plain", 0xFF),
+        ("burn k.tif 3 0 1 1 b.tif plain", 0xFF),
     ] {
         let seen = ran(alloc, line, &NOTHING_FAILS)?;
         assert_eq!(rt; seen.status, 0, "{line}");

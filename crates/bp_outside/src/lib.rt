@@ -1,4 +1,4 @@
-//! The outside: where bytes come from and go to, with every fault counted.
+//! The outside: where bytes come from and go to. Each refusal raises the count of its own cause.
 #![tactic(auto)]
 
 mod counts;

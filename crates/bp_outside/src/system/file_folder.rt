@@ -1,5 +1,7 @@
 // A folder of the file system as a folder to write to.
 ghost use Rattle.std.specs.Prelude.{◌≡◌, false, true, None, is_some};
+ghost use Rattle.bp_outside.specs.Appending.{AppendsTo};
+ghost use Rattle.bp_outside.specs.Folder.{Appends};
 ghost use Rattle.bp_outside.specs.Untold.{untold_folder};
 
 use crate::folder::Folder;
@@ -56,7 +58,11 @@ impl<'a, R: Files> Folder for FileFolder<'a, R> {
         }
     }
 
-    fn append(&mut self, _alloc: Global, piece: &[u8]) -> Result<usize, FolderRefusal> {
+    fn append(&mut self, _alloc: Global, piece: &[u8]) -> Result<usize, FolderRefusal>
+        requires { (untold_folder (is_some self.old.file) self.old.faults).under_way ≡ true }
+        ensures appends { Appends (untold_folder (is_some self.old.file) self.old.faults) piece.now result (untold_folder (is_some self.new.file) self.new.faults) }
+        ensures bytes { AppendsTo R.File.contents self.old.file self.new.file result piece.now }
+    {
         let written = match &mut self.file {
             Some(file) => file.write(piece),
             None => unreachable!(),

@@ -71,6 +71,7 @@ fn read_open<F: Read + OpenFile + Drop>(
     max: u64,
 ) -> Result<Vec<u8>, ReadRefusal>
     ensures limit { IfOk result (λ bytes. length bytes.items ≤ max) }
+    ensures whole { IfSome (F.remaining file) (ReadsWhole max result) }
 {
     let Ok(about) = file.metadata() else {
         return Err(ReadRefusal::Failed);

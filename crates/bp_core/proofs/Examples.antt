@@ -3,12 +3,11 @@ use Rattle.std.proofs.Common.{◌≡◌, true, false, refl}
 use Rattle.std.specs.Prelude.{codes}
 use Rattle.std.specs.Fmt.{digits}
 use Rattle.bp_core.specs.declared.rectangle.Rect.{Rect}
-use Rattle.bp_core.specs.declared.rules.Rule.{Rule}
 use Rattle.bp_core.specs.declared.rules.RuleKind.TheVariants as kinds
 use Rattle.bp_core.specs.declared.review.Basis.TheVariants.{Ts}
-use Rattle.bp_core.specs.Rectangle.{has_pixel, lies_inside}
+use Rattle.bp_core.specs.Rectangle.{has_pixel, lies_inside, touches}
 use Rattle.bp_core.specs.Review.{basis_code}
-use Rattle.bp_core.specs.Rules.{rule_text}
+use Rattle.bp_core.specs.Rules.{rule_text, bare_rule, rule_at_line, page_limit_rule, bates_full_rule}
 
 -- columns 10 to 29 of rows 2 to 11
 abbrev box : Rect
@@ -49,12 +48,44 @@ outside = refl
 no_wrap : lies_inside far 4294967295 1 ≡ false
 no_wrap = refl
 
+-- a word that shares the first column of the box, and one that begins where the box ends
+abbrev dear : Rect
+dear = record { left = 5; top = 2; width = 6; height = 10 }
+
+abbrev john : Rect
+john = record { left = 30; top = 2; width = 20; height = 10 }
+
+-- no pixel, in the middle of the box
+abbrev nothing : Rect
+nothing = record { left = 15; top = 5; width = 0; height = 3 }
+
+shared_column : touches box dear ≡ true
+shared_column = refl
+
+next_to_it : touches box john ≡ false
+next_to_it = refl
+
+empty_inside : touches box nothing ≡ false
+empty_inside = refl
+
+over_the_end : touches far line ≡ true
+over_the_end = refl
+
 trade_secret : basis_code Ts ≡ codes "TS"
 trade_secret = refl
 
-abbrev page_outside : Rule
-page_outside = record { kind = kinds.BoxOutside; line = 0; a = 0; b = 0 }
-
-printed : rule_text page_outside ≡ codes "13 BoxOutside 0 0 0"
+printed : rule_text (bare_rule kinds.BoxOutside) ≡ codes "13 BoxOutside 0 0 0"
 unfolding digits
 printed = refl
+
+line_printed : rule_text (rule_at_line kinds.OptShape 7) ≡ codes "53 OptShape 7 0 0"
+unfolding digits
+line_printed = refl
+
+sides_printed : rule_text (page_limit_rule 20001 9) ≡ codes "62 PageLimit 0 20001 9"
+unfolding digits
+sides_printed = refl
+
+largest_printed : rule_text (bates_full_rule 9999) ≡ codes "31 BatesFull 0 9999 0"
+unfolding digits
+largest_printed = refl

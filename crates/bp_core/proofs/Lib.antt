@@ -1,2 +1,3 @@
-mod Characters
+pub mod RectangleLemmas
+mod TextLemmas
 mod Examples

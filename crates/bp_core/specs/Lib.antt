@@ -1,4 +1,5 @@
 pub mod Answers
+pub mod Characters
 pub mod Rectangle
 pub mod Review
 pub mod Rules

@@ -4,6 +4,7 @@ use Rattle.std.specs.Fmt.{decimal}
 use Rattle.std.specs.List.{join_with_byte}
 use Rattle.bp_core.specs.declared.rules.RuleKind.{RuleKind}
 use Rattle.bp_core.specs.declared.rules.RuleKind.TheVariants as kinds
+use Rattle.bp_core.specs.Characters.{space}
 use Rattle.bp_core.specs.declared.rules.Rule.{Rule}
 
 -- a number and a name, in ASCII
@@ -84,8 +85,28 @@ rule_number kind = (rule_entry kind).number
 abbrev pub rule_name : RuleKind → List ℕ
 rule_name kind = (rule_entry kind).name
 
--- how a rule is printed: number, name, line and the two values, with a space between
+-- a rule that uses no line and no value
+abbrev pub bare_rule : RuleKind → Rule
+bare_rule k = record { kind = k; line = 0; a = 0; b = 0 }
+
+-- a rule that is broken at a line of a file
+abbrev pub rule_at_line : RuleKind → ℕ → Rule
+rule_at_line k n = record (bare_rule k) { line = n }
+
+-- sides that a page may not have
+abbrev pub page_limit_rule : ℕ → ℕ → Rule
+page_limit_rule width height = record (bare_rule kinds.PageLimit) { a = width; b = height }
+
+-- the numbers under a prefix end at this one
+abbrev pub bates_full_rule : ℕ → Rule
+bates_full_rule largest = record (bare_rule kinds.BatesFull) { a = largest }
+
+-- what is printed of a rule: number, name, line and the two values
+abbrev pub rule_words : Rule → List (List ℕ)
+rule_words rule =
+    decimal (rule_number rule.kind) ∷ rule_name rule.kind
+    ∷ decimal rule.line ∷ decimal rule.a ∷ decimal rule.b ∷ []
+
+-- how a rule is printed: a space stands between two words
 abbrev pub rule_text : Rule → List ℕ
-rule_text rule =
-    join_with_byte 32
-    (decimal (rule_number rule.kind) ∷ rule_name rule.kind ∷ decimal rule.line ∷ decimal rule.a ∷ decimal rule.b ∷ [])
+rule_text rule = join_with_byte space (rule_words rule)

@@ -1,6 +1,6 @@
 // The rules that a request can break, with the number and the name under which each is printed.
 ghost use Rattle.std.specs.Prelude.{◌≡◌};
-ghost use Rattle.bp_core.specs.Rules.{rule_number, rule_name};
+ghost use Rattle.bp_core.specs.Rules.{rule_number, rule_name, bare_rule, rule_at_line, page_limit_rule, bates_full_rule};
 
 use std::fmt;
 
@@ -142,6 +142,49 @@ pub struct Rule {
 }
 
 impl Rule {
+    /// A rule that uses no line and no value.
+    pub fn bare(kind: RuleKind) -> Rule
+        ensures { result ≡ bare_rule kind }
+    {
+        Rule {
+            kind,
+            line: 0,
+            a: 0,
+            b: 0,
+        }
+    }
+
+    /// A rule that is broken at a line or record of a file, counted from 1. 0 is the whole file.
+    pub fn at_line(kind: RuleKind, line: u32) -> Rule
+        ensures { result ≡ rule_at_line kind line }
+    {
+        Rule {
+            line,
+            ..Rule::bare(kind)
+        }
+    }
+
+    /// PageLimit, with sides in pixels that a page may not have.
+    pub fn page_limit(width: u32, height: u32) -> Rule
+        ensures { result ≡ page_limit_rule width height }
+    {
+        Rule {
+            a: u64::from(width),
+            b: u64::from(height),
+            ..Rule::bare(RuleKind::PageLimit)
+        }
+    }
+
+    /// BatesFull, with the largest number under the prefix.
+    pub fn bates_full(largest: u64) -> Rule
+        ensures { result ≡ bates_full_rule largest }
+    {
+        Rule {
+            a: largest,
+            ..Rule::bare(RuleKind::BatesFull)
+        }
+    }
+
     /// The number of the rule.
     pub fn number(&self) -> u16
         ensures { result ≡ rule_number self.now.kind }

@@ -1,6 +1,6 @@
 use Rattle.std.proofs.Common.{encode_utf8_all, ap, sym, ◌∙◌}
 use Rattle.std.specs.Str.{all_scalars}
-use Rattle.bp_core.proofs.Characters.{encodes-chars, scalars-chars}
+use Rattle.bp_core.proofs.TextLemmas.{encodes-chars, scalars-chars}
 use Rattle.bp_core.proofs.texts.Text.as_str.Goals as goal
 
 pub returns-clause-bytes : goal.returns-clause-bytes

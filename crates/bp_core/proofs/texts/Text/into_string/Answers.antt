@@ -1,5 +1,5 @@
 use Rattle.std.proofs.Common.{encode_utf8_all, ap, sym, ◌∙◌}
-use Rattle.bp_core.proofs.Characters.{encodes-chars}
+use Rattle.bp_core.proofs.TextLemmas.{encodes-chars}
 use Rattle.bp_core.proofs.texts.Text.into_string.Goals as goal
 
 pub returns : goal.returns

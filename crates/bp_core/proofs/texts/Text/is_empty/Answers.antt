@@ -1,5 +1,5 @@
 use Rattle.std.proofs.Common.{◌==◌, length, ap, ◌∙◌}
-use Rattle.bp_core.proofs.Characters.{empty-chars}
+use Rattle.bp_core.proofs.TextLemmas.{empty-chars}
 use Rattle.bp_core.proofs.texts.Text.is_empty.Goals as goal
 
 pub returns : goal.returns

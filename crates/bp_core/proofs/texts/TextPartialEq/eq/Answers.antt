@@ -1,7 +1,7 @@
 use Rattle.std.proofs.Common.{ap, ◌∙◌}
 use Rattle.std.specs.Str.{bytes_eq, chars}
 use Rattle.std.specs.String.{string_bytes}
-use Rattle.bp_core.proofs.Characters.{bytes_eq-chars}
+use Rattle.bp_core.proofs.TextLemmas.{bytes_eq-chars}
 use Rattle.bp_core.proofs.texts.TextPartialEq.eq.Goals as goal
 
 pub returns : goal.returns

@@ -1,4 +1,4 @@
--- What a text's bytes and its characters say of one another.
+-- Lemmas of texts: what a text's bytes and its characters say of one another.
 use Rattle.std.proofs.Common.{String, ℕ, ◌≡◌, Bool, true, false, List, [], ◌∷◌, length, ◌==◌, refl, sym, ap, arith, ◌∙◌, subst, encode_utf8_all}
 use Rattle.std.specs.Str.{chars, all_scalars, bytes_eq, IsUtf8}
 use Rattle.std.specs.String.{string_bytes}

@@ -1,0 +1,36 @@
+-- Characters by name, as their Unicode numbers. Those below 80 hex are one byte in UTF-8 (RFC 3629, section 3).
+use Rattle.std.specs.Prelude.{ℕ, List, [], ◌∷◌}
+
+abbrev pub newline : ℕ
+newline = 10
+
+abbrev pub carriage_return : ℕ
+carriage_return = 13
+
+abbrev pub space : ℕ
+space = 32
+
+abbrev pub comma : ℕ
+comma = 44
+
+abbrev pub hyphen : ℕ
+hyphen = 45
+
+abbrev pub digit_zero : ℕ
+digit_zero = 48
+
+abbrev pub digit_nine : ℕ
+digit_nine = 57
+
+abbrev pub letter_a : ℕ
+letter_a = 65
+
+abbrev pub letter_z : ℕ
+letter_z = 90
+
+abbrev pub low_line : ℕ
+low_line = 95
+
+-- the end of a line in the files that are written
+abbrev pub line_end : List ℕ
+line_end = carriage_return ∷ newline ∷ []

@@ -1,19 +1,21 @@
 // The sides that a page may have, in pixels.
 ghost use Rattle.std.specs.Prelude.{◌≡◌};
-ghost use Rattle.bp_rows.specs.Limits.{sides_are_allowed, sides_are_imported, page_limit_rule};
+ghost use Rattle.bp_rows.specs.Limits.{sides_are_allowed, sides_are_imported};
 
-use bp_core::{Rule, RuleKind};
+/// The greatest width, in pixels.
+pub const MAX_WIDTH: u32 = 20_000;
 
-// The band below a produced page adds 32 rows to a page within the import limits.
-const MAX_WIDTH: u32 = 20_000;
+/// The greatest height, in pixels: the band below a produced page adds 32 rows to an imported one.
+pub const MAX_HEIGHT: u32 = 20_032;
 
-const MAX_HEIGHT: u32 = 20_032;
+/// The most pixels of a page.
+pub const MAX_PIXELS: u64 = 200_640_000;
 
-const MAX_PIXELS: u64 = 200_640_000;
+/// The greatest height of a page that comes in, in pixels.
+pub const MAX_IMPORT_HEIGHT: u32 = 20_000;
 
-const MAX_IMPORT_HEIGHT: u32 = 20_000;
-
-const MAX_IMPORT_PIXELS: u64 = 200_000_000;
+/// The most pixels of a page that comes in.
+pub const MAX_IMPORT_PIXELS: u64 = 200_000_000;
 
 /// Whether a page may have these sides, in pixels: 1 to 20,000 by 1 to 20,032, and at most
 /// 200,640,000 pixels.
@@ -37,16 +39,4 @@ pub fn import_sides(width: u32, height: u32) -> bool
         && 0 < height
         && height <= MAX_IMPORT_HEIGHT
         && u64::from(width) * u64::from(height) <= MAX_IMPORT_PIXELS
-}
-
-/// The rule that sides break which a page may not have.
-pub fn page_limit(width: u32, height: u32) -> Rule
-    ensures { result ≡ page_limit_rule width height }
-{
-    Rule {
-        kind: RuleKind::PageLimit,
-        line: 0,
-        a: u64::from(width),
-        b: u64::from(height),
-    }
 }

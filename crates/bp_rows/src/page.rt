@@ -1,15 +1,16 @@
 // A page: a bilevel image, kept as the packed strip of its uncompressed file.
 ghost use Rattle.std.specs.Prelude.{◌≡◌, ◌≢◌, ◌+◌, ◌*◌, ◌<◌, ◌≤◌, ◌↔◌, Bool, List, false, if◌then◌else◌, length, IsTrue, IfOk, IfErr, IsErrOf, ◌∷◌, []};
-ghost use Rattle.bp_rows.specs.Limits.{sides_are_allowed, page_limit_rule};
+ghost use Rattle.bp_core.specs.Rules.{page_limit_rule};
+ghost use Rattle.bp_rows.specs.Limits.{sides_are_allowed};
 ghost use Rattle.bp_rows.specs.Image.{IsPage, IsGrid, pixel, with_pixel, white_image};
 ghost use Rattle.bp_rows.specs.Bits.{row_bytes};
 ghost use Rattle.bp_rows.specs.Burned.{burned, row_part};
 ghost use Rattle.bp_rows.specs.Packed.{packed_rows};
 
 use crate::bits::{blacken, bytes_of_strip, has_blank_ends, pixel_at, place_of, set_pixel_at};
-use crate::limits::{allowed_sides, page_limit};
+use crate::limits::allowed_sides;
 use crate::resolution::{Res, Unit};
-use bp_core::Refusal;
+use bp_core::{Refusal, Rule};
 use std::alloc::Global;
 use std::marker::Model;
 use thiserror::Error;
@@ -62,7 +63,7 @@ impl Page {
         ensures err { IfErr result (λ e. e ≡ (if sides_are_allowed width height then Refusal.OutOfMemory else Refusal.Rule (page_limit_rule width height))) }
     {
         if !allowed_sides(width, height) {
-            return Err(Refusal::Rule(page_limit(width, height)));
+            return Err(Refusal::Rule(Rule::page_limit(width, height)));
         }
         let strip = vec![in alloc; 0; bytes_of_strip(width, height)]?;
         Ok(Page {

@@ -1,7 +1,7 @@
 -- Worked examples of the definitions in specs/, each run by the check.
 use Rattle.std.proofs.Common.{◌≡◌, true, false, refl, Ok, Err}
 use Rattle.std.specs.Prelude.{codes}
-use Rattle.bp_core.specs.declared.rules.RuleKind.TheVariants.{BatesFull}
+use Rattle.bp_core.specs.Rules.{bates_full_rule}
 use Rattle.bp_bates.specs.Prefixes.{is_good_prefix}
 use Rattle.bp_bates.specs.Spans.{largest_of, taken_of}
 use Rattle.bp_bates.specs.Labels.{label_of}
@@ -39,7 +39,7 @@ nines = refl
 last_two : taken_of 9998 4 2 ≡ Ok (record { span = record { first = 9998; last = 9999 }; next = 10000 })
 last_two = refl
 
-one_past : taken_of 10000 4 1 ≡ Err (record { kind = BatesFull; line = 0; a = 9999; b = 0 })
+one_past : taken_of 10000 4 1 ≡ Err (bates_full_rule 9999)
 one_past = refl
 
 twelfth : label_of (codes "AB-") 4 12 ≡ codes "AB-0012"

@@ -9,7 +9,7 @@ use Rattle.std.proofs.lemmas.List.{drop-set, same_from_push, drop_all, get_or_ap
 use Rattle.bp_bates.specs.Prefixes.{is_digit}
 use Rattle.bp_bates.specs.Spans.{largest_of}
 use Rattle.bp_bates.proofs.PrefixLemmas.{IsGood}
-use Rattle.bp_bates.specs.Labels.{padded, label_of}
+use Rattle.bp_bates.specs.Labels.{padded, label_of, IsSameLabel}
 
 pub length-padded : (width n : ℕ) → length (padded width n) ≡ width
 length-padded zero n = refl
@@ -94,8 +94,12 @@ below_power : (w n : ℕ) → n ≤ 10 ^ w - 1 → n < 10 ^ w
 below_power w n h = omega (arith, pow_positive w)
 
 -- equal labels were made of equal prefixes, widths and numbers
-pub labels_same : (p q : List ℕ) (v w m n : ℕ) → IsGood p v → IsGood q w → m ≤ largest_of v → n ≤ largest_of w → label_of p v m ≡ label_of q w n → (p ≡ q) × (v ≡ w) × (m ≡ n)
+pub labels_same : (p q : List ℕ) (v w m n : ℕ) → IsGood p v → IsGood q w → m ≤ largest_of v → n ≤ largest_of w → label_of p v m ≡ label_of q w n → IsSameLabel p q v w m n
 labels_same p q v w m n good good' small small' e =
     let parts = label_parts p q v w m n good good' e in
     let widths : v ≡ w = sym (length-padded v m) ∙ ap length parts.1 ∙ length-padded w n in
-    (parts.0, widths, padded_same v m n (below_power v m small) (rw widths (below_power w n small')) (parts.1 ∙ ap (λ k. padded k n) (sym widths)))
+    record {
+      prefix = parts.0;
+      width = widths;
+      number = padded_same v m n (below_power v m small) (rw widths (below_power w n small')) (parts.1 ∙ ap (λ k. padded k n) (sym widths));
+    }

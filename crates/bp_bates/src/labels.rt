@@ -2,7 +2,7 @@
 ghost use Rattle.std.specs.Prelude.{◌≡◌, ℕ, ◌≤◌, ◌<◌, ◌++◌, List, drop, length, IsTrue};
 ghost use Rattle.bp_bates.specs.Prefixes.{is_good_prefix};
 ghost use Rattle.bp_bates.specs.Spans.{largest_of};
-ghost use Rattle.bp_bates.specs.Labels.{label_of, padded};
+ghost use Rattle.bp_bates.specs.Labels.{label_of, padded, IsSameLabel};
 
 use crate::prefixes::Prefix;
 
@@ -47,7 +47,11 @@ fn write_digits(into: &mut [u8], number: u64)
 
 /// Labels that are equal were made of equal prefixes, equal widths and equal numbers.
 pub fn labels_tell_apart()
-    ensures { (p q : List ℕ) (v w m n : ℕ) → IsTrue (is_good_prefix p v) → IsTrue (is_good_prefix q w)
-        → m ≤ largest_of v → n ≤ largest_of w → label_of p v m ≡ label_of q w n
-        → (p ≡ q) × (v ≡ w) × (m ≡ n) }
+    ensures { (p q : List ℕ) (v w m n : ℕ)
+        → IsTrue (is_good_prefix p v)
+        → IsTrue (is_good_prefix q w)
+        → m ≤ largest_of v
+        → n ≤ largest_of w
+        → label_of p v m ≡ label_of q w n
+        → IsSameLabel p q v w m n }
 {}

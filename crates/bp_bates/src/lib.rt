@@ -12,7 +12,7 @@ pub use spans::{Span, Taken, largest, take};
 #[cfg(test)]
 mod tests {
     use super::*;
-    use bp_core::{Rule, RuleKind, Text};
+    use bp_core::{Rule, Text};
     use std::test::Fail;
 
     #[test]
@@ -22,13 +22,7 @@ mod tests {
             last: 9_999,
         };
         assert_eq!(rt; take(9_998, 4, 2), Ok(Taken { span, next: 10_000 }));
-        let full = Rule {
-            kind: RuleKind::BatesFull,
-            line: 0,
-            a: 9_999,
-            b: 0,
-        };
-        assert_eq!(rt; take(10_000, 4, 1), Err(full));
+        assert_eq!(rt; take(10_000, 4, 1), Err(Rule::bates_full(9_999)));
         assert_eq!(rt; largest(10), 9_999_999_999);
     }
 

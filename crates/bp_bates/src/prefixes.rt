@@ -12,6 +12,15 @@ pub struct Prefix {
     pub width: u8,
 }
 
+/// The most characters of a prefix.
+pub const MAX_PREFIX: usize = 12;
+
+/// The least digits of a number in a label.
+pub const MIN_WIDTH: u8 = 4;
+
+/// The most digits of a number in a label.
+pub const MAX_WIDTH: u8 = 10;
+
 /// Whether the text is 1 to 12 characters of A-Z, 0-9, `-` and `_`, the first not `-` and the last
 /// not a digit, and the width is 4 to 10 digits.
 pub fn good_prefix(text: &Text, width: u8) -> bool
@@ -19,7 +28,7 @@ pub fn good_prefix(text: &Text, width: u8) -> bool
     ensures from { IsTrue result → 4 ≤ width }
     ensures to { IsTrue result → width ≤ 10 }
 {
-    width >= 4 && width <= 10 && is_good(text.as_str().as_bytes())
+    width >= MIN_WIDTH && width <= MAX_WIDTH && is_good(text.as_str().as_bytes())
 }
 
 fn is_good(text: &[u8]) -> bool
@@ -27,7 +36,7 @@ fn is_good(text: &[u8]) -> bool
 {
     are_allowed(text)
         && text.len() >= 1
-        && text.len() <= 12
+        && text.len() <= MAX_PREFIX
         && text[0] != b'-'
         && !text[text.len() - 1].is_ascii_digit()
 }

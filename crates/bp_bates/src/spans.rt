@@ -2,7 +2,7 @@
 ghost use Rattle.std.specs.Prelude.{◌≡◌, ◌+◌, ◌≤◌};
 ghost use Rattle.bp_bates.specs.Spans.{largest_of, taken_of};
 
-use bp_core::{Rule, RuleKind};
+use bp_core::Rule;
 
 /// The numbers from the first to the last, both of them in it.
 #[derive(Clone, Copy, Debug, PartialEq, Eq)]
@@ -49,12 +49,7 @@ pub fn take(next: u64, width: u8, count: u64) -> Result<Taken, Rule>
     let largest = largest(width);
     let last = next + count - 1;
     if last > largest {
-        return Err(Rule {
-            kind: RuleKind::BatesFull,
-            line: 0,
-            a: largest,
-            b: 0,
-        });
+        return Err(Rule::bates_full(largest));
     }
     Ok(Taken {
         span: Span { first: next, last },

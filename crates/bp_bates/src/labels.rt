@@ -24,7 +24,7 @@ pub fn label_into(prefix: &Prefix, number: u64, into: &mut [u8; 22]) -> usize
     end
 }
 
-/// The text of a good prefix, which is ASCII.
+// The text of a good prefix, which is ASCII.
 fn prefix_bytes(prefix: &Prefix) -> &[u8]
     requires { IsTrue (is_good_prefix prefix.now.text prefix.now.width) }
     ensures text { result.now ≡ prefix.now.text }
@@ -34,7 +34,7 @@ fn prefix_bytes(prefix: &Prefix) -> &[u8]
     prefix.text.as_str().as_bytes()
 }
 
-/// Writes the last decimal digits of the number, as many as there is room for.
+// Writes the last decimal digits of the number, as many as there is room for.
 fn write_digits(into: &mut [u8], number: u64)
     ensures { into.new ≡ padded (length into.old) number }
 {

@@ -11,7 +11,7 @@ use Rattle.std.proofs.Math.Seq.{get_or-append_seam}
 use Rattle.std.proofs.lemmas.Bool.{cases_Bool, and_parts, and_from, eqb-true, eq-eqb, ne_eqb, ltb-true, leb-true, le-leb}
 use Rattle.std.proofs.lemmas.List.{take_at, take-append-drop, drop_all, map-append}
 use Rattle.std.proofs.lemmas.Str.{encodes-chars, encodes-append, chars-append, chars-encodes, chars_past_char, IsUtf8-past_char, IsUtf8-take, chars_from_encodes}
-use Rattle.bp_load.specs.Dat.{is_quoted, inside, is_inner, is_plain, read_character, write_character, quoted, dat_values_text, quoted_value, together, each_value}
+use Rattle.bp_load.specs.Dat.{is_quoted, inside, is_inner, stands_for_itself, read_character, write_character, quoted, dat_values_text, quoted_value, together, each_value}
 use Rattle.bp_load.proofs.LineLemmas.{ends_in, is_at}
 use Rattle.bp_load.proofs.TextLemmas.{failing_bytes, weaker}
 use Rattle.bp_load.specs.Fields.{fields_in}
@@ -95,35 +95,35 @@ pub one_more : (f : ℕ → ℕ) (cs : List ℕ) (c : ℕ) → encode_utf8_all (
 one_more f cs c =
     sym (ap encode_utf8_all (map-append f cs (c ∷ [])) ∙ encodes-append (map f cs) (f c ∷ []) ∙ ap (λ q. encode_utf8_all (map f cs) ++ q) (append-nil (encode_utf8 (f c))))
 
-plain_small : (b : ℕ) → is_plain b ≡ true → b < 128
+plain_small : (b : ℕ) → stands_for_itself b ≡ true → b < 128
 plain_small b h = ltb-true b 128 (and_parts _ _ h).0
 
-plain_large : (b : ℕ) → 128 ≤ b → is_plain b ≡ false
+plain_large : (b : ℕ) → 128 ≤ b → stands_for_itself b ≡ false
 plain_large b large =
-    elim (cases_Bool (is_plain b)) [
+    elim (cases_Bool (stands_for_itself b)) [
       | inl plain ↦ absurd (omega (arith, plain_small b plain))
       | inr other ↦ other
     ]
 
 -- a character that such a byte is
-plain_inner : (b : ℕ) → is_plain b ≡ true → is_inner b ≡ true
+plain_inner : (b : ℕ) → stands_for_itself b ≡ true → is_inner b ≡ true
 plain_inner b h = and_from _ _ (ap not (ne_eqb b 254 (λ e. absurd (omega (arith, plain_small b h, e))))) (and_parts _ _ h).1
 
-plain_read : (b : ℕ) → is_plain b ≡ true → read_character b ≡ b
+plain_read : (b : ℕ) → stands_for_itself b ≡ true → read_character b ≡ b
 plain_read b h = ap (λ t. cond t 10 b) (ne_eqb b 0xAE (λ e. absurd (omega (arith, plain_small b h, e))))
 
-plain_reads : (cs : List ℕ) → list_all is_plain cs ≡ true → map read_character cs ≡ cs
+plain_reads : (cs : List ℕ) → list_all stands_for_itself cs ≡ true → map read_character cs ≡ cs
 plain_reads [] h = refl
 plain_reads (c ∷ cs) h =
-    let parts = and_parts (is_plain c) (list_all is_plain cs) h in
+    let parts = and_parts (stands_for_itself c) (list_all stands_for_itself cs) h in
     ap (λ d. d ∷ map read_character cs) (plain_read c parts.0) ∙ ap (λ ds. c ∷ ds) (plain_reads cs parts.1)
 
 -- a text of such bytes has inner characters, and reads as itself
-pub plain_text : (s : List ℕ) → IsUtf8 s → list_all is_plain s ≡ true → (list_all is_inner (chars s) ≡ true) × (s ≡ encode_utf8_all (map read_character (chars s)))
+pub plain_text : (s : List ℕ) → IsUtf8 s → list_all stands_for_itself s ≡ true → (list_all is_inner (chars s) ≡ true) × (s ≡ encode_utf8_all (map read_character (chars s)))
 plain_text s text plain =
     let own : encode_utf8_all (chars s) ≡ s = encodes-chars s text in
-    let passes : list_all is_plain (chars s) ≡ true = sym (failing_bytes is_plain plain_large (chars s)) ∙ ap (list_all is_plain) own ∙ plain in
-    (weaker is_plain is_inner plain_inner (chars s) passes, sym own ∙ ap encode_utf8_all (sym (plain_reads (chars s) passes)))
+    let passes : list_all stands_for_itself (chars s) ≡ true = sym (failing_bytes stands_for_itself plain_large (chars s)) ∙ ap (list_all stands_for_itself) own ∙ plain in
+    (weaker stands_for_itself is_inner plain_inner (chars s) passes, sym own ∙ ap encode_utf8_all (sym (plain_reads (chars s) passes)))
 
 -- the value of what a text reads as
 pub value_some : (piece inner text bytes : List ℕ) → is_quoted piece ≡ true → inner ≡ inside piece → list_all is_inner inner ≡ true → text ≡ chars bytes → IsUtf8 bytes → bytes ≡ encode_utf8_all (map read_character inner) → Some text ≡ quoted_value piece

@@ -5,10 +5,11 @@ use Rattle.std.specs.List.{list_all}
 use Rattle.std.specs.Str.{chars, is_utf8}
 use Rattle.std.proofs.Math.Utf8.{encode}
 use Rattle.bp_core.specs.declared.rules.RuleKind.TheVariants.{OptShape, DatShape, DatEncoding}
-use Rattle.bp_load.specs.Lines.{without_mark, filled_lines, at_line}
+use Rattle.bp_core.specs.Rules.{rule_at_line}
+use Rattle.bp_load.specs.Lines.{without_mark, filled_lines}
 use Rattle.bp_load.specs.Opt.{opt_of, opt_text, are_opt_lines}
 use Rattle.bp_load.specs.declared.opt.OptLine.{OptLine}
-use Rattle.bp_load.specs.Dat.{dat_of, dat_text, quoted_value, is_plain, is_writable}
+use Rattle.bp_load.specs.Dat.{dat_of, dat_text, quoted_value, stands_for_itself, is_writable}
 use Rattle.bp_load.specs.Table.{Table}
 
 one_mark : without_mark (0xEF ∷ 0xBB ∷ 0xBF ∷ 0xEF ∷ 0xBB ∷ 0xBF ∷ []) ≡ 0xEF ∷ 0xBB ∷ 0xBF ∷ []
@@ -44,15 +45,15 @@ page_read : opt_of (codes "AB-0001,V,V/a.tif,Y,,,2" ++ 10 ∷ []) ≡ Ok (page �
 unfolding chars is_utf8 encode
 page_read = refl
 
-eight_fields : opt_of (codes "A,,a" ++ 10 ∷ codes "B,,a,,,,,") ≡ Err (at_line OptShape 2)
+eight_fields : opt_of (codes "A,,a" ++ 10 ∷ codes "B,,a,,,,,") ≡ Err (rule_at_line OptShape 2)
 unfolding chars is_utf8 encode
 eight_fields = refl
 
-no_bytes : dat_of [] ≡ Err (at_line DatShape 1)
+no_bytes : dat_of [] ≡ Err (rule_at_line DatShape 1)
 unfolding chars is_utf8 encode
 no_bytes = refl
 
-utf16 : dat_of (0xFF ∷ 0xFE ∷ []) ≡ Err (at_line DatEncoding 0)
+utf16 : dat_of (0xFF ∷ 0xFE ∷ []) ≡ Err (rule_at_line DatEncoding 0)
 unfolding chars is_utf8 encode
 utf16 = refl
 
@@ -62,13 +63,13 @@ sign_read = refl
 quote_inside : quoted_value (0xFE ∷ 0xFE ∷ 0xFE ∷ []) ≡ None
 quote_inside = refl
 
-plain_bytes : list_all is_plain (codes "Fee note") ≡ true
+plain_bytes : list_all stands_for_itself (codes "Fee note") ≡ true
 plain_bytes = refl
 
-return_is_not_plain : is_plain 13 ≡ false
+return_is_not_plain : stands_for_itself 13 ≡ false
 return_is_not_plain = refl
 
-outside_ascii_is_not_plain : is_plain 0x80 ≡ false
+outside_ascii_is_not_plain : stands_for_itself 0x80 ≡ false
 outside_ascii_is_not_plain = refl
 
 abbrev small : Table

@@ -1,10 +1,10 @@
 pub mod LineLemmas
 pub mod OptLemmas
 pub mod TextLemmas
-pub mod OptWritten
+pub mod OptWrittenLemmas
 pub mod DatLemmas
-pub mod DatTables
+pub mod DatTableLemmas
 pub mod JoinLemmas
-pub mod EndedLines
-pub mod DatWritten
+pub mod EndedLineLemmas
+pub mod DatWrittenLemmas
 mod Examples

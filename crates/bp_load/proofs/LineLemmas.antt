@@ -17,7 +17,8 @@ use Rattle.bp_core.specs.declared.refusals.Refusal.{Refusal}
 use Rattle.bp_core.specs.declared.refusals.Refusal.TheVariants as refusals
 use Rattle.bp_core.specs.declared.rules.Rule.{Rule}
 use Rattle.bp_core.specs.declared.rules.RuleKind.{RuleKind}
-use Rattle.bp_load.specs.Lines.{without_mark, byte_order_mark, filled_lines, each_line, first_then, onto, at_line}
+use Rattle.bp_core.specs.Rules.{rule_at_line}
+use Rattle.bp_load.specs.Lines.{without_mark, byte_order_mark, filled_lines, each_line, first_then, onto}
 use Rattle.std.proofs.lemmas.List.Splits.{slice_split_first, slice_split-cons_no, length-slice_split}
 
 -- what follows an index is what stands after the first that passes
@@ -100,7 +101,7 @@ pub next_more : {V : Type 0} (read : List ℕ → Option V) (kind : RuleKind) (n
     → after_front (front ++ v ∷ []) (each_line read kind (n + 1) (filled_lines rest)) ≡ after_front front (each_line read kind n (filled_lines bs))
 next_more read kind n front v line bs rest e is =
     sym (ap (λ ls. after_front front (each_line read kind n ls)) e
-    ∙ ap (λ o. after_front front (first_then o (at_line kind n) (each_line read kind (n + 1) (filled_lines rest)))) is
+    ∙ ap (λ o. after_front front (first_then o (rule_at_line kind n) (each_line read kind (n + 1) (filled_lines rest)))) is
     ∙ front_more front v (each_line read kind (n + 1) (filled_lines rest)))
 
 pub each_more : {V : Type 0} (read : List ℕ → Option V) (kind : RuleKind) (n : ℕ) (front : List V) (v : V) (line bs rest : List ℕ) → lines bs ≡ line ∷ lines rest → 0 < length line → read line ≡ Some v
@@ -109,13 +110,13 @@ each_more read kind n front v line bs rest e some is = next_more read kind n fro
 
 -- a line that isn't ends it
 pub next_bad : {V : Type 0} (read : List ℕ → Option V) (kind : RuleKind) (n : ℕ) (front : List V) (line bs rest : List ℕ) → filled_lines bs ≡ line ∷ filled_lines rest → read line ≡ None
-    → after_front front (each_line read kind n (filled_lines bs)) ≡ Err (at_line kind n)
+    → after_front front (each_line read kind n (filled_lines bs)) ≡ Err (rule_at_line kind n)
 next_bad read kind n front line bs rest e is =
     ap (λ ls. after_front front (each_line read kind n ls)) e
-    ∙ ap (λ o. after_front front (first_then o (at_line kind n) (each_line read kind (n + 1) (filled_lines rest)))) is
+    ∙ ap (λ o. after_front front (first_then o (rule_at_line kind n) (each_line read kind (n + 1) (filled_lines rest)))) is
 
 pub each_bad : {V : Type 0} (read : List ℕ → Option V) (kind : RuleKind) (n : ℕ) (front : List V) (line bs rest : List ℕ) → lines bs ≡ line ∷ lines rest → 0 < length line → read line ≡ None
-    → after_front front (each_line read kind n (filled_lines bs)) ≡ Err (at_line kind n)
+    → after_front front (each_line read kind n (filled_lines bs)) ≡ Err (rule_at_line kind n)
 each_bad read kind n front line bs rest e some is = next_bad read kind n front line bs rest (filled_keep line bs rest e some) is
 
 pub found_in : {V : Type 0} (o : Option V) (rule : Rule) (v : V) → ok_or o rule ≡ Ok v → o ≡ Some v

@@ -25,3 +25,8 @@ pub opt_some : (line : List ℕ) (found : List (List ℕ)) → is_utf8 line ≡ 
 opt_some line found text clean count same form =
     let formed : are_of_form (slice_split is_comma line) ≡ true = ap are_of_form (sym same) ∙ form in
     rw (text, clean, count, formed, same) refl
+
+pub opt_other : (line : List ℕ) (found : List (List ℕ)) → is_utf8 line ≡ true → list_any (λ c. c == 13) line ≡ false → has_count (slice_split is_comma line) ≡ true → found ≡ seven (slice_split is_comma line) → are_of_form found ≡ false → opt_line_of line ≡ None
+opt_other line found text clean count same form =
+    let formed : are_of_form (slice_split is_comma line) ≡ false = ap are_of_form (sym same) ∙ form in
+    rw (text, clean, count, formed) refl

@@ -4,6 +4,7 @@ use Rattle.std.specs.List.{starts_with}
 use Rattle.std.specs.Str.Lines.{lines}
 use Rattle.bp_core.specs.declared.rules.Rule.{Rule}
 use Rattle.bp_core.specs.declared.rules.RuleKind.{RuleKind}
+use Rattle.bp_core.specs.Rules.{rule_at_line}
 
 -- U+FEFF in UTF-8, the mark that may stand at the head of a file (RFC 3629, section 6)
 abbrev pub byte_order_mark : List ℕ
@@ -13,13 +14,10 @@ byte_order_mark = 0xEF ∷ 0xBB ∷ 0xBF ∷ []
 abbrev pub without_mark : List ℕ → List ℕ
 without_mark bytes = if starts_with nat_eq bytes byte_order_mark then drop 3 bytes else bytes
 
--- the lines that aren't empty; a line ends in LF or CR LF, the last may lack its end, and any other CR is part of it
+-- the lines that aren't empty; a line ends in LF or CR LF, the last may lack its end, and any other
+-- CR is part of it
 abbrev pub filled_lines : List ℕ → List (List ℕ)
 filled_lines bytes = filter (λ line. not (length line == 0)) (lines bytes)
-
--- the rule of that kind at a line
-abbrev pub at_line : RuleKind → ℕ → Rule
-at_line kind n = record { kind = kind; line = n; a = 0; b = 0 }
 
 -- a value before the others
 abbrev pub onto : {V : Type 0} → V → Result (List V) Rule → Result (List V) Rule
@@ -31,7 +29,10 @@ abbrev pub first_then : {V : Type 0} → Option V → Rule → Result (List V) R
 first_then None rule others = Err rule
 first_then (Some v) rule others = onto v others
 
--- what is read in each line, counted from n, or the rule with the number of the first line in which nothing is
-abbrev pub each_line : {V : Type 0} → (List ℕ → Option V) → RuleKind → ℕ → List (List ℕ) → Result (List V) Rule
+-- what is read in each line, counted from n, or the rule with the number of the first line in
+-- which nothing is
+abbrev pub each_line :
+    {V : Type 0} → (List ℕ → Option V) → RuleKind → ℕ → List (List ℕ) → Result (List V) Rule
 each_line read kind n [] = Ok []
-each_line read kind n (line ∷ lines) = first_then (read line) (at_line kind n) (each_line read kind (n + 1) lines)
+each_line read kind n (line ∷ lines) =
+    first_then (read line) (rule_at_line kind n) (each_line read kind (n + 1) lines)

@@ -5,6 +5,7 @@ use Rattle.std.specs.List.{slice_split, list_all, list_any, join_with_byte, flat
 use Rattle.std.specs.Str.{chars, is_utf8, bytes_eq, all_scalars}
 use Rattle.bp_core.specs.declared.rules.Rule.{Rule}
 use Rattle.bp_core.specs.declared.rules.RuleKind.TheVariants.{OptShape}
+use Rattle.bp_core.specs.Characters.{newline, carriage_return, comma, line_end}
 use Rattle.bp_load.specs.declared.opt.OptLine.{OptLine}
 use Rattle.bp_load.specs.Lines.{without_mark, filled_lines, each_line}
 
@@ -28,7 +29,8 @@ field fields n = slice_index_or fields n []
 abbrev pub are_of_form : List (List ℕ) → Bool
 are_of_form fields =
     not (length (field fields 0) == 0) && not (length (field fields 2) == 0)
-    && is_flag (field fields 3) && is_flag (field fields 4) && is_flag (field fields 5) && is_page_count (field fields 6)
+    && is_flag (field fields 3) && is_flag (field fields 4) && is_flag (field fields 5)
+    && is_page_count (field fields 6)
 
 -- three to seven
 abbrev pub has_count : List (List ℕ) → Bool
@@ -46,11 +48,17 @@ page_of fields = record {
   pages = chars (field fields 6);
 }
 
--- what a line says: it is UTF-8 without CR, and between its commas has three to seven fields of that form
+-- a line is UTF-8 without CR, and between its commas has three to seven fields of that form
+abbrev pub is_opt_text : List ℕ → List (List ℕ) → Bool
+is_opt_text line fields =
+    is_utf8 line && not (list_any (λ c. c == carriage_return) line)
+    && has_count fields && are_of_form fields
+
+-- what a line says
 abbrev pub opt_line_of : List ℕ → Option OptLine
 opt_line_of line =
-    let fields = slice_split (λ c. c == 44) line in
-    if is_utf8 line && not (list_any (λ c. c == 13) line) && has_count fields && are_of_form fields then Some (page_of fields) else None
+    let fields = slice_split (λ c. c == comma) line in
+    if is_opt_text line fields then Some (page_of fields) else None
 
 -- what a file says, or OptShape with the number of its first bad line
 abbrev pub opt_of : List ℕ → Result (List OptLine) Rule
@@ -63,29 +71,35 @@ flag_text break = if break then codes "Y" else []
 -- the seven fields of a line
 abbrev pub opt_fields : OptLine → List (List ℕ)
 opt_fields line =
-    encode_utf8_all line.image ∷ encode_utf8_all line.volume ∷ encode_utf8_all line.path ∷ flag_text line.doc_break
-    ∷ flag_text line.folder_break ∷ flag_text line.box_break ∷ encode_utf8_all line.pages ∷ []
+    encode_utf8_all line.image ∷ encode_utf8_all line.volume ∷ encode_utf8_all line.path
+    ∷ flag_text line.doc_break ∷ flag_text line.folder_break ∷ flag_text line.box_break
+    ∷ encode_utf8_all line.pages ∷ []
 
 -- the written line, with its end
 abbrev pub opt_line_text : OptLine → List ℕ
-opt_line_text line = join_with_byte 44 (opt_fields line) ++ 13 ∷ 10 ∷ []
+opt_line_text line = join_with_byte comma (opt_fields line) ++ line_end
 
 -- the written file
 abbrev pub opt_text : List OptLine → List ℕ
 opt_text lines = flat_map opt_line_text lines
 
+-- U+FEFF, the byte order mark
+abbrev pub mark : ℕ
+mark = 0xFEFF
+
 -- no comma, CR, LF or byte order mark
-abbrev pub is_plain_character : ℕ → Bool
-is_plain_character c = not (c == 44) && not (c == 13) && not (c == 10) && not (c == 0xFEFF)
+abbrev pub is_field_character : ℕ → Bool
+is_field_character c =
+    not (c == comma) && not (c == carriage_return) && not (c == newline) && not (c == mark)
 
-abbrev pub is_plain : List ℕ → Bool
-is_plain text = list_all is_plain_character text
+abbrev pub is_field : List ℕ → Bool
+is_field text = list_all is_field_character text
 
--- a line that can be written: plain texts, an image and a path, and a count
+-- a line that can be written: texts that may stand in a field, an image and a path, and a count
 abbrev pub is_opt_line : OptLine → Bool
 is_opt_line line =
-    is_plain line.image && is_plain line.volume && is_plain line.path && is_plain line.pages && not (length line.image == 0)
-    && not (length line.path == 0) && is_page_count line.pages
+    is_field line.image && is_field line.volume && is_field line.path && is_field line.pages
+    && not (length line.image == 0) && not (length line.path == 0) && is_page_count line.pages
 
 -- lines that can be written
 abbrev pub are_opt_lines : List OptLine → Bool
@@ -93,4 +107,6 @@ are_opt_lines lines = list_all is_opt_line lines
 
 -- the texts of a line are Unicode characters, as each text's are
 abbrev pub has_texts : OptLine → Bool
-has_texts line = all_scalars line.image && all_scalars line.volume && all_scalars line.path && all_scalars line.pages
+has_texts line =
+    all_scalars line.image && all_scalars line.volume
+    && all_scalars line.path && all_scalars line.pages

@@ -6,8 +6,9 @@ ghost use Rattle.std.specs.Str.{chars, all_scalars};
 ghost use Rattle.std.specs.String.{string_bytes};
 ghost use Rattle.bp_core.specs.Answers.{Answers};
 ghost use Rattle.bp_core.specs.declared.rules.RuleKind.TheVariants.{DatShape};
-ghost use Rattle.bp_load.specs.Lines.{at_line, each_line, filled_lines};
-ghost use Rattle.bp_load.specs.Dat.{dat_of, table_of, row_of, values_of, quoted_value, is_quoted, inside, is_inner, is_plain, read_character, write_character, quoted, dat_values_text, dat_line_text, dat_text, is_cell_character, is_cell, is_name, is_writable};
+ghost use Rattle.bp_core.specs.Rules.{rule_at_line};
+ghost use Rattle.bp_load.specs.Lines.{each_line, filled_lines};
+ghost use Rattle.bp_load.specs.Dat.{dat_others_text, dat_of, table_of, row_of, values_of, quoted_value, is_quoted, inside, is_inner, stands_for_itself, read_character, write_character, quoted, dat_values_text, dat_line_text, dat_text, is_cell_character, is_cell, is_name, is_writable};
 ghost use Rattle.bp_load.specs.Table.{is_even};
 
 use crate::fields::next_field;
@@ -15,6 +16,13 @@ use crate::lines::{first_filled_line, text_without_mark};
 use bp_core::{Bytes, ListOf, OutOfMemory, Refusal, Rule, RuleKind, Text, TextList};
 use std::alloc::Global;
 use std::marker::Model;
+
+// What stands at both ends of a value, between two values, and for a newline in a value.
+const QUOTE: char = '\u{fe}';
+
+const SEPARATOR: char = '\u{14}';
+
+const NEWLINE_SIGN: char = '\u{ae}';
 
 /// A list of rows of texts.
 pub type TextTable = ListOf<TextList>;
@@ -96,17 +104,12 @@ pub fn read_dat(alloc: Global, bytes: &[u8]) -> Result<Dat, Refusal>
 }
 
 fn refused(kind: RuleKind, line: u32) -> Refusal
-    ensures { result ≡ Refusal.Rule (at_line kind line) }
+    ensures { result ≡ Refusal.Rule (rule_at_line kind line) }
 {
-    Refusal::Rule(Rule {
-        kind,
-        line,
-        a: 0,
-        b: 0,
-    })
+    Refusal::Rule(Rule::at_line(kind, line))
 }
 
-/// The table of a text without a mark.
+// The table of a text without a mark.
 fn read_table(alloc: Global, text: &str) -> Result<Dat, Refusal>
     requires { length text.now < 2 ^ 32 }
     ensures { Answers (λ dat. dat) result (table_of (filled_lines text.now)) }
@@ -121,10 +124,11 @@ fn read_table(alloc: Global, text: &str) -> Result<Dat, Refusal>
     Ok(Dat::new(columns, rows))
 }
 
-/// The rows of the lines after the first, each of as many values.
+// The rows of the lines after the first, each of as many values.
 fn read_rows(alloc: Global, text: &str, width: usize) -> Result<TextTable, Refusal>
     requires { length text.now + 1 < 2 ^ 32 }
-    ensures { Answers (λ rows. rows) result (each_line (row_of width) DatShape 2 (filled_lines text.now)) }
+    ensures { Answers (λ rows. rows) result
+        (each_line (row_of width) DatShape 2 (filled_lines text.now)) }
 {
     let mut rest = text;
     let mut rows = Vec::new(alloc);
@@ -137,9 +141,10 @@ fn read_rows(alloc: Global, text: &str, width: usize) -> Result<TextTable, Refus
     Ok(ListOf::from_vec(rows))
 }
 
-/// The row of a line of that number.
+// The row of a line of that number.
 fn read_row(alloc: Global, line: &str, width: usize, number: u32) -> Result<TextList, Refusal>
-    ensures { Answers (λ row. row) result (ok_or (row_of width line.now) (at_line DatShape number)) }
+    ensures { Answers (λ row. row) result
+        (ok_or (row_of width line.now) (rule_at_line DatShape number)) }
 {
     match read_values(alloc, line, width)? {
         Some(values) if values.len() == width => Ok(values),
@@ -147,14 +152,14 @@ fn read_row(alloc: Global, line: &str, width: usize, number: u32) -> Result<Text
     }
 }
 
-/// The values of a line, with room for so many from the start.
+// The values of a line, with room for so many from the start.
 fn read_values(alloc: Global, line: &str, room: usize) -> Result<Option<TextList>, OutOfMemory>
     ensures { IfOk result (λ found. found ≡ values_of line.now) }
 {
     let mut values = Vec::with_capacity(alloc, room)?;
     let mut rest = Some(line);
     while rest.is_some() {
-        let (piece, after) = next_field(rest, '\u{14}');
+        let (piece, after) = next_field(rest, SEPARATOR);
         let Some(value) = read_value(alloc, piece)? else {
             return Ok(None);
         };
@@ -164,14 +169,14 @@ fn read_values(alloc: Global, line: &str, room: usize) -> Result<Option<TextList
     Ok(Some(ListOf::from_vec(values)))
 }
 
-/// The value between two quotes.
+// The value between two quotes.
 fn read_value(alloc: Global, piece: &str) -> Result<Option<Text>, OutOfMemory>
     ensures { IfOk result (λ found. found ≡ quoted_value (chars piece.now)) }
 {
     let Some(inner) = unquoted(piece) else {
         return Ok(None);
     };
-    if are_plain(inner.as_bytes()) {
+    if stand_for_themselves(inner.as_bytes()) {
         let text = String::from_str(alloc, inner)?;
         return Ok(Some(Text::from_string(text)));
     }
@@ -182,17 +187,18 @@ fn read_value(alloc: Global, piece: &str) -> Result<Option<Text>, OutOfMemory>
     Ok(Some(Text::from_string(text)))
 }
 
-/// What stands between the two quotes of a piece.
+// What stands between the two quotes of a piece.
 fn unquoted(piece: &str) -> Option<&str>
     ensures { MatchOption result (is_quoted (chars piece.now) ≡ false)
-        (λ inner. (is_quoted (chars piece.now) ≡ true) × (chars inner.now ≡ inside (chars piece.now))) }
+        (λ inner. (is_quoted (chars piece.now) ≡ true)
+        × (chars inner.now ≡ inside (chars piece.now))) }
 {
-    piece.strip_prefix('\u{fe}')?.strip_suffix('\u{fe}')
+    piece.strip_prefix(QUOTE)?.strip_suffix(QUOTE)
 }
 
-/// Whether each byte is ASCII and no CR. Such a value, as most are, stands for itself, and is copied whole.
-fn are_plain(bytes: &[u8]) -> bool
-    ensures { result ≡ list_all is_plain bytes.now }
+// Whether each byte is ASCII and no CR. Such a value, as most are, stands for itself, and is copied whole.
+fn stand_for_themselves(bytes: &[u8]) -> bool
+    ensures { result ≡ list_all stands_for_itself bytes.now }
 {
     bytes.iter().all(|byte| byte.is_ascii() && *byte != b'\r')
 }
@@ -206,12 +212,13 @@ fn are_inner(text: &str) -> bool
 fn is_inner(c: char) -> bool
     ensures { result ≡ is_inner c }
 {
-    c != '\u{fe}' && c != '\r'
+    c != QUOTE && c != '\r'
 }
 
-/// The text with a newline for each sign of one.
+// The text with a newline for each sign of one.
 fn with_newlines(alloc: Global, text: &str) -> Result<String, OutOfMemory>
-    ensures { IfOk result (λ read. string_bytes read ≡ encode_utf8_all (map read_character (chars text.now))) }
+    ensures { IfOk result
+        (λ read. string_bytes read ≡ encode_utf8_all (map read_character (chars text.now))) }
 {
     let mut read = String::with_capacity(alloc, text.len())?;
     for c in text.chars() {
@@ -223,7 +230,7 @@ fn with_newlines(alloc: Global, text: &str) -> Result<String, OutOfMemory>
 fn read_character(c: char) -> char
     ensures { result ≡ read_character c }
 {
-    if c == '\u{ae}' { '\n' } else { c }
+    if c == NEWLINE_SIGN { '\n' } else { c }
 }
 
 fn are_rows(rows: &[TextList]) -> bool
@@ -253,7 +260,7 @@ fn is_cell(text: &Text) -> bool
 fn is_cell_character(c: char) -> bool
     ensures { result ≡ is_cell_character c }
 {
-    c != '\u{fe}' && c != '\u{14}' && c != '\r' && c != '\u{ae}'
+    c != QUOTE && c != SEPARATOR && c != '\r' && c != NEWLINE_SIGN
 }
 
 fn is_name(text: &Text) -> bool
@@ -283,9 +290,10 @@ pub fn write_dat(alloc: Global, dat: &Dat) -> Result<Bytes, OutOfMemory>
     Ok(Bytes::from_vec(out.into_bytes()))
 }
 
-/// Adds a line of these values with its end.
+// Adds a line of these values with its end.
 fn write_line(out: &mut String, values: &[Text]) -> Result<(), OutOfMemory>
-    ensures ok { OnOk result (string_bytes out.new ≡ string_bytes out.old ++ dat_line_text values.now) }
+    ensures ok { OnOk result
+        (string_bytes out.new ≡ string_bytes out.old ++ dat_line_text values.now) }
     ensures scalars { OnOk result (list_all all_scalars values.now ≡ true) }
 {
     write_values(out, values)?;
@@ -293,9 +301,10 @@ fn write_line(out: &mut String, values: &[Text]) -> Result<(), OutOfMemory>
     Ok(())
 }
 
-/// Adds the values with a separator between each two.
+// Adds the values with a separator between each two.
 fn write_values(out: &mut String, values: &[Text]) -> Result<(), OutOfMemory>
-    ensures ok { OnOk result (string_bytes out.new ≡ string_bytes out.old ++ dat_values_text values.now) }
+    ensures ok { OnOk result
+        (string_bytes out.new ≡ string_bytes out.old ++ dat_values_text values.now) }
     ensures scalars { OnOk result (list_all all_scalars values.now ≡ true) }
 {
     let Some((first, others)) = values.split_first() else {
@@ -305,31 +314,34 @@ fn write_values(out: &mut String, values: &[Text]) -> Result<(), OutOfMemory>
     write_others(out, others)
 }
 
-/// Adds each value, with a separator before it.
+// Adds each value, with a separator before it.
 fn write_others(out: &mut String, values: &[Text]) -> Result<(), OutOfMemory>
-    ensures ok { OnOk result (string_bytes out.new ≡ string_bytes out.old ++ flat_map (λ value. 0x14 ∷ encode_utf8_all (quoted value)) values.now) }
+    ensures ok { OnOk result
+        (string_bytes out.new ≡ string_bytes out.old ++ dat_others_text values.now) }
     ensures scalars { OnOk result (list_all all_scalars values.now ≡ true) }
 {
     for value in values {
-        out.push('\u{14}')?;
+        out.push(SEPARATOR)?;
         write_value(out, value)?;
     }
     Ok(())
 }
 
-/// Adds a value between two quotes, with the sign for each newline.
+// Adds a value between two quotes, with the sign for each newline.
 fn write_value(out: &mut String, value: &Text) -> Result<(), OutOfMemory>
-    ensures ok { OnOk result (string_bytes out.new ≡ string_bytes out.old ++ encode_utf8_all (quoted value.now)) }
+    ensures ok { OnOk result
+        (string_bytes out.new ≡ string_bytes out.old ++ encode_utf8_all (quoted value.now)) }
     ensures scalars { OnOk result (all_scalars value.now ≡ true) }
 {
-    out.push('\u{fe}')?;
+    out.push(QUOTE)?;
     write_characters(out, value.as_str())?;
-    out.push('\u{fe}')?;
+    out.push(QUOTE)?;
     Ok(())
 }
 
 fn write_characters(out: &mut String, text: &str) -> Result<(), OutOfMemory>
-    ensures { OnOk result (string_bytes out.new ≡ string_bytes out.old ++ encode_utf8_all (map write_character (chars text.now))) }
+    ensures { let written = map write_character (chars text.now) in
+        OnOk result (string_bytes out.new ≡ string_bytes out.old ++ encode_utf8_all written) }
 {
     for c in text.chars() {
         out.push(write_character(c))?;
@@ -340,7 +352,7 @@ fn write_characters(out: &mut String, text: &str) -> Result<(), OutOfMemory>
 fn write_character(c: char) -> char
     ensures { result ≡ write_character c }
 {
-    if c == '\n' { '\u{ae}' } else { c }
+    if c == '\n' { NEWLINE_SIGN } else { c }
 }
 
 #[cfg(test)]

@@ -7,9 +7,12 @@ ghost use Rattle.bp_load.specs.Fields.{fields_in};
 /// field is empty.
 pub fn next_field(rest: Option<&str>, separator: char) -> (&str, Option<&str>)
     requires { separator < 128 }
-    ensures field { result.0.now ≡ slice_index_or (fields_in separator (option_copied rest.entry)) 0 [] }
-    ensures others { fields_in separator (option_copied result.1) ≡ drop 1 (fields_in separator (option_copied rest.entry)) }
-    ensures more { is_some result.1 ≡ nat_lt 1 (length (fields_in separator (option_copied rest.entry))) }
+    ensures field { let fields = fields_in separator (option_copied rest.entry) in
+        result.0.now ≡ slice_index_or fields 0 [] }
+    ensures others { let fields = fields_in separator (option_copied rest.entry) in
+        fields_in separator (option_copied result.1) ≡ drop 1 fields }
+    ensures more { let fields = fields_in separator (option_copied rest.entry) in
+        is_some result.1 ≡ nat_lt 1 (length fields) }
 {
     let Some(text) = rest else {
         return ("", None);

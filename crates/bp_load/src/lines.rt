@@ -61,7 +61,7 @@ pub fn first_filled_line(text: &str) -> Option<(&str, &str)>
     None
 }
 
-/// The first line without its end, and what follows that end.
+// The first line without its end, and what follows that end.
 fn first_text_line(text: &str) -> (&str, &str)
     requires { 0 < length text.now }
     ensures line { lines text.now ≡ result.0.now ∷ lines result.1.now }

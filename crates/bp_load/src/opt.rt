@@ -5,8 +5,9 @@ ghost use Rattle.std.specs.Char.{is_ascii_digit};
 ghost use Rattle.std.specs.List.{list_all, slice_split};
 ghost use Rattle.std.specs.Str.{chars, all_scalars};
 ghost use Rattle.bp_core.specs.Answers.{Answers};
-ghost use Rattle.bp_load.specs.Lines.{at_line};
-ghost use Rattle.bp_load.specs.Opt.{opt_of, opt_line_of, is_flag, is_page_count, are_of_form, page_of, has_count, is_plain, is_plain_character, is_opt_line, are_opt_lines, opt_line_text, opt_text, flag_text, has_texts};
+ghost use Rattle.bp_core.specs.Characters.{comma};
+ghost use Rattle.bp_core.specs.Rules.{rule_at_line};
+ghost use Rattle.bp_load.specs.Opt.{opt_of, opt_line_of, is_flag, is_page_count, are_of_form, page_of, has_count, is_field, is_field_character, is_opt_line, are_opt_lines, opt_line_text, opt_text, flag_text, has_texts};
 ghost use Rattle.bp_load.specs.OptFields.{fields_of, seven};
 
 use crate::fields::next_field;
@@ -50,22 +51,18 @@ pub fn read_opt(alloc: Global, bytes: &[u8]) -> Result<OptList, Refusal>
     Ok(ListOf::from_vec(lines))
 }
 
-/// What a line of that number says.
+// What a line of that number says.
 fn read_line(alloc: Global, line: &[u8], number: u32) -> Result<OptLine, Refusal>
-    ensures { Answers (λ page. page) result (ok_or (opt_line_of line.now) (at_line RuleKind.OptShape number)) }
+    ensures { let rule = rule_at_line RuleKind.OptShape number in
+        Answers (λ page. page) result (ok_or (opt_line_of line.now) rule) }
 {
     match form_of(line) {
         Some(fields) => Ok(page_of(alloc, &fields)?),
-        None => Err(Refusal::Rule(Rule {
-            kind: RuleKind::OptShape,
-            line: number,
-            a: 0,
-            b: 0,
-        })),
+        None => Err(Refusal::Rule(Rule::at_line(RuleKind::OptShape, number))),
     }
 }
 
-/// The seven fields of a line, lent from it.
+// The seven fields of a line, lent from it.
 #[derive(Clone, Copy)]
 struct Fields<'a> {
     image: &'a str,
@@ -77,9 +74,11 @@ struct Fields<'a> {
     pages: &'a str,
 }
 
-/// The fields of a line that is of the form.
+// The fields of a line that is of the form.
 fn form_of(line: &[u8]) -> Option<Fields<'_>>
-    ensures { MatchOption result (opt_line_of line.now ≡ None) (λ fields. opt_line_of line.now ≡ Some (page_of (fields_of fields))) }
+    ensures { MatchOption result
+        (opt_line_of line.now ≡ None)
+        (λ fields. opt_line_of line.now ≡ Some (page_of (fields_of fields))) }
 {
     let Ok(text) = str::from_utf8(line) else {
         return None;
@@ -97,10 +96,12 @@ fn form_of(line: &[u8]) -> Option<Fields<'_>>
     }
 }
 
-/// The three to seven fields between the commas, missing ones empty.
+// The three to seven fields between the commas, missing ones empty.
 fn split_fields(text: &str) -> Option<Fields<'_>>
-    ensures { let fields = slice_split (λ c. c == 44) text.now in
-        MatchOption result (has_count fields ≡ false) (λ found. (has_count fields ≡ true) × (fields_of found ≡ seven fields)) }
+    ensures { let fields = slice_split (λ c. c == comma) text.now in
+        MatchOption result
+        (has_count fields ≡ false)
+        (λ found. (has_count fields ≡ true) × (fields_of found ≡ seven fields)) }
 {
     let (image, rest) = next_field(Some(text), ',');
     let (volume, rest) = next_field(rest, ',');
@@ -155,7 +156,7 @@ fn are_digits(text: &[u8]) -> bool
     text.iter().all(|byte| byte.is_ascii_digit())
 }
 
-/// The fields in memory of their own.
+// The fields in memory of their own.
 fn page_of(alloc: Global, fields: &Fields) -> Result<OptLine, OutOfMemory>
     ensures { IfOk result (λ page. page ≡ page_of (fields_of fields.now)) }
 {
@@ -187,23 +188,23 @@ pub fn opt_writable(lines: &OptList) -> bool
 fn is_writable(line: &OptLine) -> bool
     ensures { result ≡ is_opt_line line.now }
 {
-    is_plain(&line.image)
-        && is_plain(&line.volume)
-        && is_plain(&line.path)
-        && is_plain(&line.pages)
+    is_field(&line.image)
+        && is_field(&line.volume)
+        && is_field(&line.path)
+        && is_field(&line.pages)
         && !line.image.is_empty()
         && !line.path.is_empty()
         && is_count(&line.pages)
 }
 
-fn is_plain(text: &Text) -> bool
-    ensures { result ≡ is_plain text.now }
+fn is_field(text: &Text) -> bool
+    ensures { result ≡ is_field text.now }
 {
-    text.as_str().chars().all(|c| is_plain_character(c))
+    text.as_str().chars().all(|c| is_field_character(c))
 }
 
-fn is_plain_character(c: char) -> bool
-    ensures { result ≡ is_plain_character c }
+fn is_field_character(c: char) -> bool
+    ensures { result ≡ is_field_character c }
 {
     c != ',' && c != '\r' && c != '\n' && c != '\u{feff}'
 }
@@ -227,7 +228,7 @@ pub fn write_opt(alloc: Global, lines: &OptList) -> Result<Bytes, OutOfMemory>
     Ok(Bytes::from_vec(out))
 }
 
-/// Adds a line with its end.
+// Adds a line with its end.
 fn write_line(out: &mut Vec<u8>, line: &OptLine) -> Result<(), OutOfMemory>
     ensures ok { OnOk result (out.new.items ≡ out.old.items ++ opt_line_text line.now) }
     ensures texts { OnOk result (has_texts line.now ≡ true) }
@@ -241,9 +242,10 @@ fn write_line(out: &mut Vec<u8>, line: &OptLine) -> Result<(), OutOfMemory>
     write_text(out, &line.pages, b"\r\n")
 }
 
-/// Adds a text, and what ends it.
+// Adds a text, and what ends it.
 fn write_text(out: &mut Vec<u8>, text: &Text, end: &[u8]) -> Result<(), OutOfMemory>
-    ensures ok { OnOk result (out.new.items ≡ out.old.items ++ (encode_utf8_all text.now ++ end.now)) }
+    ensures ok { let added = encode_utf8_all text.now ++ end.now in
+        OnOk result (out.new.items ≡ out.old.items ++ added) }
     ensures scalars { OnOk result (all_scalars text.now ≡ true) }
 {
     out.extend_from_slice(text.as_str().as_bytes())?;
@@ -251,7 +253,7 @@ fn write_text(out: &mut Vec<u8>, text: &Text, end: &[u8]) -> Result<(), OutOfMem
     Ok(())
 }
 
-/// Adds `Y` or nothing, and a comma.
+// Adds `Y` or nothing, and a comma.
 fn write_flag(out: &mut Vec<u8>, is_set: bool) -> Result<(), OutOfMemory>
     ensures { OnOk result (out.new.items ≡ out.old.items ++ (flag_text is_set ++ 44 ∷ [])) }
 {

@@ -4,7 +4,7 @@ use Rattle.bp_core.specs.declared.rules.Rule.{Rule}
 use Rattle.bp_load.specs.Table.{Table}
 use Rattle.std.proofs.lemmas.Str.{is_utf8-from_IsUtf8}
 use Rattle.bp_load.proofs.OptLemmas.{not_utf8}
-use Rattle.bp_load.proofs.DatTables.{dat_text, dat_other}
+use Rattle.bp_load.proofs.DatTableLemmas.{dat_text, dat_other}
 use Rattle.bp_load.proofs.dat.read_dat.Goals as goal
 
 pub returns-in-Ok : goal.returns-in-Ok

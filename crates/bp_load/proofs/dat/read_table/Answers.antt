@@ -2,7 +2,7 @@ use Rattle.std.proofs.Common.{length, ap, sym, ◌∙◌}
 use Rattle.bp_core.specs.declared.rules.RuleKind.TheVariants.{DatShape}
 use Rattle.bp_load.specs.Dat.{row_of}
 use Rattle.bp_load.specs.Lines.{filled_lines, each_line}
-use Rattle.bp_load.proofs.DatTables.{each_even}
+use Rattle.bp_load.proofs.DatTableLemmas.{each_even}
 use Rattle.bp_load.proofs.dat.read_table.Goals as goal
 
 pub new-requires : goal.new-requires

@@ -3,7 +3,7 @@ use Rattle.std.specs.List.{list_all, flat_map}
 use Rattle.std.specs.Str.{all_scalars}
 use Rattle.std.proofs.lemmas.List.{take_all}
 use Rattle.bp_load.specs.Dat.{dat_of, dat_line_text}
-use Rattle.bp_load.proofs.DatWritten.{reads_back}
+use Rattle.bp_load.proofs.DatWrittenLemmas.{reads_back}
 use Rattle.bp_load.proofs.dat.write_dat.Goals as goal
 
 pub returns-clause-read_back : goal.returns-clause-read_back

@@ -1,6 +1,6 @@
 use Rattle.std.proofs.Common.{◌∙◌, ap}
 use Rattle.bp_load.specs.Opt.{is_page_count}
-use Rattle.bp_load.proofs.OptWritten.{count_bytes}
+use Rattle.bp_load.proofs.OptWrittenLemmas.{count_bytes}
 use Rattle.bp_load.proofs.opt.is_count.Goals as goal
 
 pub returns : goal.returns

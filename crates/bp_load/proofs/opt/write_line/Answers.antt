@@ -1,5 +1,5 @@
 use Rattle.std.proofs.lemmas.Result.{on_ok_weaker}
-use Rattle.bp_load.proofs.OptWritten.{line_written}
+use Rattle.bp_load.proofs.OptWrittenLemmas.{line_written}
 use Rattle.bp_load.proofs.opt.write_line.Goals as goal
 
 pub returns-clause-ok : goal.returns-clause-ok

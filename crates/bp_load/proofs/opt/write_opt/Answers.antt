@@ -2,7 +2,7 @@ use Rattle.std.proofs.Common.{ap, sym, ◌∙◌, arith}
 use Rattle.std.specs.List.{list_all}
 use Rattle.std.proofs.lemmas.List.{take_all}
 use Rattle.bp_load.specs.Opt.{opt_text, has_texts, opt_of}
-use Rattle.bp_load.proofs.OptWritten.{reads_back}
+use Rattle.bp_load.proofs.OptWrittenLemmas.{reads_back}
 use Rattle.bp_load.proofs.opt.write_opt.Goals as goal
 
 pub returns-clause-text : goal.returns-clause-text

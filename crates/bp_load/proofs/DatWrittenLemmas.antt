@@ -9,12 +9,13 @@ use Rattle.std.proofs.lemmas.Str.{IsUtf8-append, IsUtf8-nil, is_utf8-from_IsUtf8
 use Rattle.std.proofs.lemmas.List.Folds.{list_all-append, list_all-map}
 use Rattle.bp_core.specs.declared.rules.RuleKind.TheVariants.{DatShape, DatEncoding}
 use Rattle.bp_load.specs.Table.{Table, is_even}
-use Rattle.bp_load.specs.Lines.{without_mark, filled_lines, each_line, first_then, onto, at_line}
+use Rattle.bp_core.specs.Rules.{rule_at_line}
+use Rattle.bp_load.specs.Lines.{without_mark, filled_lines, each_line, first_then, onto}
 use Rattle.bp_load.specs.Dat.{dat_of, table_of, after_header, with_rows, row_of, of_number, values_of, each_value, together, quoted_value, is_quoted, inside, is_inner, read_character, write_character, quoted, dat_values_text, dat_line_text, dat_text, is_cell_character, is_cell, is_name, is_writable}
 use Rattle.bp_load.proofs.TextLemmas.{passing_bytes, weaker}
 use Rattle.bp_load.proofs.LineLemmas.{filled_keep}
 use Rattle.bp_load.proofs.JoinLemmas.{not_at, joined, split_joined, utf8_joined}
-use Rattle.bp_load.proofs.EndedLines.{no_break, ended_line}
+use Rattle.bp_load.proofs.EndedLineLemmas.{no_break, ended_line}
 use Rattle.bp_load.proofs.DatLemmas.{both, joined_flat}
 
 abbrev value_bytes : List ℕ → List ℕ
@@ -179,7 +180,7 @@ rows_read n k (row ∷ rows) some even cells scalars =
     let s = and_parts _ _ scalars in
     let size = eqb-true (length row) n e.0 in
     ap (each_line (row_of n) DatShape k) (line_lines row (flat_map dat_line_text rows) (omega arith) c.0)
-    ∙ ap (λ o. first_then o (at_line DatShape k) (each_line (row_of n) DatShape (k + 1) (filled_lines (flat_map dat_line_text rows)))) (row_read n row some e.0 c.0 s.0)
+    ∙ ap (λ o. first_then o (rule_at_line DatShape k) (each_line (row_of n) DatShape (k + 1) (filled_lines (flat_map dat_line_text rows)))) (row_read n row some e.0 c.0 s.0)
     ∙ ap (onto row) (rows_read n (k + 1) rows some e.1 c.1 s.1)
 
 utf8_ends : IsUtf8 (13 ∷ 10 ∷ [])
@@ -224,7 +225,7 @@ reads_back t writable even names rows =
     let cells = names_cells t.columns v.1 in
     let text : List ℕ = flat_map dat_line_text t.rows in
     let utf8 = is_utf8-from_IsUtf8 (dat_text t) (IsUtf8-append (dat_line_text t.columns) text (utf8_line t.columns names) (utf8_rows t.rows rows)) in
-    ap (λ b. cond b (table_of (filled_lines (without_mark (dat_text t)))) (Err (at_line DatEncoding 0))) utf8
+    ap (λ b. cond b (table_of (filled_lines (without_mark (dat_text t)))) (Err (rule_at_line DatEncoding 0))) utf8
     ∙ ap (λ bytes. table_of (filled_lines bytes)) (no_mark t.columns text some)
     ∙ ap table_of (line_lines t.columns text some cells)
     ∙ ap (λ o. after_header o (filled_lines text)) (values_read t.columns some cells names)

@@ -8,15 +8,16 @@ use Rattle.std.proofs.lemmas.Bool.{cases_Bool, and_parts, and_from, not-true, eq
 use Rattle.std.proofs.lemmas.Str.{IsUtf8-nil, is_utf8-from_IsUtf8, length-le-encodes, chars-encodes, encode_same, encode_ascii}
 use Rattle.std.proofs.Math.Utf8.{encode}
 use Rattle.std.proofs.lemmas.Bool.Decides.{nat_tests}
-use Rattle.bp_load.specs.Opt.{is_page_count, opt_fields, opt_line_text, opt_text, opt_of, flag_text, is_flag, is_yes, is_plain, is_plain_character, is_opt_line, has_texts, opt_line_of, page_of, has_count, are_of_form}
+use Rattle.bp_load.specs.Opt.{is_page_count, opt_fields, opt_line_text, opt_text, opt_of, flag_text, is_flag, is_yes, is_field, is_field_character, is_opt_line, has_texts, opt_line_of, page_of, has_count, are_of_form}
 use Rattle.bp_load.specs.OptFields.{seven}
-use Rattle.bp_load.specs.Lines.{without_mark, byte_order_mark, filled_lines, each_line, first_then, onto, at_line}
+use Rattle.bp_core.specs.Rules.{rule_at_line}
+use Rattle.bp_load.specs.Lines.{without_mark, byte_order_mark, filled_lines, each_line, first_then, onto}
 use Rattle.bp_load.specs.declared.opt.OptLine.{OptLine}
 use Rattle.bp_core.specs.declared.rules.RuleKind.TheVariants.{OptShape}
 use Rattle.bp_load.proofs.OptLemmas.{is_comma, opt_some}
 use Rattle.bp_load.proofs.LineLemmas.{filled_keep, mark_bytes}
 use Rattle.bp_load.proofs.JoinLemmas.{not_at, none_of, joined, split_joined, utf8_joined}
-use Rattle.bp_load.proofs.EndedLines.{no_break, ended_line}
+use Rattle.bp_load.proofs.EndedLineLemmas.{no_break, ended_line}
 use Rattle.bp_load.proofs.TextLemmas.{passing_bytes, failing_bytes, own_bytes, weaker}
 
 no_digit : (b : ℕ) → 128 ≤ b → is_ascii_digit b ≡ false
@@ -65,12 +66,12 @@ clean_large : (b : ℕ) → 128 ≤ b → is_clean b ≡ true
 unfolding is_clean
 clean_large b large = grind (arith, nat_tests)
 
-clean_plain : (c : ℕ) → is_plain_character c ≡ true → is_clean c ≡ true
+clean_plain : (c : ℕ) → is_field_character c ≡ true → is_clean c ≡ true
 unfolding is_clean
 clean_plain c h = (and_parts _ _ h).0
 
-clean_text : (cs : List ℕ) → is_plain cs ≡ true → list_all is_clean (encode_utf8_all cs) ≡ true
-clean_text cs plain = passing_bytes is_clean clean_large cs ∙ weaker is_plain_character is_clean clean_plain cs plain
+clean_text : (cs : List ℕ) → is_field cs ≡ true → list_all is_clean (encode_utf8_all cs) ≡ true
+clean_text cs plain = passing_bytes is_clean clean_large cs ∙ weaker is_field_character is_clean clean_plain cs plain
 
 clean_flag : (b : Bool) → list_all is_clean (flag_text b) ≡ true
 unfolding is_clean
@@ -89,10 +90,10 @@ clean_break c h =
 
 -- what a line that can be written is
 record Fits (line : OptLine) : Type 0 where
-  image : is_plain line.image ≡ true
-  volume : is_plain line.volume ≡ true
-  path : is_plain line.path ≡ true
-  pages : is_plain line.pages ≡ true
+  image : is_field line.image ≡ true
+  volume : is_field line.volume ≡ true
+  path : is_field line.path ≡ true
+  pages : is_field line.pages ≡ true
   some_image : not (length line.image == 0) ≡ true
   some_path : not (length line.path == 0) ≡ true
   count : is_page_count line.pages ≡ true
@@ -207,10 +208,10 @@ written_lines n (line ∷ ls) h texts =
     let fits = fits_of line fit.0 in
     let later = written_lines (n + 1) ls fit.1 text.1 in
     ap (each_line opt_line_of OptShape n) (filled_keep (line_bytes line) (opt_text (line ∷ ls)) (opt_text ls) (ended_line (line_bytes line) (opt_text ls) (no_breaks line fits)) (some_line line fits))
-    ∙ ap (λ o. first_then o (at_line OptShape n) (each_line opt_line_of OptShape (n + 1) (filled_lines (opt_text ls)))) (read_line line fits (texts_of line text.0))
+    ∙ ap (λ o. first_then o (rule_at_line OptShape n) (each_line opt_line_of OptShape (n + 1) (filled_lines (opt_text ls)))) (read_line line fits (texts_of line text.0))
     ∙ ap (onto line) later
 
-not_mark : (image rest : List ℕ) → is_plain image ≡ true → not (length image == 0) ≡ true → without_mark (encode_utf8_all image ++ rest) ≡ encode_utf8_all image ++ rest
+not_mark : (image rest : List ℕ) → is_field image ≡ true → not (length image == 0) ≡ true → without_mark (encode_utf8_all image ++ rest) ≡ encode_utf8_all image ++ rest
 not_mark [] rest plain some = let e : false ≡ true = some in cc
 not_mark (c ∷ cs) rest plain some =
     let bytes : List ℕ = encode_utf8_all (c ∷ cs) ++ rest in

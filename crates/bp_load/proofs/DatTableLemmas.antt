@@ -5,7 +5,8 @@ use Rattle.std.specs.Str.{is_utf8}
 use Rattle.std.proofs.lemmas.Bool.{cases_Bool, and_from}
 use Rattle.bp_core.specs.declared.rules.Rule.{Rule}
 use Rattle.bp_core.specs.declared.rules.RuleKind.TheVariants.{DatShape, DatEncoding}
-use Rattle.bp_load.specs.Lines.{without_mark, filled_lines, each_line, first_then, at_line}
+use Rattle.bp_core.specs.Rules.{rule_at_line}
+use Rattle.bp_load.specs.Lines.{without_mark, filled_lines, each_line, first_then}
 use Rattle.bp_load.specs.Dat.{dat_of, table_of, row_of, of_number, values_of}
 
 of_number_is : (n : ℕ) (o : Option (List (List ℕ))) (v : List (List ℕ)) → of_number n o ≡ Some v → (length v == n) ≡ true
@@ -33,12 +34,12 @@ taken (Some v) rule (Ok ws) vs e = let f : v ∷ ws ≡ vs = cc in record { head
 pub each_even : (n k : ℕ) (ls : List (List ℕ)) (rows : List (List (List ℕ))) → each_line (row_of n) DatShape k ls ≡ Ok rows → list_all (λ row. length row == n) rows ≡ true
 each_even n k [] rows e = let f : [] ≡ rows = cc in ap (list_all (λ row. length row == n)) (sym f)
 each_even n k (l ∷ ls) rows e =
-    let t = taken (row_of n l) (at_line DatShape k) (each_line (row_of n) DatShape (k + 1) ls) rows e in
+    let t = taken (row_of n l) (rule_at_line DatShape k) (each_line (row_of n) DatShape (k + 1) ls) rows e in
     ap (list_all (λ row. length row == n)) t.whole ∙ and_from _ _ (of_number_is n (values_of l) t.head t.head_is) (each_even n (k + 1) ls t.tail t.tail_is)
 
 pub dat_text : (bytes text rest : List ℕ) → is_utf8 bytes ≡ true → text ≡ bytes → rest ≡ without_mark text → table_of (filled_lines rest) ≡ dat_of bytes
 dat_text bytes text rest utf8 e f =
-    ap (λ r. table_of (filled_lines r)) (f ∙ ap without_mark e) ∙ sym (ap (λ b. cond b (table_of (filled_lines (without_mark bytes))) (Err (at_line DatEncoding 0))) utf8)
+    ap (λ r. table_of (filled_lines r)) (f ∙ ap without_mark e) ∙ sym (ap (λ b. cond b (table_of (filled_lines (without_mark bytes))) (Err (rule_at_line DatEncoding 0))) utf8)
 
-pub dat_other : (bytes : List ℕ) → is_utf8 bytes ≡ false → dat_of bytes ≡ Err (at_line DatEncoding 0)
-dat_other bytes other = ap (λ b. cond b (table_of (filled_lines (without_mark bytes))) (Err (at_line DatEncoding 0))) other
+pub dat_other : (bytes : List ℕ) → is_utf8 bytes ≡ false → dat_of bytes ≡ Err (rule_at_line DatEncoding 0)
+dat_other bytes other = ap (λ b. cond b (table_of (filled_lines (without_mark bytes))) (Err (rule_at_line DatEncoding 0))) other

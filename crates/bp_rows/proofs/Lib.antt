@@ -1,3 +1,4 @@
+mod BoxLemmas
 pub mod Burning
 mod Examples
 pub mod Grids

@@ -2,6 +2,7 @@
 ghost use Rattle.std.specs.Prelude.{◌≡◌, ◌≢◌, ◌+◌, ◌*◌, ◌<◌, ◌≤◌, ◌↔◌, Bool, List, false, if◌then◌else◌, length, IsTrue, IfOk, IfErr, IsErrOf, ◌∷◌, []};
 ghost use Rattle.bp_core.specs.Rules.{page_limit_rule};
 ghost use Rattle.bp_rows.specs.Limits.{sides_are_allowed};
+ghost use Rattle.bp_core.specs.Rectangle.{LiesInside};
 ghost use Rattle.bp_rows.specs.Image.{IsPage, IsGrid, pixel, with_pixel, white_image};
 ghost use Rattle.bp_rows.specs.Bits.{row_bytes};
 ghost use Rattle.bp_rows.specs.Burned.{burned, row_part};
@@ -10,7 +11,7 @@ ghost use Rattle.bp_rows.specs.Packed.{packed_rows};
 use crate::bits::{blacken, bytes_of_strip, has_blank_ends, pixel_at, place_of, set_pixel_at};
 use crate::limits::allowed_sides;
 use crate::resolution::{Res, Unit};
-use bp_core::{Refusal, Rule};
+use bp_core::{Rect, Refusal, Rule};
 use std::alloc::Global;
 use std::marker::Model;
 use thiserror::Error;
@@ -181,6 +182,18 @@ impl Page {
     {
         let start = place_of(self.width, row, 0);
         blacken(&mut self.strip, start + from as usize, start + to as usize);
+    }
+
+    /// Makes the pixels of a rectangle black, which lies inside the page, and no other.
+    pub fn blacken_box(&mut self, area: &Rect)
+        requires { LiesInside area.now self.old.width self.old.height }
+        ensures { self.new ≡ burned self.old (area.now ∷ []) }
+    {
+        let inside = area.inside(self.width(), self.height());
+        prove!(inside);
+        for i in 0..area.height {
+            self.blacken(area.top + i, area.left, area.left + area.width);
+        }
     }
 
     /// The rows as the packed strip of an uncompressed file, lent: each row in whole bytes, the first

@@ -4,16 +4,18 @@ use Rattle.std.specs.Prelude.{codes}
 use Rattle.std.specs.Fmt.{digits}
 use Rattle.std.specs.Str.{chars}
 use Rattle.bp_core.specs.declared.rules.RuleKind.TheVariants as kinds
+use Rattle.bp_core.specs.Rules.{bare_rule}
 use Rattle.bp_outside.specs.Folder.{file}
 use Rattle.bp_rows.specs.declared.resolution.Unit.TheVariants as units
 use Rattle.bp_rows.specs.Image.{Image}
 use Rattle.bp_tiff.specs.declared.form.Form.TheVariants.{Plain}
 use Rattle.bp_tiff.specs.Tiff.{tiff_of}
 use Rattle.bp_tiff.specs.Plain.{form_not_built}
-use Rattle.bp_cli.specs.declared.ending.Stop.TheVariants as stops
-use Rattle.bp_cli.specs.Words.{BurnLine, burn, number_of, is_bad_word, command_of}
-use Rattle.bp_cli.specs.Outcome.{bare_rule, burn_answer, burn_outcome, done}
-use Rattle.bp_cli.specs.Ending.{status_of, text_of}
+use Rattle.bp_cli.specs.declared.stops.Stop.TheVariants as stops
+use Rattle.bp_cli.specs.Words.{number_of, is_bad_word}
+use Rattle.bp_cli.specs.Burn.{BurnLine, burn_answer, burn_gives}
+use Rattle.bp_cli.specs.Commands.{burn, command_of}
+use Rattle.bp_cli.specs.Endings.{done, status_of, text_of}
 
 -- ---- words
 
@@ -93,7 +95,7 @@ no_page = refl
 no_file : burn_answer (box 0 0 8 1) None ≡ Err (bare_rule kinds.FileAbsent)
 no_file = refl
 
-told : burn_outcome (box 0 0 8 1) (Ok (tiff_of Plain (page true))) ≡ done (codes "burned 187\n") (file (codes "b.tif") (tiff_of Plain (page true)) ∷ [])
+told : burn_gives (box 0 0 8 1) (Ok (tiff_of Plain (page true))) ≡ done (codes "burned 187\n") (file (codes "b.tif") (tiff_of Plain (page true)) ∷ [])
 unfolding box page digits
 told = refl
 

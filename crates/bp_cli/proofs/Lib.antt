@@ -1,7 +1,8 @@
-mod Alike
-mod Boxes
+mod ArgumentLemmas
+mod AlikeLemmas
+mod BurnLemmas
 mod Examples
-mod Making
-mod Printed
-mod Running
+mod PrintingLemmas
+mod RunLemmas
+mod StatusLemmas
 mod WordLemmas

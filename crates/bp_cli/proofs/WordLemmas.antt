@@ -1,4 +1,4 @@
--- Words and numbers.
+-- Lemmas of words: from the words of a command line to its numbers and to its command.
 use Rattle.std.proofs.Common.{ℕ, ◌≡◌, ◌<◌, ◌≤◌, ◌^◌, true, false, not, ◌&&◌, ◌||◌, eqb, nat_le, List, [], ◌∷◌, length, Some, None, Result, get_or, refl, sym, ap, ◌∙◌, arith, String}
 use Rattle.std.specs.declared.alloc.Global.{Global}
 use Rattle.std.specs.List.{list_any, list_all}
@@ -12,7 +12,9 @@ use Rattle.std.specs.Str.Parse.{digits_value, ParsesUnsigned}
 use Rattle.std.specs.String.{string_bytes}
 use Rattle.std.proofs.lemmas.Bool.{and_parts, leb-true, cond-true, cond-false, eqb-true}
 use Rattle.std.proofs.lemmas.Str.Parse.{IsNumeralModel, numerals_by_value, tells_all_ascii_digits, parse_gives, digits_value_short}
-use Rattle.bp_cli.specs.Words.{BurnLine, burn, is_number, number_of, word_bytes, word_of, is_bad_word, burn_of, named_command, command_of}
+use Rattle.bp_cli.specs.Words.{is_number, number_of, word_bytes, word_of, is_bad_word}
+use Rattle.bp_cli.specs.Burn.{BurnLine, burn_of}
+use Rattle.bp_cli.specs.Commands.{burn, named_command, command_of}
 
 pub any_of_bytes : (words : List (String Global)) → list_any (λ word. is_bad_word (string_bytes word)) words ≡ list_any is_bad_word (word_bytes words)
 any_of_bytes [] = refl

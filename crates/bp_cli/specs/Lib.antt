@@ -1,7 +1,8 @@
-pub mod Ending
-pub mod Outcome
-pub mod Performs
+pub mod Arguments
+pub mod Burn
+pub mod Commands
+pub mod Endings
+pub mod Printing
 pub mod Runs
-pub mod Seen
 pub mod Stops
 pub mod Words

@@ -1,11 +1,17 @@
 -- Which stop each refusal of a call becomes.
-use Rattle.std.specs.Prelude.{◌≡◌}
+use Rattle.std.specs.Prelude.{◌≡◌, ℕ, List, Vec, String, drop, Result, Ok, Err}
+use Rattle.std.specs.declared.alloc.Global.{Global}
+use Rattle.bp_core.specs.declared.rules.Rule.{Rule}
+use Rattle.bp_core.specs.declared.rules.RuleKind.TheVariants as kinds
+use Rattle.bp_core.specs.Rules.{bare_rule}
 use Rattle.bp_core.specs.declared.refusals.Refusal.{Refusal}
 use Rattle.bp_core.specs.declared.refusals.Refusal.TheVariants as refusals
+use Rattle.bp_outside.specs.declared.refusals.ReadRefusal.{ReadRefusal}
+use Rattle.bp_outside.specs.declared.refusals.ReadRefusal.TheVariants as reads
 use Rattle.bp_outside.specs.declared.refusals.FolderRefusal.{FolderRefusal}
 use Rattle.bp_outside.specs.declared.refusals.FolderRefusal.TheVariants as folders
-use Rattle.bp_cli.specs.declared.ending.Stop.{Stop}
-use Rattle.bp_cli.specs.declared.ending.Stop.TheVariants as stops
+use Rattle.bp_cli.specs.declared.stops.Stop.{Stop}
+use Rattle.bp_cli.specs.declared.stops.Stop.TheVariants as stops
 
 abbrev pub StopsFor : Refusal → Stop → Type 0
 StopsFor (refusals.Rule rule) stop = stop ≡ stops.Broken rule
@@ -14,3 +20,19 @@ StopsFor refusals.OutOfMemory stop = stop ≡ stops.OutOfMemory
 abbrev pub StopsForFolder : FolderRefusal → Stop → Type 0
 StopsForFolder folders.Failed stop = stop ≡ stops.FolderFault
 StopsForFolder folders.OutOfMemory stop = stop ≡ stops.OutOfMemory
+
+-- the stop that a refusal of a read becomes
+abbrev pub read_stop : ReadRefusal → Stop
+read_stop reads.Absent = stops.Broken (bare_rule kinds.FileAbsent)
+read_stop reads.TooLong = stops.Broken (bare_rule kinds.FileTooLong)
+read_stop reads.Failed = stops.SourceFault
+read_stop reads.OutOfMemory = stops.OutOfMemory
+
+-- a call gave the defined answer, unless memory ran out
+abbrev pub StopAnswers : {V : Type 0} → Result V Stop → Result V Rule → Type 0
+StopAnswers (Ok x) defined = defined ≡ Ok x
+StopAnswers (Err (stops.Broken rule)) defined = defined ≡ Err rule
+StopAnswers (Err stops.OutOfMemory) defined = Unit {0}
+StopAnswers (Err stops.WordsRefused) defined = ⊥
+StopAnswers (Err stops.SourceFault) defined = ⊥
+StopAnswers (Err stops.FolderFault) defined = ⊥

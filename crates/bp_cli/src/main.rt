@@ -1,42 +1,34 @@
 //! The program: one command of the production press. It reads files below the current folder, writes
-//! files below its folder `out`, and prints one line.
+//! files below its folder `out`, and prints one line. Begin at `run`, whose contract promises `Runs`.
 #![tactic(auto)]
 
-mod burning;
-mod command;
-mod ending;
+mod arguments;
+mod burn;
+mod commands;
 mod printing;
+mod run;
+mod statuses;
+mod stops;
 #[cfg(test)]
 mod tests;
-mod top;
+mod words;
 
-use crate::ending::Stop;
 use bp_outside::{FileFolder, FileSource, StdOut};
-use std::env;
 use std::process::ExitCode;
+use std::{env, fs, io};
 
 fn main(rt: HostRuntime) -> ExitCode {
-    let mut out = StdOut::of(&rt);
-    let words = match words_after_name(&rt) {
-        Ok(words) => words,
-        Err(stop) => return ExitCode::from(printing::finish(rt.alloc(), &mut out, Err(stop))),
-    };
+    let _held = standard_descriptors(&rt);
     let mut source = FileSource::below(&rt, ".");
     let mut folder = FileFolder::below(&rt, "out");
-    ExitCode::from(top::run(
-        rt.alloc(),
-        words.as_slice(),
-        &mut source,
-        &mut folder,
-        &mut out,
-    ))
+    let mut out = StdOut::of(&rt);
+    let answer = env::args(&rt);
+    let status = run::run_arguments(rt.alloc(), answer, &mut source, &mut folder, &mut out);
+    ExitCode::from(status)
 }
 
-// The words of the command line without the program's name. Words that the system can't give are no
-// command line.
-fn words_after_name(rt: &HostRuntime) -> Result<Vec<String>, Stop> {
-    match env::args(rt) {
-        Ok(words) => Ok(words.skip(1).collect(rt.alloc())?),
-        Err(_) => Err(Stop::WordsRefused),
-    }
+// Holds the numbers 0, 1 and 2 where the caller closed a standard stream, so that no file of the program
+// gets one and no line is printed into a page. What is held is open for reading alone: a write fails.
+fn standard_descriptors(rt: &HostRuntime) -> [io::Result<fs::File>; 3] {
+    [fs::open(rt, "/"), fs::open(rt, "/"), fs::open(rt, "/")]
 }

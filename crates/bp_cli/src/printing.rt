@@ -1,44 +1,46 @@
 // What the program prints, and the status that it ends with.
-ghost use Rattle.std.specs.Prelude.{◌≡◌, ℕ, List, IfOk, Err};
-ghost use Rattle.bp_cli.specs.Ending.{Prints, status_of, text_of, refused_line};
+ghost use Rattle.std.specs.Prelude.{◌≡◌, ◌≢◌, ℕ, List, IfOk, Err};
+ghost use Rattle.bp_cli.specs.Endings.{status_of, text_of, refused_line};
+ghost use Rattle.bp_cli.specs.Printing.{MayLackItsLine, Prints};
 
-use crate::ending::Stop;
+use crate::statuses::{
+    DONE, FOLDER_FAULT, OUT_FAULT, OUT_OF_MEMORY, RULE_BROKEN, SOURCE_FAULT, WORDS_REFUSED,
+};
+use crate::stops::Stop;
 use bp_core::{Bytes, OutOfMemory, Rule};
 use bp_outside::{Out, OutRefusal, write_all};
 use std::alloc::Global;
 
-// The statuses that printing itself may give.
-const OUT_OF_MEMORY: u8 = 6;
-
-const OUT_FAULT: u8 = 7;
-
 /// Prints how the work of a command ended, and gives the status.
 pub fn finish<O: Out>(alloc: Global, out: &mut O, ending: Result<Bytes, Stop>) -> u8
-    ensures { Prints (text_of ending) (status_of ending) (O.shows out.old) (O.shows out.new) result }
+    ensures { let before = O.shows out.old in
+        Prints (text_of ending) (status_of ending) before (O.shows out.new) result }
 {
     match ending {
-        Ok(line) => print(alloc, out, line.as_slice(), 0),
+        Ok(line) => print(alloc, out, line.as_slice(), DONE),
         Err(stop) => print_stop(alloc, out, stop),
     }
 }
 
 fn print_stop<O: Out>(alloc: Global, out: &mut O, stop: Stop) -> u8
-    ensures { Prints (text_of (Err stop)) (status_of (Err stop)) (O.shows out.old) (O.shows out.new) result }
+    ensures { let before = O.shows out.old in
+        Prints (text_of (Err stop)) (status_of (Err stop)) before (O.shows out.new) result }
 {
     match stop {
-        Stop::WordsRefused => print(alloc, out, b"words refused\n", 1),
+        Stop::WordsRefused => print(alloc, out, b"words refused\n", WORDS_REFUSED),
         Stop::Broken(rule) => print_rule(alloc, out, &rule),
-        Stop::SourceFault => print(alloc, out, b"source fault\n", 3),
-        Stop::FolderFault => print(alloc, out, b"folder fault\n", 4),
+        Stop::SourceFault => print(alloc, out, b"source fault\n", SOURCE_FAULT),
+        Stop::FolderFault => print(alloc, out, b"folder fault\n", FOLDER_FAULT),
         Stop::OutOfMemory => print_lack(alloc, out),
     }
 }
 
 fn print_rule<O: Out>(alloc: Global, out: &mut O, rule: &Rule) -> u8
-    ensures { Prints (refused_line rule.now) 2 (O.shows out.old) (O.shows out.new) result }
+    ensures { let before = O.shows out.old in
+        Prints (refused_line rule.now) RULE_BROKEN before (O.shows out.new) result }
 {
     match line_of_rule(alloc, rule) {
-        Ok(line) => print(alloc, out, line.as_slice(), 2),
+        Ok(line) => print(alloc, out, line.as_slice(), RULE_BROKEN),
         Err(_) => print_lack(alloc, out),
     }
 }
@@ -52,7 +54,7 @@ fn line_of_rule(alloc: Global, rule: &Rule) -> Result<Bytes, OutOfMemory>
 
 // Prints a text that goes with a status.
 fn print<O: Out>(alloc: Global, out: &mut O, text: &[u8], status: u8) -> u8
-    requires { status ≡ 6 → ⊥ }
+    requires { status ≢ OUT_OF_MEMORY }
     ensures { Prints text.now status (O.shows out.old) (O.shows out.new) result }
 {
     match write_all(alloc, out, text) {
@@ -64,7 +66,9 @@ fn print<O: Out>(alloc: Global, out: &mut O, text: &[u8], status: u8) -> u8
 
 // Prints that memory ran out, as far as it goes.
 fn print_lack<O: Out>(alloc: Global, out: &mut O) -> u8
-    ensures lacks { (text : List ℕ) (wanted : ℕ) → Prints text wanted (O.shows out.old) (O.shows out.new) result }
+    ensures lacks { (text : List ℕ) (wanted : ℕ)
+        → MayLackItsLine wanted
+        → Prints text wanted (O.shows out.old) (O.shows out.new) result }
 {
     let _ = write_all(alloc, out, b"out of memory\n");
     OUT_OF_MEMORY

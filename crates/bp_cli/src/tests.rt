@@ -1,8 +1,11 @@
 // Runs of the program over objects in memory.
-use crate::top::run;
+use crate::run::{run, run_arguments};
 use bp_core::{Bytes, NumberList, Text};
 use bp_outside::{FileList, FileRow, MemFolder, MemOut, MemSource, paths_differ};
 use std::alloc::{AllocError, Global};
+use std::env::Args;
+use std::io;
+use std::io::ErrorKind;
 use std::test::Fail;
 
 // The plain file of a white page of 8 by 1 pixels at 200 to the inch, from TIFF 6.0.
@@ -80,10 +83,8 @@ fn words_of(alloc: Global, line: &str) -> Result<Vec<String>, AllocError> {
     Ok(words)
 }
 
-// Runs the words of a line over a source with the white page at a.tif, a black one at k.tif, and the one
-// byte `x` at x.tif.
-fn ran(alloc: Global, line: &str, failing: &Failing<'_>) -> Result<Seen, Fail> {
-    let words = words_of(alloc, line)?;
+// A source with the white page at a.tif, a black one at k.tif, and the one byte `x` at x.tif.
+fn source_of(alloc: Global, failing: &[u64]) -> Result<MemSource, Fail> {
     let rows = vec![in alloc;
         row(alloc, "a.tif", &WHITE)?,
         row(alloc, "k.tif", &file_of(alloc, 0xFF)?)?,
@@ -93,7 +94,13 @@ fn ran(alloc: Global, line: &str, failing: &Failing<'_>) -> Result<Seen, Fail> {
     if !paths_differ(&files) {
         return Err(Fail::from("two files at one path"));
     }
-    let mut source = MemSource::over(files, numbers(alloc, failing.source)?);
+    Ok(MemSource::over(files, numbers(alloc, failing)?))
+}
+
+// Runs the words of a line over that source.
+fn ran(alloc: Global, line: &str, failing: &Failing<'_>) -> Result<Seen, Fail> {
+    let words = words_of(alloc, line)?;
+    let mut source = source_of(alloc, failing.source)?;
     let mut folder = MemFolder::over(FileList::new(alloc), numbers(alloc, failing.folder)?);
     let mut out = MemOut::over(
         Bytes::from_vec(Vec::new(alloc)),
@@ -249,6 +256,51 @@ fn a_fault_of_the_out_leaves_a_prefix(rt: HostRuntime) -> Result<(), Fail> {
         assert_eq!(rt; seen.status, 7, "{line}");
         assert_eq!(rt; seen.out.written(), printed.as_bytes(), "{line}");
         assert_eq!(rt; seen.folder.files().len(), files, "{line}");
+    }
+    Ok(())
+}
+
+// What the system answers when it is asked for the words.
+fn answered(alloc: Global, answer: io::Result<Args>) -> Result<Seen, Fail> {
+    let mut source = source_of(alloc, &[])?;
+    let mut folder = MemFolder::over(FileList::new(alloc), numbers(alloc, &[])?);
+    let mut out = MemOut::over(Bytes::from_vec(Vec::new(alloc)), numbers(alloc, &[])?);
+    let status = run_arguments(alloc, answer, &mut source, &mut folder, &mut out);
+    Ok(Seen {
+        status,
+        folder,
+        out,
+    })
+}
+
+#[test]
+fn the_words_after_the_name_are_carried_out(rt: HostRuntime) -> Result<(), Fail> {
+    let alloc = rt.alloc();
+    for (line, status) in [
+        ("tivrenan burn a.tif 0 0 8 1 b.tif plain", 0u8),
+        ("burn a.tif 0 0 8 1 b.tif plain", 1),
+        ("tivrenan burn a.tif 0 0 8 1 b.tif plain plain", 1),
+        ("tivrenan", 1),
+        ("", 1),
+    ] {
+        let words = words_of(alloc, line)?;
+        let seen = answered(alloc, Ok(words.into_iter()))?;
+        assert_eq!(rt; seen.status, status, "{line}");
+        assert_eq!(rt; seen.folder.files().is_empty(), status > 0, "{line}");
+    }
+    Ok(())
+}
+
+#[test]
+fn words_that_the_system_does_not_give_are_told_apart(rt: HostRuntime) -> Result<(), Fail> {
+    let alloc = rt.alloc();
+    for (kind, status, printed) in [
+        (ErrorKind::OutOfMemory, 6u8, "out of memory\n"),
+        (ErrorKind::InvalidData, 1, "words refused\n"),
+    ] {
+        let seen = answered(alloc, Err(io::Error::from(kind)))?;
+        assert_eq!(rt; seen.status, status, "{printed}");
+        assert_eq!(rt; seen.out.written(), printed.as_bytes(), "{printed}");
     }
     Ok(())
 }

@@ -1,7 +1,7 @@
 use Rattle.std.proofs.Common.{refl, subst}
 use Rattle.bp_outside.specs.Out.{WritesPrefix, after_refusal}
 use Rattle.bp_outside.specs.declared.refusals.OutRefusal.{OutRefusal}
-use Rattle.bp_cli.specs.Ending.{lacking}
+use Rattle.bp_cli.specs.Printing.{lacking}
 use Rattle.bp_cli.proofs.printing.print.Goals as goal
 
 pub returns-in-Err-OutOfMemory : goal.returns-in-Err-OutOfMemory

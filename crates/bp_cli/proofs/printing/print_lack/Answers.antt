@@ -1,4 +1,4 @@
-use Rattle.bp_cli.proofs.Printed.{lack_printed}
+use Rattle.bp_cli.proofs.PrintingLemmas.{lack_printed}
 use Rattle.bp_cli.proofs.printing.print_lack.Goals as goal
 
 pub returns : goal.returns

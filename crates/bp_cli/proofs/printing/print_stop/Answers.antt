@@ -1,6 +1,7 @@
-use Rattle.std.proofs.Common.{Err, sym, subst}
-use Rattle.bp_cli.specs.declared.ending.Stop.{Stop}
-use Rattle.bp_cli.specs.Ending.{Prints, text_of, status_of}
+use Rattle.std.proofs.Common.{Err, ap, sym, subst, inr}
+use Rattle.bp_cli.specs.declared.stops.Stop.{Stop}
+use Rattle.bp_cli.specs.Endings.{text_of, status_of}
+use Rattle.bp_cli.specs.Printing.{Prints}
 use Rattle.bp_cli.proofs.printing.print_stop.Goals as goal
 
 pub returns-in-WordsRefused : goal.returns-in-WordsRefused
@@ -19,4 +20,4 @@ returns-in-FolderFault g c =
     (sym c.in-FolderFault.is) c.print-in-FolderFault.ensures
 
 pub returns-in-OutOfMemory : goal.returns-in-OutOfMemory
-returns-in-OutOfMemory g c = c.print_lack.ensures.lacks _ _
+returns-in-OutOfMemory g c = c.print_lack.ensures.lacks _ _ (inr (ap (λ (s : Stop). status_of (Err s)) c.in-OutOfMemory.is))

@@ -1,0 +1,65 @@
+-- Lemmas of two matters: where they differ only in what a command withholds, they have one outcome.
+use Rattle.std.proofs.Common.{ℕ, ◌≡◌, ◌≤◌, ◌+◌, ◌*◌, ◌||◌, List, [], ◌∷◌, ◌++◌, length, Some, Result, Ok, Err, sym, ap, subst, ◌∙◌, arith, eqb, cond}
+use Rattle.std.proofs.lemmas.List.{length-append}
+use Rattle.bp_core.specs.declared.rules.Rule.{Rule}
+use Rattle.bp_core.specs.declared.rules.RuleKind.TheVariants as kinds
+use Rattle.bp_core.specs.Rectangle.{lies_inside}
+use Rattle.bp_core.specs.Rules.{bare_rule}
+use Rattle.bp_outside.specs.Source.{FileMap}
+use Rattle.bp_rows.specs.Image.{Image, IsPage}
+use Rattle.bp_rows.specs.Bits.{row_bytes}
+use Rattle.bp_rows.specs.Packed.{packed_rows}
+use Rattle.bp_rows.specs.Burned.{burned, AgreeOutside}
+use Rattle.bp_rows.proofs.Burning.{burned-AgreeOutside}
+use Rattle.bp_rows.proofs.Packing.{length-packed_rows}
+use Rattle.bp_rows.proofs.Pages.{strip_small}
+use Rattle.bp_tiff.specs.declared.form.Form.TheVariants.{Plain}
+use Rattle.bp_tiff.specs.Tiff.{tiff_of, head_of, fields_of}
+use Rattle.bp_tiff.specs.Plain.{IsPlainFile}
+use Rattle.bp_tiff.proofs.PlainFiles.{length-head_of, plain_answer-file}
+use Rattle.bp_cli.specs.declared.burn.TheConstants.{FILE_LIMIT}
+use Rattle.bp_cli.specs.Burn.{BurnLine, HasPage, BurnAlike, lacks_a_side, burn_page, burn_read, burn_answer, burn_gives, burn_outcome}
+use Rattle.bp_cli.specs.Commands.{CommandLine, Matter, burn, AlikeFor, outcome_of}
+use Rattle.bp_cli.proofs.BurnLemmas.{answer_short}
+
+-- a plain file of a page isn't too long to be read
+length-tiff_of : (p : Image) → IsPage p → length (tiff_of Plain p) ≤ FILE_LIMIT
+length-tiff_of p page =
+    let strip = packed_rows p.rows in
+    let long : length strip ≡ p.height * row_bytes p.width = length-packed_rows p.width p.height p.rows page.grid in
+    let small : p.height * row_bytes p.width ≤ 50080000 = strip_small p.width p.height page.sides in
+    let head = head_of Plain (fields_of p) (length strip) in
+    let parts : length (head ++ strip) ≡ length head + length strip = length-append head strip in
+    let first : length head ≡ 186 = length-head_of (fields_of p) (length strip) in
+    omega (arith, parts, first, long, small)
+
+plain_read : (b : BurnLine) (bytes : List ℕ) (p : Image) → IsPlainFile bytes p → burn_answer b (Some bytes) ≡ burn_page b p
+plain_read b bytes p plain =
+    answer_short b bytes (subst (λ bs. length bs ≤ FILE_LIMIT) (sym plain.file) (length-tiff_of p plain.page))
+    ∙ ap (burn_read b) (plain_answer-file bytes p plain)
+
+-- what the sides of a page and its burned page give
+burn_by : BurnLine → ℕ → ℕ → Image → Result (List ℕ) Rule
+burn_by b width height p =
+    cond (lacks_a_side b.area) (Err (bare_rule kinds.BoxShape))
+    (cond (lies_inside b.area width height) (Ok (tiff_of b.form p)) (Err (bare_rule kinds.BoxOutside)))
+
+pages_alike : (b : BurnLine) (p q : Image) → AgreeOutside (b.area ∷ []) p q → burn_page b p ≡ burn_page b q
+unfolding burn_by
+pages_alike b p q agree =
+    ap (λ w. burn_by b w p.height (burned p (b.area ∷ []))) agree.width
+    ∙ ap (λ h. burn_by b q.width h (burned p (b.area ∷ []))) agree.height
+    ∙ ap (burn_by b q.width q.height) (burned-AgreeOutside (b.area ∷ []) p q agree)
+
+page_outcome : (b : BurnLine) (files : FileMap) (p : Image) → HasPage files b.from p → burn_outcome b files ≡ burn_gives b (burn_page b p)
+page_outcome b files p has =
+    ap (λ f. burn_gives b (burn_answer b f)) has.there ∙ ap (burn_gives b) (plain_read b has.bytes p has.plain)
+
+burn_alike : (b : BurnLine) (files files' : FileMap) → BurnAlike b files files' → burn_outcome b files' ≡ burn_outcome b files
+burn_alike b files files' alike =
+    page_outcome b files' alike.page' alike.has'
+    ∙ ap (burn_gives b) (sym (pages_alike b alike.page alike.page' alike.agree))
+    ∙ sym (page_outcome b files alike.page alike.has)
+
+pub outcome_alike : (c : CommandLine) (matter matter' : Matter) → AlikeFor c matter matter' → outcome_of c matter' ≡ outcome_of c matter
+outcome_alike (burn b) matter matter' alike = burn_alike b matter.files matter'.files alike

@@ -1,0 +1,249 @@
+-- Lemmas of a run: every promise, from how its work ended and what was printed. No command is named but in the law of
+-- two matters.
+use Rattle.std.proofs.Common.{ℕ, ◌≡◌, ◌≢◌, Bool, true, false, List, [], ◌∷◌, Option, Some, None, Ok, Err, refl, sym, ap, subst, ◌∙◌, arith, inl, inr, ◌⊎◌}
+use Rattle.std.specs.Prelude.{IfSome}
+use Rattle.bp_core.specs.declared.rules.Rule.{Rule}
+use Rattle.bp_outside.specs.Counts.{Rose}
+use Rattle.bp_outside.specs.Source.{FileMap, SourceView}
+use Rattle.bp_outside.specs.Folder.{FolderView, PutsPart, nothing, prefix, with_file}
+use Rattle.bp_outside.specs.Out.{OutView, with_written}
+use Rattle.bp_outside.specs.declared.files.FileRow.{FileRow}
+use Rattle.bp_cli.specs.declared.stops.Stop.{Stop}
+use Rattle.bp_cli.specs.declared.stops.Stop.TheVariants as stops
+use Rattle.bp_cli.specs.Endings as outcomes
+use Rattle.bp_cli.specs.Endings.{Outcome, Ending, World, status_of, text_of, refused_line, failed_folder, with_files, AddsPart}
+use Rattle.bp_cli.specs.Commands.{CommandLine, Matter, IsOutcome, outcome_of, AlikeFor, Works}
+use Rattle.bp_cli.specs.Printing.{Prints, whole, cut, lacking, instead}
+use Rattle.bp_cli.specs.Runs.{Outside, Asks, SourceFailed, FolderFailed, NoneFailed, AreSure, Ended, RanShort, WasCut, Gives, IsAmong, outcome_status, Runs}
+use Rattle.bp_cli.proofs.StatusLemmas.{rose_at, whole_of, out_rose, out_sure, among_three, among_two, status_known, is_done, is_words_refused, is_broken, is_source_fault, is_folder_fault, lacking_part, cut_part}
+use Rattle.bp_cli.proofs.AlikeLemmas.{outcome_alike}
+
+-- ---- what an ending says
+
+with_files-faults : (folder : FolderView) (rows : List FileRow) → (with_files folder rows).faults ≡ folder.faults
+with_files-faults folder [] = refl
+with_files-faults folder (row ∷ rows) = with_files-faults (with_file folder row.path row.bytes false) rows
+
+with_files-sure : (folder : FolderView) (rows : List FileRow) → (with_files folder rows).sure ≡ folder.sure
+with_files-sure folder [] = refl
+with_files-sure folder (row ∷ rows) = with_files-sure (with_file folder row.path row.bytes false) rows
+
+part-faults : (folder after : FolderView) (path bytes : List ℕ) → PutsPart folder path bytes after → after.faults ≡ folder.faults
+part-faults folder after path bytes (nothing is) = ap (λ (f : FolderView). f.faults) is
+part-faults folder after path bytes (prefix count is) = ap (λ (f : FolderView). f.faults) is
+
+part-sure : (folder after : FolderView) (path bytes : List ℕ) → PutsPart folder path bytes after → after.sure ≡ folder.sure
+part-sure folder after path bytes (nothing is) = ap (λ (f : FolderView). f.sure) is
+part-sure folder after path bytes (prefix count is) = ap (λ (f : FolderView). f.sure) is
+
+adds-faults : (folder after : FolderView) (files : List FileRow) → AddsPart folder files after → after.faults ≡ folder.faults
+adds-faults folder after files adds = part-faults (with_files folder adds.before) after adds.next.path adds.next.bytes adds.part ∙ with_files-faults folder adds.before
+
+adds-sure : (folder after : FolderView) (files : List FileRow) → AddsPart folder files after → after.sure ≡ folder.sure
+adds-sure folder after files adds = part-sure (with_files folder adds.before) after adds.next.path adds.next.bytes adds.part ∙ with_files-sure folder adds.before
+
+-- words that are no command end so, and only they
+words_none : (command : Option CommandLine) (before after : World) → Works command before (Err stops.WordsRefused) after → command ≡ None
+words_none None before after worked = refl
+words_none (Some c) before after worked = absurd worked
+
+none_refused : (command : Option CommandLine) (before after : World) (e : Ending) → command ≡ None → Works command before e after → e ≡ Err stops.WordsRefused
+none_refused None before after e is worked = worked.0
+none_refused (Some c) before after e is worked = cc
+
+not_words : (s : Stop) → let e : Ending = Err s in e ≡ Err stops.WordsRefused → s ≡ stops.WordsRefused
+not_words s same = cc
+
+source_rose : (command : Option CommandLine) (before after : World) → Works command before (Err stops.SourceFault) after → Rose before.source.faults after.source.faults
+source_rose None before after worked = let same = not_words stops.SourceFault worked.0 in cc
+source_rose (Some c) before after worked = rose_at before.source.faults after.source.faults (ap (λ (s : SourceView). s.faults) worked.source)
+
+source_sure : (command : Option CommandLine) (before after : World) → Works command before (Err stops.SourceFault) after → after.source.sure ≡ before.source.sure
+source_sure None before after worked = let same = not_words stops.SourceFault worked.0 in cc
+source_sure (Some c) before after worked = ap (λ (s : SourceView). s.sure) worked.source
+
+folder_rose : (command : Option CommandLine) (before after : World) → Works command before (Err stops.FolderFault) after → Rose before.folder.faults after.folder.faults
+folder_rose None before after worked = let same = not_words stops.FolderFault worked.0 in cc
+folder_rose (Some c) before after worked =
+    rose_at before.folder.faults after.folder.faults (adds-faults (failed_folder before.folder) after.folder worked.files worked.folder)
+
+folder_sure : (command : Option CommandLine) (before after : World) → Works command before (Err stops.FolderFault) after → after.folder.sure ≡ before.folder.sure
+folder_sure None before after worked = let same = not_words stops.FolderFault worked.0 in cc
+folder_sure (Some c) before after worked = adds-sure (failed_folder before.folder) after.folder worked.files worked.folder
+
+-- the outcome over a told matter
+told_outcome : (c : CommandLine) (before : World) (outcome : Outcome) (matter : Matter) → before.source.files ≡ Some matter.files → IsOutcome c before outcome → outcome_of c matter ≡ outcome
+told_outcome c before outcome matter told is =
+    let P : Option FileMap → Type 0 = λ o. IfSome o (λ t. t ≡ is.matter.files) in
+    let same : matter.files ≡ is.matter.files = subst P told is.told in
+    ap (λ (files : FileMap). outcome_of c (record { files = files })) same ∙ is.value
+
+not_both : (line : List ℕ) (rows : List FileRow) (rule : Rule) → outcomes.done line rows ≡ outcomes.refused rule → ⊥
+not_both line rows rule same = cc
+
+-- where a rule is met over a told matter, and the source didn't fail, the work ends by a rule or for want of memory
+met_ending : (c : CommandLine) (before after : World) (matter : Matter) (rule : Rule) (e : Ending) → before.source.files ≡ Some matter.files → outcome_of c matter ≡ outcomes.refused rule → (Rose before.source.faults after.source.faults → ⊥) → Works (Some c) before e after → (status_of e ≡ 2) ⊎ (status_of e ≡ 6)
+met_ending c before after matter rule (Ok line) told met calm worked =
+    absurd (not_both line worked.files rule (sym (told_outcome c before (outcomes.done line worked.files) matter told worked.outcome) ∙ met))
+met_ending c before after matter rule (Err stops.WordsRefused) told met calm worked = absurd worked
+met_ending c before after matter rule (Err (stops.Broken r)) told met calm worked = inl refl
+met_ending c before after matter rule (Err stops.SourceFault) told met calm worked = absurd (calm (source_rose (Some c) before after worked))
+met_ending c before after matter rule (Err stops.FolderFault) told met calm worked =
+    absurd (not_both worked.line worked.files rule (sym (told_outcome c before (outcomes.done worked.line worked.files) matter told worked.outcome) ∙ met))
+met_ending c before after matter rule (Err stops.OutOfMemory) told met calm worked = inr refl
+
+-- where nothing failed, the work ends as the outcome says, or for want of memory
+full_ending : (c : CommandLine) (before after : World) (matter : Matter) (e : Ending) → before.source.files ≡ Some matter.files → (Rose before.source.faults after.source.faults → ⊥) → (Rose before.folder.faults after.folder.faults → ⊥) → Works (Some c) before e after → (status_of e ≡ outcome_status (outcome_of c matter)) ⊎ (status_of e ≡ 6)
+full_ending c before after matter (Ok line) told calm quiet worked =
+    inl (ap outcome_status (sym (told_outcome c before (outcomes.done line worked.files) matter told worked.outcome)))
+full_ending c before after matter (Err stops.WordsRefused) told calm quiet worked = absurd worked
+full_ending c before after matter (Err (stops.Broken r)) told calm quiet worked =
+    inl (ap outcome_status (sym (told_outcome c before (outcomes.refused r) matter told worked.outcome)))
+full_ending c before after matter (Err stops.SourceFault) told calm quiet worked = absurd (calm (source_rose (Some c) before after worked))
+full_ending c before after matter (Err stops.FolderFault) told calm quiet worked = absurd (quiet (folder_rose (Some c) before after worked))
+full_ending c before after matter (Err stops.OutOfMemory) told calm quiet worked = inr refl
+
+-- what came out of a command that ended by its outcome
+done_gives : (c : CommandLine) (before after : Outside) (matter : Matter) (line : List ℕ) → before.world.source.files ≡ Some matter.files → Works (Some c) before.world (Ok line) after.world → after.out ≡ with_written before.out line → Gives (outcome_of c matter) before after
+done_gives c before after matter line told worked written =
+    subst (λ (o : Outcome). Gives o before after) (sym (told_outcome c before.world (outcomes.done line worked.files) matter told worked.outcome)) (worked.folder, written)
+
+refused_gives : (c : CommandLine) (before after : Outside) (matter : Matter) (rule : Rule) → before.world.source.files ≡ Some matter.files → Works (Some c) before.world (Err (stops.Broken rule)) after.world → after.out ≡ with_written before.out (refused_line rule) → Gives (outcome_of c matter) before after
+refused_gives c before after matter rule told worked written =
+    subst (λ (o : Outcome). Gives o before after) (sym (told_outcome c before.world (outcomes.refused rule) matter told worked.outcome)) (worked.folder, written)
+
+-- ---- objects that can't fail
+
+no_rise : (before now : ℕ) → now ≡ 0 → Rose before now → ⊥
+no_rise before now none rose = omega arith
+
+-- what can't fail and is sure afterwards didn't fail
+never_rose : (before now : ℕ) (was is : Bool) → is ≡ was → was ≡ true → (is ≡ true → now ≡ 0) → Rose before now → ⊥
+never_rose before now was is same sure law rose = no_rise before now (law (same ∙ sure)) rose
+
+abbrev sure_statuses : List ℕ
+sure_statuses = 0 ∷ 1 ∷ 2 ∷ 6 ∷ []
+
+sure_ending : (command : Option CommandLine) (before after : World) (e : Ending) → before.source.sure ≡ true → before.folder.sure ≡ true → (after.source.sure ≡ true → after.source.faults ≡ 0) → (after.folder.sure ≡ true → after.folder.faults ≡ 0) → Works command before e after → IsAmong (status_of e) sure_statuses
+sure_ending command before after (Ok line) source_is folder_is source_law folder_law worked = refl
+sure_ending command before after (Err stops.WordsRefused) source_is folder_is source_law folder_law worked = refl
+sure_ending command before after (Err (stops.Broken r)) source_is folder_is source_law folder_law worked = refl
+sure_ending command before after (Err stops.SourceFault) source_is folder_is source_law folder_law worked =
+    absurd
+    (never_rose before.source.faults after.source.faults before.source.sure after.source.sure (source_sure command before after worked) source_is source_law
+    (source_rose command before after worked))
+sure_ending command before after (Err stops.FolderFault) source_is folder_is source_law folder_law worked =
+    absurd
+    (never_rose before.folder.faults after.folder.faults before.folder.sure after.folder.sure (folder_sure command before after worked) folder_is folder_law
+    (folder_rose command before after worked))
+sure_ending command before after (Err stops.OutOfMemory) source_is folder_is source_law folder_law worked = refl
+
+sure_printing : (text : List ℕ) (wanted : ℕ) (out after : OutView) (status : ℕ) → out.sure ≡ true → (after.sure ≡ true → after.faults ≡ 0) → IsAmong wanted sure_statuses → Prints text wanted out after status → IsAmong status sure_statuses
+sure_printing text wanted out after status out_is out_law among (whole is written) = subst (λ (n : ℕ). IsAmong n sure_statuses) (sym is) among
+sure_printing text wanted out after status out_is out_law among (cut some is part) =
+    absurd (never_rose out.faults after.faults out.sure after.sure (out_sure text out after part) out_is out_law (out_rose text out after part))
+sure_printing text wanted out after status out_is out_law among (lacking is part) = subst (λ (n : ℕ). IsAmong n sure_statuses) (sym is) refl
+sure_printing text wanted out after status out_is out_law among (instead may is part) = subst (λ (n : ℕ). IsAmong n sure_statuses) (sym is) refl
+
+-- ---- the promises
+
+module _ (command : Option CommandLine) (before after : Outside) (status : ℕ) (e : Ending) (worked : Works command before.world e after.world) (printed : Prints (text_of e) (status_of e) before.out after.out status) where
+  Has : Ending → Type 0
+  Has x = Ended command before after x
+
+  -- an ending that gave its own status was printed whole
+  ended : (k : ℕ) → (k ≡ 6 → ⊥) → (k ≡ 7 → ⊥) → status ≡ k → (status_of e ≡ k) × Has e
+  unfolding Has
+  ended k not_six not_seven at =
+      let w = whole_of (text_of e) (status_of e) before.out after.out status k not_six not_seven printed at in
+      (w.0, record { worked = worked; printed = w.1 })
+
+  run_done : status ≡ 0 → (line : List ℕ) × Ended command before after (Ok line)
+  unfolding Has
+  run_done at =
+      let w = ended 0 (λ z. omega (arith, z)) (λ z. omega (arith, z)) at in
+      let d = is_done e w.0 in
+      (d.0, subst Has d.1 w.1)
+
+  run_refused : status ≡ 2 → (rule : Rule) × Ended command before after (Err (stops.Broken rule))
+  unfolding Has
+  run_refused at =
+      let w = ended 2 (λ z. omega (arith, z)) (λ z. omega (arith, z)) at in
+      let d = is_broken e w.0 in
+      (d.0, subst Has d.1 w.1)
+
+  run_words_refused : status ≡ 1 → (command ≡ None) × Ended command before after (Err stops.WordsRefused)
+  unfolding Has
+  run_words_refused at =
+      let w = ended 1 (λ z. omega (arith, z)) (λ z. omega (arith, z)) at in
+      let has : Ended command before after (Err stops.WordsRefused) = subst Has (is_words_refused e w.0) w.1 in
+      (words_none command before.world after.world has.worked, has)
+
+  run_source_fault : status ≡ 3 → SourceFailed before after × Ended command before after (Err stops.SourceFault)
+  unfolding Has
+  run_source_fault at =
+      let w = ended 3 (λ z. omega (arith, z)) (λ z. omega (arith, z)) at in
+      let has : Ended command before after (Err stops.SourceFault) = subst Has (is_source_fault e w.0) w.1 in
+      (source_rose command before.world after.world has.worked, has)
+
+  run_folder_fault : status ≡ 4 → FolderFailed before after × Ended command before after (Err stops.FolderFault)
+  unfolding Has
+  run_folder_fault at =
+      let w = ended 4 (λ z. omega (arith, z)) (λ z. omega (arith, z)) at in
+      let has : Ended command before after (Err stops.FolderFault) = subst Has (is_folder_fault e w.0) w.1 in
+      (folder_rose command before.world after.world has.worked, has)
+
+  run_lacking : status ≡ 6 → RanShort command before after
+  run_lacking at = record { ending = e; worked = worked; printed = lacking_part e before.out after.out status printed at }
+
+  run_cut : status ≡ 7 → WasCut command before after
+  run_cut at =
+      let c = cut_part e before.out after.out status printed at in
+      record { ending = e; worked = worked; other = c.0; failed = out_rose (text_of e) before.out after.out c.1; printed = c.1 }
+
+  run_no_command : command ≡ None → IsAmong status (1 ∷ 6 ∷ 7 ∷ [])
+  run_no_command is =
+      among_three (text_of e) (status_of e) before.out after.out status 1 (inl (ap status_of (none_refused command before.world after.world e is worked))) printed
+
+  -- the work of a command that was asked
+  worked_for : (c : CommandLine) → command ≡ Some c → Works (Some c) before.world e after.world
+  worked_for c is = subst (λ (o : Option CommandLine). Works o before.world e after.world) is worked
+
+  run_rule_met : (c : CommandLine) (matter : Matter) (rule : Rule) → Asks command before c matter → outcome_of c matter ≡ outcomes.refused rule → ¬ SourceFailed before after → IsAmong status (2 ∷ 6 ∷ 7 ∷ [])
+  run_rule_met c matter rule asks met calm =
+      among_three (text_of e) (status_of e) before.out after.out status 2
+      (met_ending c before.world after.world matter rule e asks.told met calm (worked_for c asks.words)) printed
+
+  run_complete : (c : CommandLine) (matter : Matter) → Asks command before c matter → NoneFailed before after → IsAmong status (outcome_status (outcome_of c matter) ∷ 6 ∷ [])
+  run_complete c matter asks none =
+      among_two (text_of e) (status_of e) before.out after.out status (outcome_status (outcome_of c matter)) none.out
+      (full_ending c before.world after.world matter e asks.told none.source none.folder (worked_for c asks.words)) printed
+
+  run_gives : (c : CommandLine) (matter : Matter) → Asks command before c matter → (status ≡ 0) ⊎ (status ≡ 2) → Gives (outcome_of c matter) before after
+  run_gives c matter asks (inl done) =
+      let d = run_done done in
+      done_gives c before after matter d.0 asks.told (subst (λ (o : Option CommandLine). Works o before.world (Ok d.0) after.world) asks.words d.1.worked) d.1.printed
+  run_gives c matter asks (inr refused) =
+      let r = run_refused refused in
+      refused_gives c before after matter r.0 asks.told (subst (λ (o : Option CommandLine). Works o before.world (Err (stops.Broken r.0)) after.world) asks.words r.1.worked) r.1.printed
+
+  run_alike : (c : CommandLine) (matter matter' : Matter) → Asks command before c matter → AlikeFor c matter matter' → (status ≡ 0) ⊎ (status ≡ 2) → Gives (outcome_of c matter') before after
+  run_alike c matter matter' asks alike ended_so =
+      subst (λ (o : Outcome). Gives o before after) (sym (outcome_alike c matter matter' alike)) (run_gives c matter asks ended_so)
+
+pub runs : (command : Option CommandLine) (before after : Outside) (status : ℕ) (e : Ending) → Works command before.world e after.world → Prints (text_of e) (status_of e) before.out after.out status → (after.world.source.sure ≡ true → after.world.source.faults ≡ 0) → (after.world.folder.sure ≡ true → after.world.folder.faults ≡ 0) → (after.out.sure ≡ true → after.out.faults ≡ 0) → Runs command before after status
+runs command before after status e worked printed source_law folder_law out_law = record {
+  known = status_known (text_of e) e before.out after.out status printed;
+  done = run_done command before after status e worked printed;
+  words_refused = run_words_refused command before after status e worked printed;
+  refused = run_refused command before after status e worked printed;
+  source_fault = run_source_fault command before after status e worked printed;
+  folder_fault = run_folder_fault command before after status e worked printed;
+  lacking = run_lacking command before after status e worked printed;
+  cut = run_cut command before after status e worked printed;
+  no_command = run_no_command command before after status e worked printed;
+  rule_met = run_rule_met command before after status e worked printed;
+  complete = run_complete command before after status e worked printed;
+  unfailing = λ sure. sure_printing (text_of e) (status_of e) before.out after.out status sure.out out_law (sure_ending command before.world after.world e sure.source sure.folder source_law folder_law worked) printed;
+  alike = run_alike command before after status e worked printed;
+}

@@ -1,0 +1,143 @@
+-- How the work of a command ends, and what each ending leaves outside.
+use Rattle.std.specs.Prelude.{ℕ, ◌≡◌, false, Result, Ok, Err, List, [], ◌∷◌, ◌++◌, codes}
+use Rattle.bp_core.specs.declared.rules.Rule.{Rule}
+use Rattle.bp_core.specs.declared.rules.RuleKind.{RuleKind}
+use Rattle.bp_core.specs.declared.rules.RuleKind.TheVariants as kinds
+use Rattle.bp_core.specs.Characters.{newline}
+use Rattle.bp_core.specs.Rules.{rule_text}
+use Rattle.bp_outside.specs.Counts.{risen}
+use Rattle.bp_outside.specs.Source.{SourceView}
+use Rattle.bp_outside.specs.Folder.{FolderView, with_file, PutsPart}
+use Rattle.bp_outside.specs.declared.files.FileRow.{FileRow}
+use Rattle.bp_cli.specs.declared.stops.Stop.{Stop}
+use Rattle.bp_cli.specs.declared.stops.Stop.TheVariants as stops
+use Rattle.bp_cli.specs.declared.statuses.TheConstants.{DONE, WORDS_REFUSED, RULE_BROKEN, SOURCE_FAULT, FOLDER_FAULT, OUT_OF_MEMORY}
+
+-- what a command comes to: a line to print and files to add, or the first rule that it breaks
+pub data Outcome : Type 0 where
+  done : List ℕ → List FileRow → Outcome
+  refused : Rule → Outcome
+
+-- how its work ends: with the line, or where it stopped
+abbrev pub Ending : Type 0
+Ending = Result (List ℕ) Stop
+
+abbrev pub status_of : Ending → ℕ
+status_of (Ok line) = DONE
+status_of (Err stops.WordsRefused) = WORDS_REFUSED
+status_of (Err (stops.Broken rule)) = RULE_BROKEN
+status_of (Err stops.SourceFault) = SOURCE_FAULT
+status_of (Err stops.FolderFault) = FOLDER_FAULT
+status_of (Err stops.OutOfMemory) = OUT_OF_MEMORY
+
+abbrev pub line_of : List ℕ → List ℕ
+line_of text = text ++ newline ∷ []
+
+abbrev pub memory_line : List ℕ
+memory_line = line_of (codes "out of memory")
+
+abbrev pub refused_line : Rule → List ℕ
+refused_line rule = line_of (codes "refused " ++ rule_text rule)
+
+-- what is printed
+abbrev pub text_of : Ending → List ℕ
+text_of (Ok line) = line
+text_of (Err stops.WordsRefused) = line_of (codes "words refused")
+text_of (Err (stops.Broken rule)) = refused_line rule
+text_of (Err stops.SourceFault) = line_of (codes "source fault")
+text_of (Err stops.FolderFault) = line_of (codes "folder fault")
+text_of (Err stops.OutOfMemory) = memory_line
+
+-- ---- what is left
+
+-- what is known of all that the work of a command touches
+pub record World : Type 0 where
+  pub source : SourceView
+  pub folder : FolderView
+
+abbrev pub world : SourceView → FolderView → World
+world source folder = record { source = source; folder = folder }
+
+-- the source after a rule was met: the count rose that the rule comes from
+abbrev pub after_kind : SourceView → RuleKind → SourceView
+after_kind source kinds.FileAbsent = record source { absences = risen source.absences }
+after_kind source kinds.FileTooLong = record source { overlong = risen source.overlong }
+after_kind source _ = source
+
+-- the source and the folder after a fault
+abbrev pub failed_source : SourceView → SourceView
+failed_source source = record source { faults = risen source.faults }
+
+abbrev pub failed_folder : FolderView → FolderView
+failed_folder folder = record folder { faults = risen folder.faults }
+
+-- the folder with these files at its end
+abbrev pub with_files : FolderView → List FileRow → FolderView
+with_files folder [] = folder
+with_files folder (row ∷ rows) = with_files (with_file folder row.path row.bytes false) rows
+
+-- some first files were added, and of the next one nothing or a part
+pub record AddsPart (folder : FolderView) (files : List FileRow) (after : FolderView) : Type 0 where
+  pub before : List FileRow
+  pub next : FileRow
+  pub rest : List FileRow
+  pub files_are : files ≡ before ++ next ∷ rest
+  pub part : PutsPart (with_files folder before) next.path next.bytes after
+
+-- Below, Comes says which outcomes the command may come to.
+
+-- the files of the outcome were added, and nothing else changed
+pub record AddsFiles (Comes : Outcome → Type 0) (before : World) (line : List ℕ) (after : World) : Type 0 where
+  pub files : List FileRow
+  pub outcome : Comes (done line files)
+  pub source : after.source ≡ before.source
+  pub folder : after.folder ≡ with_files before.folder files
+
+-- the outcome was this rule, and nothing changed but the count that the rule comes from
+pub record MeetsRule (Comes : Outcome → Type 0) (before : World) (rule : Rule) (after : World) : Type 0 where
+  pub outcome : Comes (refused rule)
+  pub source : after.source ≡ after_kind before.source rule.kind
+  pub folder : after.folder ≡ before.folder
+
+-- the source failed, and nothing else changed
+pub record FailsToRead (before after : World) : Type 0 where
+  pub source : after.source ≡ failed_source before.source
+  pub folder : after.folder ≡ before.folder
+
+-- the folder failed, and has a part of the files of the outcome
+pub record FailsToAdd (Comes : Outcome → Type 0) (before after : World) : Type 0 where
+  pub line : List ℕ
+  pub files : List FileRow
+  pub outcome : Comes (done line files)
+  pub source : after.source ≡ before.source
+  pub folder : AddsPart (failed_folder before.folder) files after.folder
+
+-- memory ran out before the first file was begun, or while files were added
+pub data LacksMemory (Comes : Outcome → Type 0) (before after : World) : Type 0 where
+  untouched : after.source ≡ before.source → after.folder ≡ before.folder
+      → LacksMemory Comes before after
+  partly : (line : List ℕ) (files : List FileRow)
+      → Comes (done line files)
+      → after.source ≡ before.source
+      → AddsPart before.folder files after.folder
+      → LacksMemory Comes before after
+
+-- what the steps before the first file leave in the source: what is made there gives an outcome
+abbrev pub Makes :
+    {V : Type 0} → (Outcome → Type 0) → (V → Outcome) → SourceView → Result V Stop → SourceView → Type 0
+Makes Comes gives source (Ok made) source' = Comes (gives made) × (source' ≡ source)
+Makes Comes gives source (Err (stops.Broken rule)) source' =
+    Comes (refused rule) × (source' ≡ after_kind source rule.kind)
+Makes Comes gives source (Err stops.SourceFault) source' = source' ≡ failed_source source
+Makes Comes gives source (Err stops.OutOfMemory) source' = source' ≡ source
+Makes Comes gives source (Err stops.WordsRefused) source' = ⊥
+Makes Comes gives source (Err stops.FolderFault) source' = ⊥
+
+-- what the work of a command leaves, by how it ended
+abbrev pub Ends : (Outcome → Type 0) → World → Ending → World → Type 0
+Ends Comes before (Ok line) after = AddsFiles Comes before line after
+Ends Comes before (Err stops.WordsRefused) after = ⊥
+Ends Comes before (Err (stops.Broken rule)) after = MeetsRule Comes before rule after
+Ends Comes before (Err stops.SourceFault) after = FailsToRead before after
+Ends Comes before (Err stops.FolderFault) after = FailsToAdd Comes before after
+Ends Comes before (Err stops.OutOfMemory) after = LacksMemory Comes before after

@@ -1,0 +1,68 @@
+// Where the work of a command stopped.
+use bp_core::{OutOfMemory, Refusal, Rule};
+use bp_outside::FolderRefusal;
+use std::alloc::AllocError;
+use std::convert::From;
+
+/// Why the work of a command gave no line to print.
+#[derive(Clone, Copy, Debug, PartialEq, Eq)]
+pub enum Stop {
+    /// The words are no command line.
+    WordsRefused,
+    /// What was asked breaks this rule.
+    Broken(Rule),
+    /// The source failed.
+    SourceFault,
+    /// The folder failed.
+    FolderFault,
+    /// There was too little memory.
+    OutOfMemory,
+}
+
+impl From<Refusal> for Stop {
+    ghost use Rattle.bp_cli.specs.Stops.{StopsFor};
+
+    ghost from_gives = { StopsFor };
+
+    fn from(refusal: Refusal) -> Stop {
+        match refusal {
+            Refusal::Rule(rule) => Stop::Broken(rule),
+            Refusal::OutOfMemory => Stop::OutOfMemory,
+        }
+    }
+}
+
+impl From<FolderRefusal> for Stop {
+    ghost use Rattle.bp_cli.specs.Stops.{StopsForFolder};
+
+    ghost from_gives = { StopsForFolder };
+
+    fn from(refusal: FolderRefusal) -> Stop {
+        match refusal {
+            FolderRefusal::Failed => Stop::FolderFault,
+            FolderRefusal::OutOfMemory => Stop::OutOfMemory,
+        }
+    }
+}
+
+impl From<OutOfMemory> for Stop {
+    ghost use Rattle.std.specs.Prelude.{◌≡◌};
+    ghost use Rattle.bp_cli.specs.declared.stops.Stop.TheVariants as stops;
+
+    ghost from_gives = { λ _ stop. stop ≡ stops.OutOfMemory };
+
+    fn from(_error: OutOfMemory) -> Stop {
+        Stop::OutOfMemory
+    }
+}
+
+impl From<AllocError> for Stop {
+    ghost use Rattle.std.specs.Prelude.{◌≡◌};
+    ghost use Rattle.bp_cli.specs.declared.stops.Stop.TheVariants as stops;
+
+    ghost from_gives = { λ _ stop. stop ≡ stops.OutOfMemory };
+
+    fn from(_error: AllocError) -> Stop {
+        Stop::OutOfMemory
+    }
+}

@@ -1,0 +1,55 @@
+// The words of a command line: which may stand in one, and the numbers among them.
+ghost use Rattle.std.specs.Prelude.{◌≡◌, ◌<◌, length};
+ghost use Rattle.std.specs.Char.{is_ascii_digit};
+ghost use Rattle.std.specs.List.{list_all, list_any};
+ghost use Rattle.std.specs.String.{string_bytes};
+ghost use Rattle.bp_cli.specs.Words.{is_number as number_word, number_of, is_bad_word, word_of, word_bytes};
+
+/// The most digits of a number.
+pub const MAX_DIGITS: usize = 9;
+
+/// The word at a place, counted from 0.
+pub fn word_at(words: &[String], at: usize) -> &str
+    requires { at < length words.now }
+    ensures { result.now ≡ word_of (word_bytes words.now) at }
+{
+    words[at].as_str()
+}
+
+/// Whether there is a word that may stand in no command line: one that is empty or begins with `-`.
+pub fn has_bad_word(words: &[String]) -> bool
+    ensures { result ≡ list_any (λ word. is_bad_word (string_bytes word)) words.now }
+{
+    words.iter().any(|word| is_bad(word.as_bytes()))
+}
+
+fn is_bad(word: &[u8]) -> bool
+    ensures { result ≡ is_bad_word word.now }
+{
+    word.is_empty() || word[0] == b'-'
+}
+
+/// The number that the word is: `0`, or 1 to 9 digits without a leading zero.
+pub fn number_in(word: &str) -> Option<u32>
+    ensures { result ≡ number_of word.now }
+{
+    if !is_number(word.as_bytes()) {
+        return None;
+    }
+    word.parse::<u32>().ok()
+}
+
+fn is_number(word: &[u8]) -> bool
+    ensures { result ≡ number_word word.now }
+{
+    !word.is_empty()
+        && word.len() <= MAX_DIGITS
+        && (word.len() == 1 || word[0] != b'0')
+        && all_digits(word)
+}
+
+fn all_digits(word: &[u8]) -> bool
+    ensures { result ≡ list_all is_ascii_digit word.now }
+{
+    word.iter().all(|digit| digit.is_ascii_digit())
+}

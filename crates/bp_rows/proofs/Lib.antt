@@ -5,3 +5,4 @@ pub mod Grids
 pub mod Packing
 pub mod Pages
 pub mod Places
+pub mod RowRuns

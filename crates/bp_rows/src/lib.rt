@@ -6,7 +6,7 @@ mod limits;
 mod page;
 mod resolution;
 
-pub use bits::bytes_of_strip;
+pub use bits::{bytes_of_row, bytes_of_strip};
 pub use limits::{allowed_sides, import_sides};
 pub use page::{Page, StripFault};
 pub use resolution::{Res, Unit};

@@ -1,5 +1,5 @@
 // A page: a bilevel image, kept as the packed strip of its uncompressed file.
-ghost use Rattle.std.specs.Prelude.{◌≡◌, ◌≢◌, ◌+◌, ◌*◌, ◌<◌, ◌≤◌, ◌↔◌, Bool, List, false, if◌then◌else◌, length, IsTrue, IfOk, IfErr, IsErrOf, ◌∷◌, []};
+ghost use Rattle.std.specs.Prelude.{◌≡◌, ◌≢◌, ◌+◌, ◌*◌, ◌<◌, ◌≤◌, ◌↔◌, Bool, List, false, if◌then◌else◌, length, IsTrue, IfOk, IfErr, IsErrOf, sum, slice_set, ◌∷◌, []};
 ghost use Rattle.bp_core.specs.Rules.{page_limit_rule};
 ghost use Rattle.bp_rows.specs.Limits.{sides_are_allowed};
 ghost use Rattle.bp_core.specs.Rectangle.{LiesInside};
@@ -7,8 +7,12 @@ ghost use Rattle.bp_rows.specs.Image.{IsPage, IsGrid, pixel, with_pixel, white_i
 ghost use Rattle.bp_rows.specs.Bits.{row_bytes};
 ghost use Rattle.bp_rows.specs.Burned.{burned, row_part};
 ghost use Rattle.bp_rows.specs.Packed.{packed_rows};
+ghost use Rattle.bp_rows.specs.Runs.{painted_runs};
 
-use crate::bits::{blacken, bytes_of_strip, has_blank_ends, pixel_at, place_of, set_pixel_at};
+use crate::bits::{
+    blacken, bytes_of_row, bytes_of_strip, has_blank_ends, pixel_at, place_of, set_pixel_at,
+    set_runs_at,
+};
 use crate::limits::allowed_sides;
 use crate::resolution::{Res, Unit};
 use bp_core::{Rect, Refusal, Rule};
@@ -182,6 +186,16 @@ impl Page {
     {
         let start = place_of(self.width, row, 0);
         blacken(&mut self.strip, start + from as usize, start + to as usize);
+    }
+
+    /// Makes a row these runs in turn, white first, and changes no other. A run may have no pixels.
+    pub fn set_runs(&mut self, row: u32, runs: &[u32])
+        requires down { row < self.old.height }
+        requires total { sum runs.now ≡ self.old.width }
+        ensures { self.new ≡ record self.old { rows = slice_set self.old.rows row (painted_runs false runs.now) } }
+    {
+        let size = bytes_of_row(self.width);
+        set_runs_at(&mut self.strip, row as usize * size, size, runs);
     }
 
     /// Makes the pixels of a rectangle black, which lies inside the page, and no other.

@@ -1,21 +1,23 @@
 // A page: a bilevel image, kept as the packed strip of its uncompressed file.
-ghost use Rattle.std.specs.Prelude.{◌≡◌, ◌≢◌, ◌+◌, ◌*◌, ◌<◌, ◌≤◌, ◌↔◌, Bool, List, false, if◌then◌else◌, length, IsTrue, IfOk, IfErr, IsErrOf, sum, slice_set, ◌∷◌, []};
+ghost use Rattle.std.specs.Prelude.{◌≡◌, ◌≢◌, ◌+◌, ◌*◌, ◌<◌, ◌≤◌, ◌↔◌, Bool, List, false, if◌then◌else◌, length, IsTrue, IfOk, IfErr, IsErrOf, sum, OnOk, ◌∷◌, []};
 ghost use Rattle.bp_core.specs.Rules.{page_limit_rule};
 ghost use Rattle.bp_rows.specs.Limits.{sides_are_allowed};
 ghost use Rattle.bp_core.specs.Rectangle.{LiesInside};
-ghost use Rattle.bp_rows.specs.Image.{IsPage, IsGrid, pixel, with_pixel, white_image};
+ghost use Rattle.bp_rows.specs.Image.{IsPage, IsGrid, pixel, row_of, with_pixel, with_row, white_image};
 ghost use Rattle.bp_rows.specs.Bits.{row_bytes};
+ghost use Rattle.bp_rows.specs.Changes.{changes_of};
 ghost use Rattle.bp_rows.specs.Burned.{burned, row_part};
-ghost use Rattle.bp_rows.specs.Packed.{packed_rows};
-ghost use Rattle.bp_rows.specs.Runs.{painted_runs};
+ghost use Rattle.bp_rows.specs.Packed.{packed_row, packed_rows};
+ghost use Rattle.bp_rows.specs.Runs.{painted_runs, IsRuns};
 
 use crate::bits::{
     blacken, bytes_of_row, bytes_of_strip, has_blank_ends, pixel_at, place_of, set_pixel_at,
-    set_runs_at,
 };
+use crate::changes::{drop_end, find_changes};
 use crate::limits::allowed_sides;
 use crate::resolution::{Res, Unit};
-use bp_core::{Rect, Refusal, Rule};
+use crate::runs::{Runs, push_runs, set_runs_at};
+use bp_core::{OutOfMemory, Rect, Refusal, Rule};
 use std::alloc::Global;
 use std::marker::Model;
 use thiserror::Error;
@@ -188,14 +190,14 @@ impl Page {
         blacken(&mut self.strip, start + from as usize, start + to as usize);
     }
 
-    /// Makes a row these runs in turn, white first, and changes no other. A run may have no pixels.
-    pub fn set_runs(&mut self, row: u32, runs: &[u32])
+    /// Makes the pixels of a row those of runs, whose sum is the width, and no other. A run may be empty.
+    pub fn set_runs(&mut self, row: u32, runs: &Runs)
         requires down { row < self.old.height }
         requires total { sum runs.now ≡ self.old.width }
-        ensures { self.new ≡ record self.old { rows = slice_set self.old.rows row (painted_runs false runs.now) } }
+        ensures { self.new ≡ with_row self.old row (painted_runs false runs.now) }
     {
         let size = bytes_of_row(self.width);
-        set_runs_at(&mut self.strip, row as usize * size, size, runs);
+        set_runs_at(&mut self.strip, row as usize * size, size, runs.as_slice());
     }
 
     /// Makes the pixels of a rectangle black, which lies inside the page, and no other.
@@ -219,6 +221,42 @@ impl Page {
         ensures page { IsPage self.now }
     {
         self.strip.as_slice()
+    }
+
+    // The bytes of a row.
+    fn row_strip(&self, row: u32) -> &[u8]
+        requires { row < self.now.height }
+        ensures packed { result.now ≡ packed_row (row_of self.now row) }
+        ensures wide { length (row_of self.now row) ≡ self.now.width }
+        ensures small { length result.now ≤ 2500 }
+    {
+        let size = bytes_of_row(self.width());
+        let start = row as usize * size;
+        &self.strip()[start..start + size]
+    }
+
+    /// The places of the changing elements of a row, in order, in place of what the list held: of the
+    /// pixels that differ from the one before them, where before the first stands a white one
+    /// (ITU-T T.6, 2.2.2).
+    pub fn row_changes(&self, row: u32, places: &mut Vec<u32>) -> Result<(), OutOfMemory>
+        requires { row < self.now.height }
+        ensures { OnOk result (places.new.items ≡ changes_of (row_of self.now row)) }
+    {
+        find_changes(self.row_strip(row), places)?;
+        drop_end(places, self.width());
+        Ok(())
+    }
+
+    /// The runs of a row: the first may be empty, and no other.
+    pub fn row_runs(&self, alloc: Global, row: u32) -> Result<Runs, OutOfMemory>
+        requires { row < self.now.height }
+        ensures { IfOk result (λ runs. IsRuns runs (row_of self.now row)) }
+    {
+        let mut places = Vec::new(alloc);
+        let mut runs = Vec::new(alloc);
+        self.row_changes(row, &mut places)?;
+        push_runs(&mut runs, &places, self.width())?;
+        Ok(Runs::from_vec(runs))
     }
 }
 

@@ -279,4 +279,24 @@ mod tests {
         assert!(rt; !black);
         Ok(())
     }
+
+    // The runs of a row of a band, white first, with ample memory.
+    #[test]
+    fn runs_set_are_the_runs_of_the_row(rt: HostRuntime) -> Result<(), Fail> {
+        let res = Res { num: 200, den: 1 };
+        let mut page = Page::white(rt.alloc(), 20, 2, res, res, Unit::Inch)?;
+        let runs = Runs::from_vec(vec![in rt.alloc(); 0, 3, 9, 1, 7]?);
+        assert_eq!(rt; (page.width(), page.height()), (20, 2));
+        page.set_runs(1, &runs);
+        let black = [page.get(1, 2), page.get(1, 3), page.get(1, 12), page.get(1, 13)];
+        assert_eq!(rt; black, [true, false, true, false]);
+        let found = page.row_runs(rt.alloc(), 1)?;
+        assert_eq!(rt; found.as_slice(), [0, 3, 9, 1, 7].as_slice());
+        let white = page.row_runs(rt.alloc(), 0)?;
+        assert_eq!(rt; white.as_slice(), [20].as_slice());
+        let mut places = Vec::new(rt.alloc());
+        page.row_changes(1, &mut places)?;
+        assert_eq!(rt; places.as_slice(), [0, 3, 12, 13].as_slice());
+        Ok(())
+    }
 }

@@ -1,4 +1,5 @@
--- Changing elements of a row of pixels, true as black (ITU-T T.6, 2.2.2, changing picture elements).
+-- Changing elements of a row of pixels, true as black (ITU-T T.6, 2.2.2, changing picture
+-- elements).
 use Rattle.std.specs.Prelude.{ℕ, zero, suc, ◌+◌, ◌<◌, ◌≤◌, ◌≡◌, Bool, true, false, not, List, [], ◌∷◌, length, slice_index_or, if◌then◌else◌}
 
 -- the pixel differs from the one before it
@@ -10,7 +11,8 @@ differs false pixel = pixel
 abbrev pub changes_from : ℕ → Bool → List Bool → List ℕ
 changes_from at before [] = []
 changes_from at before (pixel ∷ row) =
-    if differs before pixel then at ∷ changes_from (at + 1) pixel row else changes_from (at + 1) pixel row
+    if differs before pixel then at ∷ changes_from (at + 1) pixel row
+    else changes_from (at + 1) pixel row
 
 -- the places of the changing elements of a row; before its first pixel stands a white one
 abbrev pub changes_of : List Bool → List ℕ

@@ -5,8 +5,8 @@ use Rattle.bp_rows.specs.Limits.{sides_are_allowed}
 use Rattle.bp_rows.specs.declared.resolution.Res.{Res}
 use Rattle.bp_rows.specs.declared.resolution.Unit.{Unit as LengthUnit}
 
--- Sides in pixels, two resolutions and their unit, and the rows from the top, each from the left. True is
--- black.
+-- Sides in pixels, two resolutions and their unit, and the rows from the top, each from the left.
+-- True is black.
 pub record Image : Type 0 where
   pub width : ℕ
   pub height : ℕ
@@ -51,7 +51,8 @@ with_pixel p row col black = with_row p row (slice_set (row_of p row) col black)
 -- all pixels white
 abbrev pub white_image : ℕ → ℕ → Res → Res → LengthUnit → Image
 white_image w h x y u =
-    record { width = w; height = h; xres = x; yres = y; unit = u; rows = replicate h (replicate w false) }
+    let rows : List (List Bool) = replicate h (replicate w false) in
+    record { width = w; height = h; xres = x; yres = y; unit = u; rows = rows }
 
 -- the rows whose pixel in row r and column c is f r c
 abbrev pub grid_of : ℕ → ℕ → (ℕ → ℕ → Bool) → List (List Bool)

@@ -16,13 +16,15 @@ low_pixels (suc k) number = is_one number k ∷ low_pixels k number
 -- the pixels of a byte
 abbrev pub byte_pixels : ℕ → List Bool
 byte_pixels b =
-    is_one b 7 ∷ is_one b 6 ∷ is_one b 5 ∷ is_one b 4 ∷ is_one b 3 ∷ is_one b 2 ∷ is_one b 1 ∷ is_one b 0 ∷ []
+    is_one b 7 ∷ is_one b 6 ∷ is_one b 5 ∷ is_one b 4
+    ∷ is_one b 3 ∷ is_one b 2 ∷ is_one b 1 ∷ is_one b 0 ∷ []
 
 -- the pixels of bytes in turn
 abbrev pub pixels_in : List ℕ → List Bool
 pixels_in bytes = flat_map byte_pixels bytes
 
--- the places, counted from one on, of the ones among the k lowest bits of a number, the highest first
+-- the places, counted from one on, of the ones among the k lowest bits of a number, the highest
+-- first
 abbrev pub ones_from : ℕ → ℕ → ℕ → List ℕ
 ones_from at zero n = []
 ones_from at (suc k) n = if is_one n k then at ∷ ones_from (at + 1) k n else ones_from (at + 1) k n

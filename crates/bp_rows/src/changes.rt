@@ -1,13 +1,14 @@
 // The changing elements of packed pixels, found eight bytes at a time (ITU-T T.6, 2.2.2).
-ghost use Rattle.std.specs.Prelude.{◌≡◌, ◌<◌, ◌≤◌, ◌+◌, ◌-◌, ◌++◌, Bool, false, List, [], ◌∷◌, OnOk, length, take, drop, replicate, slice_index};
+ghost use Rattle.std.specs.Prelude.{◌≡◌, ◌<◌, ◌≤◌, ◌+◌, ◌-◌, ◌*◌, ◌++◌, Bool, false, List, [], ◌∷◌, OnOk, length, take, drop, replicate, slice_index};
 ghost use Rattle.bp_rows.specs.Changes.{changes_from, changes_of};
 ghost use Rattle.bp_rows.specs.Words.{pixels_in, word_ones, word_pixels};
 
+use crate::limits::MAX_WIDTH;
 use std::alloc::AllocError;
 
 /// The places of the changing elements of all pixels of the bytes and of a white one after them.
 pub fn find_changes(bytes: &[u8], places: &mut Vec<u32>) -> Result<(), AllocError>
-    requires { length bytes.now ≤ 2500 }
+    requires { 8 * length bytes.now ≤ MAX_WIDTH }
     ensures { OnOk result (places.new.items ≡ changes_of (pixels_in bytes.now ++ false ∷ [])) }
 {
     places.clear();
@@ -22,7 +23,8 @@ pub fn find_changes(bytes: &[u8], places: &mut Vec<u32>) -> Result<(), AllocErro
     push_changes(places, 64 * whole as u32, before, last)
 }
 
-/// Takes out the width of a row, which stands after its changing elements where its last pixel is black.
+/// Takes out the width of a row, which stands after its changing elements where its last pixel is
+/// black.
 pub fn drop_end(places: &mut Vec<u32>, width: u32)
     ensures { (row : List Bool) →
         length row ≡ width →
@@ -37,14 +39,10 @@ pub fn drop_end(places: &mut Vec<u32>, width: u32)
 
 // The changing elements among the 64 pixels of a word, which follow a pixel, are added.
 #[inline(always)]
-fn push_changes(
-    places: &mut Vec<u32>,
-    base: u32,
-    before: bool,
-    word: u64,
-) -> Result<(), AllocError>
-    requires { base ≤ 30000 }
-    ensures { OnOk result (places.new.items ≡ places.old.items ++ changes_from base before (word_pixels word)) }
+fn push_changes(places: &mut Vec<u32>, base: u32, before: bool, word: u64) -> Result<(), AllocError>
+    requires { base ≤ MAX_WIDTH }
+    ensures { let found = changes_from base before (word_pixels word) in
+        OnOk result (places.new.items ≡ places.old.items ++ found) }
 {
     push_ones(places, base, word ^ (u64::from(before) << 63 | word >> 1))
 }
@@ -52,7 +50,7 @@ fn push_changes(
 // The places of the ones of a word, counted from a base, are added.
 #[inline(always)]
 fn push_ones(places: &mut Vec<u32>, base: u32, edges: u64) -> Result<(), AllocError>
-    requires { base ≤ 30000 }
+    requires { base ≤ MAX_WIDTH }
     ensures { OnOk result (places.new.items ≡ places.old.items ++ word_ones base edges) }
 {
     let mut rest = edges;
@@ -82,13 +80,14 @@ fn word_at(bytes: &[u8], at: usize) -> u64
     ])
 }
 
-// The last bytes, fewer than eight, as a word, with zeros after them. Apart from the loop, whose bytes
-// are all there.
+// The last bytes, fewer than eight, as a word, with zeros after them. Apart from the loop, whose
+// bytes are all there.
 #[inline(never)]
 fn tail_word(bytes: &[u8], at: usize) -> u64
     requires within { at ≤ length bytes.now }
     requires short { length bytes.now - at < 8 }
-    ensures { word_pixels result ≡ pixels_in (drop at bytes.now ++ replicate (8 - (length bytes.now - at)) 0) }
+    ensures { let zeros = replicate (8 - (length bytes.now - at)) 0 in
+        word_pixels result ≡ pixels_in (drop at bytes.now ++ zeros) }
 {
     u64::from_be_bytes([
         byte_at(bytes, at),

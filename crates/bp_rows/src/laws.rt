@@ -3,8 +3,8 @@ ghost use Rattle.std.specs.Prelude.{◌≡◌, ◌<◌, ℕ, Bool, false, List, 
 ghost use Rattle.bp_rows.specs.Image.{Image, IsPage, row_of, with_row};
 ghost use Rattle.bp_rows.specs.Runs.{IsRuns, painted_runs};
 
-/// A row has one list of runs, which sums up to its width; and a page in which a row is set to its own
-/// runs is the same page.
+/// A row has one list of runs, which sums up to its width; and a page in which a row is set to its
+/// own runs is the same page.
 pub fn runs_law()
     ensures one { (row : List Bool) (runs others : List ℕ) →
         IsRuns runs row → IsRuns others row → runs ≡ others }

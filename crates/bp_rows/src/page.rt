@@ -14,7 +14,7 @@ use crate::bits::{
     blacken, bytes_of_row, bytes_of_strip, has_blank_ends, pixel_at, place_of, set_pixel_at,
 };
 use crate::changes::{drop_end, find_changes};
-use crate::limits::allowed_sides;
+use crate::limits::{MAX_WIDTH, allowed_sides};
 use crate::resolution::{Res, Unit};
 use crate::runs::{Runs, push_runs, set_runs_at};
 use bp_core::{OutOfMemory, Rect, Refusal, Rule};
@@ -66,8 +66,12 @@ impl Page {
         yres: Res,
         unit: Unit,
     ) -> Result<Page, Refusal>
-        ensures ok { IfOk result (λ p. IsTrue (sides_are_allowed width height) × (p ≡ white_image width height xres yres unit)) }
-        ensures err { IfErr result (λ e. e ≡ (if sides_are_allowed width height then Refusal.OutOfMemory else Refusal.Rule (page_limit_rule width height))) }
+        ensures ok { IfOk result (λ p.
+            IsTrue (sides_are_allowed width height)
+            × (p ≡ white_image width height xres yres unit)) }
+        ensures err { IfErr result (λ e.
+            e ≡ (if sides_are_allowed width height then Refusal.OutOfMemory
+            else Refusal.Rule (page_limit_rule width height))) }
     {
         if !allowed_sides(width, height) {
             return Err(Refusal::Rule(Rule::page_limit(width, height)));
@@ -93,15 +97,22 @@ impl Page {
         strip: Vec<u8>,
     ) -> Result<Page, StripFault>
         ensures sides { (result ≡ Err StripFault.Sides) ↔ (sides_are_allowed width height ≡ false) }
-        ensures long { (result ≡ Err StripFault.Length) ↔ (IsTrue (sides_are_allowed width height) × (length strip.items ≢ height * row_bytes width)) }
+        ensures long { (result ≡ Err StripFault.Length) ↔
+            (IsTrue (sides_are_allowed width height)
+            × (length strip.items ≢ height * row_bytes width)) }
 
         // What is made has these bytes as its strip.
-        ensures found { IfOk result (λ p. p ≡ record (white_image width height xres yres unit) { rows = p.rows }) }
+        ensures found { IfOk result (λ p.
+            p ≡ record (white_image width height xres yres unit) { rows = p.rows }) }
         ensures packed { IfOk result (λ p. packed_rows p.rows ≡ strip.items) }
         ensures page { IfOk result IsPage }
 
         // Whatever rows of these sides have these bytes as their strip are made.
-        ensures only { (rows : List (List Bool)) → IsTrue (sides_are_allowed width height) → IsGrid width height rows → packed_rows rows ≡ strip.items → result ≡ Ok (record (white_image width height xres yres unit) { rows = rows }) }
+        ensures only { (rows : List (List Bool)) →
+            IsTrue (sides_are_allowed width height) →
+            IsGrid width height rows →
+            packed_rows rows ≡ strip.items →
+            result ≡ Ok (record (white_image width height xres yres unit) { rows = rows }) }
     {
         if !allowed_sides(width, height) {
             return Err(StripFault::Sides);
@@ -190,7 +201,8 @@ impl Page {
         blacken(&mut self.strip, start + from as usize, start + to as usize);
     }
 
-    /// Makes the pixels of a row those of runs, whose sum is the width, and no other. A run may be empty.
+    /// Makes the pixels of a row those of runs, whose sum is the width, and no other. A run may be
+    /// empty.
     pub fn set_runs(&mut self, row: u32, runs: &Runs)
         requires down { row < self.old.height }
         requires total { sum runs.now ≡ self.old.width }
@@ -212,8 +224,8 @@ impl Page {
         }
     }
 
-    /// The rows as the packed strip of an uncompressed file, lent: each row in whole bytes, the first
-    /// pixel in the high bit, black as 1, unused bits 0 (TIFF 6.0, section 3).
+    /// The rows as the packed strip of an uncompressed file, lent: each row in whole bytes, the
+    /// first pixel in the high bit, black as 1, unused bits 0 (TIFF 6.0, section 3).
     pub fn strip(&self) -> &[u8]
         ensures packed { result.now ≡ packed_rows self.now.rows }
         ensures long { length result.now ≡ self.now.height * row_bytes self.now.width }
@@ -228,15 +240,15 @@ impl Page {
         requires { row < self.now.height }
         ensures packed { result.now ≡ packed_row (row_of self.now row) }
         ensures wide { length (row_of self.now row) ≡ self.now.width }
-        ensures small { length result.now ≤ 2500 }
+        ensures small { 8 * length result.now ≤ MAX_WIDTH }
     {
         let size = bytes_of_row(self.width());
         let start = row as usize * size;
         &self.strip()[start..start + size]
     }
 
-    /// The places of the changing elements of a row, in order, in place of what the list held: of the
-    /// pixels that differ from the one before them, where before the first stands a white one
+    /// The places of the changing elements of a row, in order, in place of what the list held: of
+    /// the pixels that differ from the one before them, where before the first stands a white one
     /// (ITU-T T.6, 2.2.2).
     pub fn row_changes(&self, row: u32, places: &mut Vec<u32>) -> Result<(), OutOfMemory>
         requires { row < self.now.height }
@@ -288,7 +300,12 @@ mod tests {
         let runs = Runs::from_vec(vec![in rt.alloc(); 0, 3, 9, 1, 7]?);
         assert_eq!(rt; (page.width(), page.height()), (20, 2));
         page.set_runs(1, &runs);
-        let black = [page.get(1, 2), page.get(1, 3), page.get(1, 12), page.get(1, 13)];
+        let black = [
+            page.get(1, 2),
+            page.get(1, 3),
+            page.get(1, 12),
+            page.get(1, 13),
+        ];
         assert_eq!(rt; black, [true, false, true, false]);
         let found = page.row_runs(rt.alloc(), 1)?;
         assert_eq!(rt; found.as_slice(), [0, 3, 9, 1, 7].as_slice());

@@ -14,7 +14,8 @@ pub type Runs = ListOf<u32>;
 /// The runs of the row of that width which the places show.
 pub fn push_runs(runs: &mut Vec<u32>, places: &[u32], width: u32) -> Result<(), AllocError>
     requires { Rises places.now width }
-    ensures { (row : List Bool) → Shows places.now width row → OnOk result (IsRuns runs.new.items row) }
+    ensures { (row : List Bool) →
+        Shows places.now width row → OnOk result (IsRuns runs.new.items row) }
 {
     runs.clear();
     let mut last = 0;
@@ -73,4 +74,3 @@ fn blacken_runs(bytes: &mut [u8], start: usize, runs: &[u32])
         black = !black;
     }
 }
-

@@ -4,7 +4,8 @@ use bp_core::Rect;
 use bp_rows::{Page, Res, Unit};
 use std::test::Fail;
 
-// A page of these sides whose columns from one on up to another are black in each row, and its strip.
+// A page of these sides whose columns from one on up to another are black in each row, and its
+// strip.
 struct Case {
     width: u32,
     height: u32,

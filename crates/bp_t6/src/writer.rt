@@ -11,8 +11,8 @@ use crate::tables::{CodeTables, put_end_of_block};
 use std::alloc::{AllocError, Global};
 use std::mem;
 
-/// The bits of the lines so far, and the changing elements of the last line, which is the reference line
-/// of the next.
+/// The bits of the lines so far, and the changing elements of the last line, which is the reference
+/// line of the next.
 #[derive(Drop)]
 pub struct StripWriter {
     pub tables: CodeTables,
@@ -36,7 +36,8 @@ impl StripWriter {
         }
     }
 
-    /// Adds the line whose changing elements are lent. The list comes back with those of the line before.
+    /// Adds the line whose changing elements are lent. The list comes back with those of the line
+    /// before.
     pub fn add(&mut self, line: &mut Vec<u32>) -> Result<(), AllocError>
         requires wide { self.old.width ≤ 20000 }
         requires line { Rises line.old.items self.old.width }

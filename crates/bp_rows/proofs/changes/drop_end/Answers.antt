@@ -1,4 +1,4 @@
-use Rattle.std.proofs.Common.{arith, ℕ, ◌≡◌, ◌+◌, ◌-◌, ◌++◌, [], ◌∷◌, length, get_or, sym, ap, ◌∙◌, Some}
+use Rattle.std.proofs.Common.{arith, ◌≡◌, ◌-◌, ◌++◌, get_or, sym, ap, ◌∙◌, Some}
 use Rattle.std.specs.Option.{option_to_list}
 use Rattle.std.proofs.lemmas.List.{get_or_read}
 use Rattle.bp_rows.proofs.FindLemmas.{kept_end, dropped_end}

@@ -1,4 +1,4 @@
-use Rattle.std.proofs.Common.{ap, sym, ◌∙◌, arith}
+use Rattle.std.proofs.Common.{ap, ◌∙◌}
 use Rattle.bp_rows.specs.Bits.{row_bytes}
 use Rattle.bp_rows.proofs.PixelLemmas.{row_strip}
 use Rattle.bp_rows.proofs.page.Page.row_strip.Goals as goal

@@ -70,7 +70,7 @@ impl CodeTables {
     }
 }
 
-/// The end of the facsimile block goes out: twice the end-of-line code (2.4.1.1).
+/// The end of the facsimile block goes out: twice the end-of-line code (ITU-T T.6, EOFB).
 pub fn put_end_of_block(out: &mut BitWriter) -> Result<(), AllocError>
     ensures { OnOk result (out.new ≡ out.old ++ end_of_block) }
 {

@@ -11,8 +11,8 @@ use std::alloc::Global;
 
 /// The strip of a page: each row coded against the one above it, the first against a white one,
 /// then the end of the facsimile block and zero bits to the byte, the first bit of a byte highest
-/// (ITU-T T.6, 2.2.4, EOFB and pad bits). At most `8 * (width + 1) * height + 4` bytes, so its length fits
-/// 32 bits.
+/// (ITU-T T.6, 2.2.4, EOFB and pad bits). At most `8 * (width + 1) * height + 4` bytes, so its
+/// length fits 32 bits.
 pub fn code_page(alloc: Global, page: &Page) -> Result<Bytes, OutOfMemory>
     ensures strip { IfOk result (λ bytes. bytes ≡ strip_of page.now) }
     ensures short { let width = page.now.width in let height = page.now.height in

@@ -1,13 +1,16 @@
 -- Worked examples of the definitions in specs/, each run by the check.
-use Rattle.std.proofs.Common.{◌≡◌, true, false, List, [], ◌∷◌, refl}
+use Rattle.std.proofs.Common.{ℕ, ◌≡◌, ◌≤◌, Bool, true, false, List, [], ◌∷◌, ◌++◌, replicate, get_or, refl, sym, subst, arith}
 use Rattle.bp_core.specs.declared.rectangle.Rect.{Rect}
 use Rattle.bp_rows.specs.declared.resolution.Res.{Res}
 use Rattle.bp_rows.specs.declared.resolution.Unit.TheVariants.{Inch}
 use Rattle.bp_rows.specs.Limits.{sides_are_allowed, sides_are_imported}
-use Rattle.bp_rows.specs.Image.{Image, pixel, with_pixel, white_image}
+use Rattle.bp_rows.specs.Image.{Image, pixel, with_pixel, with_row, white_image}
 use Rattle.bp_rows.specs.Bits.{black_at, rows_in}
 use Rattle.bp_rows.specs.Burned.{burned, row_part}
 use Rattle.bp_rows.specs.Packed.{packed_rows}
+use Rattle.bp_rows.specs.Changes.{changes_of}
+use Rattle.bp_rows.specs.Runs.{painted_runs, IsRuns}
+use Rattle.bp_rows.specs.Words.{pixels_in, ones_from, last_of}
 
 -- ---- sides
 
@@ -79,3 +82,51 @@ high_bit_first = refl
 
 rows_again : rows_in 3 2 (0xC0 ∷ 0x20 ∷ []) ≡ (true ∷ true ∷ false ∷ []) ∷ (false ∷ false ∷ true ∷ []) ∷ []
 rows_again = refl
+
+-- ---- changing elements and runs
+
+-- columns 5 to 9 of twenty
+abbrev five_to_nine : List Bool
+five_to_nine = replicate 5 false ++ replicate 5 true ++ replicate 10 false
+
+two_changes : changes_of five_to_nine ≡ 5 ∷ 10 ∷ []
+two_changes = refl
+
+-- the first pixel of a row is a changing element where it is black, and its end is none
+all_black : changes_of (replicate 8 true) ≡ 0 ∷ []
+all_black = refl
+
+all_white : changes_of (replicate 8 false) ≡ []
+all_white = refl
+
+last_alone : changes_of (false ∷ false ∷ true ∷ []) ≡ 2 ∷ []
+last_alone = refl
+
+painted : painted_runs false (5 ∷ 5 ∷ 10 ∷ []) ≡ five_to_nine
+painted = refl
+
+-- a run of no pixels joins those beside it
+painted_with_none : painted_runs false (2 ∷ 0 ∷ 3 ∷ 3 ∷ []) ≡ painted_runs false (5 ∷ 3 ∷ [])
+painted_with_none = refl
+
+-- the first run of a black row is empty
+runs_of_black : IsRuns (0 ∷ 8 ∷ []) (replicate 8 true)
+runs_of_black = record {
+  paints = refl;
+  some = omega arith;
+  least = λ k after within. (let one : k ≡ 1 = omega arith in subst (λ (j : ℕ). 1 ≤ get_or (0 ∷ 8 ∷ []) j 0) (sym one) (omega arith));
+}
+
+one_row_set : (with_row three_by_two 1 (painted_runs false (1 ∷ 2 ∷ []))).rows ≡ (false ∷ false ∷ false ∷ []) ∷ (false ∷ true ∷ true ∷ []) ∷ []
+one_row_set = refl
+
+-- ---- words
+
+byte_by_pixels : pixels_in (0x05 ∷ 0x80 ∷ []) ≡ replicate 5 false ++ true ∷ false ∷ true ∷ true ∷ replicate 7 false
+byte_by_pixels = refl
+
+ones_of_a_byte : ones_from 100 8 0x41 ≡ 101 ∷ 107 ∷ []
+ones_of_a_byte = refl
+
+last_of_none : last_of true [] ≡ true
+last_of_none = refl

@@ -5,8 +5,8 @@ use Rattle.bp_rows.specs.Limits.{sides_are_allowed}
 use Rattle.bp_rows.specs.declared.resolution.Res.{Res}
 use Rattle.bp_rows.specs.declared.resolution.Unit.{Unit as LengthUnit}
 
--- Sides in pixels, two resolutions and their unit, and the rows from the top, each from the left. True is
--- black.
+-- Sides in pixels, two resolutions and their unit, and the rows from the top, each from the left.
+-- True is black.
 pub record Image : Type 0 where
   pub width : ℕ
   pub height : ℕ
@@ -32,19 +32,27 @@ pub record IsPage (p : Image) : Type 0 where
   pub yres : FitsRes p.yres
   pub grid : IsGrid p.width p.height p.rows
 
+-- a row, counted from 0 at the top
+abbrev pub row_of : Image → ℕ → List Bool
+row_of p row = slice_index_or p.rows row []
+
 -- the pixel in a row and a column
 abbrev pub pixel : Image → ℕ → ℕ → Bool
-pixel p row col = slice_index_or (slice_index_or p.rows row []) col false
+pixel p row col = slice_index_or (row_of p row) col false
+
+-- that row made these pixels, and all else as it was
+abbrev pub with_row : Image → ℕ → List Bool → Image
+with_row p row line = record p { rows = slice_set p.rows row line }
 
 -- that pixel made black or white, and all else as it was
 abbrev pub with_pixel : Image → ℕ → ℕ → Bool → Image
-with_pixel p row col black =
-    record p { rows = slice_set p.rows row (slice_set (slice_index_or p.rows row []) col black) }
+with_pixel p row col black = with_row p row (slice_set (row_of p row) col black)
 
 -- all pixels white
 abbrev pub white_image : ℕ → ℕ → Res → Res → LengthUnit → Image
 white_image w h x y u =
-    record { width = w; height = h; xres = x; yres = y; unit = u; rows = replicate h (replicate w false) }
+    let rows : List (List Bool) = replicate h (replicate w false) in
+    record { width = w; height = h; xres = x; yres = y; unit = u; rows = rows }
 
 -- the rows whose pixel in row r and column c is f r c
 abbrev pub grid_of : ℕ → ℕ → (ℕ → ℕ → Bool) → List (List Bool)

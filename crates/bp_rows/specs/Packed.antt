@@ -1,6 +1,6 @@
--- The packed strip of an uncompressed bilevel image (TIFF 6.0, section 3, and section 8, Compression 1 and
--- FillOrder 1): rows one after another, each in whole bytes, the first pixel in the high bit, black as 1,
--- unused bits 0.
+-- The packed strip of an uncompressed bilevel image (TIFF 6.0, section 3, and section 8,
+-- Compression 1 and FillOrder 1): rows one after another, each in whole bytes, the first pixel in
+-- the high bit, black as 1, unused bits 0.
 use Rattle.std.specs.Prelude.{ℕ, ◌+◌, ◌*◌, Bool, false, List, length, map, slice_index_or, if◌then◌else◌}
 use Rattle.std.specs.List.{range_with_len, flat_map}
 use Rattle.bp_rows.specs.Bits.{row_bytes}
@@ -12,8 +12,10 @@ digit_at row col = if slice_index_or row col false then 1 else 0
 -- eight pixels from a column on, the first of them worth 128
 abbrev pub packed_byte : List Bool → ℕ → ℕ
 packed_byte row col =
-    128 * digit_at row col + 64 * digit_at row (col + 1) + 32 * digit_at row (col + 2) + 16 * digit_at row (col + 3)
-    + 8 * digit_at row (col + 4) + 4 * digit_at row (col + 5) + 2 * digit_at row (col + 6) + digit_at row (col + 7)
+    128 * digit_at row col + 64 * digit_at row (col + 1)
+    + 32 * digit_at row (col + 2) + 16 * digit_at row (col + 3)
+    + 8 * digit_at row (col + 4) + 4 * digit_at row (col + 5)
+    + 2 * digit_at row (col + 6) + digit_at row (col + 7)
 
 abbrev pub packed_row : List Bool → List ℕ
 packed_row row = map (λ i. packed_byte row (8 * i)) (range_with_len 0 (row_bytes (length row)))

@@ -2,11 +2,15 @@
 #![tactic(auto)]
 
 mod bits;
+mod changes;
+pub mod laws;
 mod limits;
 mod page;
 mod resolution;
+mod runs;
 
 pub use bits::bytes_of_strip;
 pub use limits::{allowed_sides, import_sides};
 pub use page::{Page, StripFault};
 pub use resolution::{Res, Unit};
+pub use runs::Runs;

@@ -1,17 +1,23 @@
 // A page: a bilevel image, kept as the packed strip of its uncompressed file.
-ghost use Rattle.std.specs.Prelude.{◌≡◌, ◌≢◌, ◌+◌, ◌*◌, ◌<◌, ◌≤◌, ◌↔◌, Bool, List, false, if◌then◌else◌, length, IsTrue, IfOk, IfErr, IsErrOf, ◌∷◌, []};
+ghost use Rattle.std.specs.Prelude.{◌≡◌, ◌≢◌, ◌+◌, ◌*◌, ◌<◌, ◌≤◌, ◌↔◌, Bool, List, false, if◌then◌else◌, length, IsTrue, IfOk, IfErr, IsErrOf, sum, OnOk, ◌∷◌, []};
 ghost use Rattle.bp_core.specs.Rules.{page_limit_rule};
 ghost use Rattle.bp_rows.specs.Limits.{sides_are_allowed};
 ghost use Rattle.bp_core.specs.Rectangle.{LiesInside};
-ghost use Rattle.bp_rows.specs.Image.{IsPage, IsGrid, pixel, with_pixel, white_image};
+ghost use Rattle.bp_rows.specs.Image.{IsPage, IsGrid, pixel, row_of, with_pixel, with_row, white_image};
 ghost use Rattle.bp_rows.specs.Bits.{row_bytes};
+ghost use Rattle.bp_rows.specs.Changes.{changes_of};
 ghost use Rattle.bp_rows.specs.Burned.{burned, row_part};
-ghost use Rattle.bp_rows.specs.Packed.{packed_rows};
+ghost use Rattle.bp_rows.specs.Packed.{packed_row, packed_rows};
+ghost use Rattle.bp_rows.specs.Runs.{painted_runs, IsRuns};
 
-use crate::bits::{blacken, bytes_of_strip, has_blank_ends, pixel_at, place_of, set_pixel_at};
-use crate::limits::allowed_sides;
+use crate::bits::{
+    blacken, bytes_of_row, bytes_of_strip, has_blank_ends, pixel_at, place_of, set_pixel_at,
+};
+use crate::changes::{drop_end, find_changes};
+use crate::limits::{MAX_WIDTH, allowed_sides};
 use crate::resolution::{Res, Unit};
-use bp_core::{Rect, Refusal, Rule};
+use crate::runs::{Runs, push_runs, set_runs_at};
+use bp_core::{OutOfMemory, Rect, Refusal, Rule};
 use std::alloc::Global;
 use std::marker::Model;
 use thiserror::Error;
@@ -60,8 +66,12 @@ impl Page {
         yres: Res,
         unit: Unit,
     ) -> Result<Page, Refusal>
-        ensures ok { IfOk result (λ p. IsTrue (sides_are_allowed width height) × (p ≡ white_image width height xres yres unit)) }
-        ensures err { IfErr result (λ e. e ≡ (if sides_are_allowed width height then Refusal.OutOfMemory else Refusal.Rule (page_limit_rule width height))) }
+        ensures ok { IfOk result (λ p.
+            IsTrue (sides_are_allowed width height)
+            × (p ≡ white_image width height xres yres unit)) }
+        ensures err { IfErr result (λ e.
+            e ≡ (if sides_are_allowed width height then Refusal.OutOfMemory
+            else Refusal.Rule (page_limit_rule width height))) }
     {
         if !allowed_sides(width, height) {
             return Err(Refusal::Rule(Rule::page_limit(width, height)));
@@ -87,15 +97,22 @@ impl Page {
         strip: Vec<u8>,
     ) -> Result<Page, StripFault>
         ensures sides { (result ≡ Err StripFault.Sides) ↔ (sides_are_allowed width height ≡ false) }
-        ensures long { (result ≡ Err StripFault.Length) ↔ (IsTrue (sides_are_allowed width height) × (length strip.items ≢ height * row_bytes width)) }
+        ensures long { (result ≡ Err StripFault.Length) ↔
+            (IsTrue (sides_are_allowed width height)
+            × (length strip.items ≢ height * row_bytes width)) }
 
         // What is made has these bytes as its strip.
-        ensures found { IfOk result (λ p. p ≡ record (white_image width height xres yres unit) { rows = p.rows }) }
+        ensures found { IfOk result (λ p.
+            p ≡ record (white_image width height xres yres unit) { rows = p.rows }) }
         ensures packed { IfOk result (λ p. packed_rows p.rows ≡ strip.items) }
         ensures page { IfOk result IsPage }
 
         // Whatever rows of these sides have these bytes as their strip are made.
-        ensures only { (rows : List (List Bool)) → IsTrue (sides_are_allowed width height) → IsGrid width height rows → packed_rows rows ≡ strip.items → result ≡ Ok (record (white_image width height xres yres unit) { rows = rows }) }
+        ensures only { (rows : List (List Bool)) →
+            IsTrue (sides_are_allowed width height) →
+            IsGrid width height rows →
+            packed_rows rows ≡ strip.items →
+            result ≡ Ok (record (white_image width height xres yres unit) { rows = rows }) }
     {
         if !allowed_sides(width, height) {
             return Err(StripFault::Sides);
@@ -184,6 +201,17 @@ impl Page {
         blacken(&mut self.strip, start + from as usize, start + to as usize);
     }
 
+    /// Makes the pixels of a row those of runs, whose sum is the width, and no other. A run may be
+    /// empty.
+    pub fn set_runs(&mut self, row: u32, runs: &Runs)
+        requires down { row < self.old.height }
+        requires total { sum runs.now ≡ self.old.width }
+        ensures { self.new ≡ with_row self.old row (painted_runs false runs.now) }
+    {
+        let size = bytes_of_row(self.width);
+        set_runs_at(&mut self.strip, row as usize * size, size, runs.as_slice());
+    }
+
     /// Makes the pixels of a rectangle black, which lies inside the page, and no other.
     pub fn blacken_box(&mut self, area: &Rect)
         requires { LiesInside area.now self.old.width self.old.height }
@@ -196,8 +224,8 @@ impl Page {
         }
     }
 
-    /// The rows as the packed strip of an uncompressed file, lent: each row in whole bytes, the first
-    /// pixel in the high bit, black as 1, unused bits 0 (TIFF 6.0, section 3).
+    /// The rows as the packed strip of an uncompressed file, lent: each row in whole bytes, the
+    /// first pixel in the high bit, black as 1, unused bits 0 (TIFF 6.0, section 3).
     pub fn strip(&self) -> &[u8]
         ensures packed { result.now ≡ packed_rows self.now.rows }
         ensures long { length result.now ≡ self.now.height * row_bytes self.now.width }
@@ -205,6 +233,42 @@ impl Page {
         ensures page { IsPage self.now }
     {
         self.strip.as_slice()
+    }
+
+    // The bytes of a row.
+    fn row_strip(&self, row: u32) -> &[u8]
+        requires { row < self.now.height }
+        ensures packed { result.now ≡ packed_row (row_of self.now row) }
+        ensures wide { length (row_of self.now row) ≡ self.now.width }
+        ensures small { 8 * length result.now ≤ MAX_WIDTH }
+    {
+        let size = bytes_of_row(self.width());
+        let start = row as usize * size;
+        &self.strip()[start..start + size]
+    }
+
+    /// The places of the changing elements of a row, in order, in place of what the list held: of
+    /// the pixels that differ from the one before them, where before the first stands a white one
+    /// (ITU-T T.6, 2.2.2).
+    pub fn row_changes(&self, row: u32, places: &mut Vec<u32>) -> Result<(), OutOfMemory>
+        requires { row < self.now.height }
+        ensures { OnOk result (places.new.items ≡ changes_of (row_of self.now row)) }
+    {
+        find_changes(self.row_strip(row), places)?;
+        drop_end(places, self.width());
+        Ok(())
+    }
+
+    /// The runs of a row: the first may be empty, and no other.
+    pub fn row_runs(&self, alloc: Global, row: u32) -> Result<Runs, OutOfMemory>
+        requires { row < self.now.height }
+        ensures { IfOk result (λ runs. IsRuns runs (row_of self.now row)) }
+    {
+        let mut places = Vec::new(alloc);
+        let mut runs = Vec::new(alloc);
+        self.row_changes(row, &mut places)?;
+        push_runs(&mut runs, &places, self.width())?;
+        Ok(Runs::from_vec(runs))
     }
 }
 
@@ -225,6 +289,31 @@ mod tests {
         assert_eq!(rt; page.unit(), Unit::Centimetre);
         let black = page.height() == 2 && page.width() == 9 && page.get(1, 8);
         assert!(rt; !black);
+        Ok(())
+    }
+
+    // The runs of a row of a band, white first, with ample memory.
+    #[test]
+    fn runs_set_are_the_runs_of_the_row(rt: HostRuntime) -> Result<(), Fail> {
+        let res = Res { num: 200, den: 1 };
+        let mut page = Page::white(rt.alloc(), 20, 2, res, res, Unit::Inch)?;
+        let runs = Runs::from_vec(vec![in rt.alloc(); 0, 3, 9, 1, 7]?);
+        assert_eq!(rt; (page.width(), page.height()), (20, 2));
+        page.set_runs(1, &runs);
+        let black = [
+            page.get(1, 2),
+            page.get(1, 3),
+            page.get(1, 12),
+            page.get(1, 13),
+        ];
+        assert_eq!(rt; black, [true, false, true, false]);
+        let found = page.row_runs(rt.alloc(), 1)?;
+        assert_eq!(rt; found.as_slice(), [0, 3, 9, 1, 7].as_slice());
+        let white = page.row_runs(rt.alloc(), 0)?;
+        assert_eq!(rt; white.as_slice(), [20].as_slice());
+        let mut places = Vec::new(rt.alloc());
+        page.row_changes(1, &mut places)?;
+        assert_eq!(rt; places.as_slice(), [0, 3, 12, 13].as_slice());
         Ok(())
     }
 }

@@ -1,0 +1,19 @@
+//! ITU-T T.6 (Group 4): the strip of a page, in one facsimile block.
+//!
+//! `code_page` gives the strip of a page; its contract cites `strip_of` of specs/Written.antt, the
+//! coding procedure of T.6. What any strip is read as stands in specs/Read.antt and
+//! specs/Faults.antt, and `laws` says that the strip of a page is read as the page's rows and as no
+//! others.
+#![tactic(auto)]
+
+mod bit_writer;
+pub mod laws;
+mod lengths;
+mod page;
+mod row;
+mod tables;
+#[cfg(test)]
+mod tests;
+mod writer;
+
+pub use page::code_page;

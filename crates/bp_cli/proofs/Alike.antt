@@ -15,7 +15,7 @@ use Rattle.bp_rows.proofs.Pages.{strip_small}
 use Rattle.bp_tiff.specs.declared.form.Form.TheVariants.{Plain}
 use Rattle.bp_tiff.specs.Tiff.{tiff_of, head_of, fields_of}
 use Rattle.bp_tiff.specs.Plain.{IsPlainFile}
-use Rattle.bp_tiff.proofs.PlainFiles.{length-head_of, plain_answer-file}
+use Rattle.bp_tiff.proofs.PlainFileLemmas.{length-head_of, plain_answer-file}
 use Rattle.bp_cli.specs.Words.{BurnLine, CommandLine, burn}
 use Rattle.bp_cli.specs.Outcome.{BurnAlike, AlikeFor, bare_rule, burn_page, burn_read, burn_answer, burn_outcome, outcome_of, file_limit}
 use Rattle.bp_cli.proofs.Making.{answer_short}

@@ -1,10 +1,11 @@
 -- Worked examples of the definitions in specs/, each run by the check.
-use Rattle.std.proofs.Common.{ℕ, ◌≡◌, Bool, true, false, List, [], ◌∷◌, ◌++◌, Some, None, take, drop, refl}
+use Rattle.std.proofs.Common.{ℕ, ◌≡◌, true, List, [], ◌∷◌, ◌++◌, Some, None, take, drop, refl}
 use Rattle.bp_rows.specs.declared.resolution.Res.{Res}
 use Rattle.bp_rows.specs.declared.resolution.Unit.TheVariants as units
 use Rattle.bp_rows.specs.Image.{Image}
 use Rattle.bp_tiff.specs.declared.form.Form.TheVariants.{Plain}
-use Rattle.bp_tiff.specs.Tiff.{tiff_of, header, rational, unit_of}
+use Rattle.bp_tiff.specs.Tiff.{tiff_of}
+use Rattle.bp_tiff.specs.Units.{unit_of}
 use Rattle.bp_tiff.specs.Plain.{plain_page}
 
 abbrev two_hundred : Res

@@ -1,2 +1,2 @@
 mod Examples
-pub mod PlainFiles
+pub mod PlainFileLemmas

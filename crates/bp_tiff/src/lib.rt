@@ -1,11 +1,14 @@
 //! Pages as TIFF files (TIFF 6.0): written, and read back.
 #![tactic(auto)]
 
+mod entries;
 mod fields;
 mod form;
 mod head;
 mod laws;
+mod places;
 mod reading;
+mod tags;
 #[cfg(test)]
 mod tests;
 mod writing;

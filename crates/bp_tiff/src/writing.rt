@@ -5,6 +5,7 @@ ghost use Rattle.bp_tiff.specs.Tiff.{tiff_of};
 use crate::fields::fields_of_page;
 use crate::form::Form;
 use crate::head::put_head;
+use crate::places::PLAIN_STRIP_AT;
 use bp_core::{Bytes, OutOfMemory};
 use bp_rows::Page;
 use std::alloc::Global;
@@ -16,7 +17,7 @@ pub fn write_tiff(alloc: Global, form: Form, page: &Page) -> Result<Bytes, OutOf
 {
     let fields = fields_of_page(page);
     let strip = page.strip();
-    let mut file = Vec::with_capacity(alloc, strip.len() + 186)?;
+    let mut file = Vec::with_capacity(alloc, PLAIN_STRIP_AT as usize + strip.len())?;
     put_head(&mut file, form, &fields, strip.len() as u32)?;
     file.extend_from_slice(strip)?;
     Ok(Bytes::from_vec(file))

@@ -1,4 +1,4 @@
-use Rattle.bp_tiff.proofs.PlainFiles.{one_file}
+use Rattle.bp_tiff.proofs.PlainFileLemmas.{one_file}
 use Rattle.bp_tiff.proofs.laws.one_page_a_file.Goals as goal
 
 pub returns : goal.returns

@@ -1,2 +1,3 @@
 mod Examples
+pub mod FileLemmas
 pub mod PlainFileLemmas

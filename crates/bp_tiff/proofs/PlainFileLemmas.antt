@@ -1,121 +1,38 @@
 -- Carries the bytes of a plain file over to the page that they name, and on to the answer of a reader.
-use Rattle.std.proofs.Common.{ℕ, ◌≡◌, ◌*◌, ◌^◌, ◌<◌, ◌≤◌, Bool, true, false, cond, ◌&&◌, List, ◌++◌, length, take, drop, Option, Some, None, Result, Ok, Err, IsTrue, IfOk, MatchResult, refl, sym, ap, subst, ◌∙◌, arith, length-append}
-use Rattle.std.specs.Option.{option_map, option_and_then, ok_or}
-use Rattle.std.specs.Int.{to_le_bytes, from_le_bytes, w16, w32}
+use Rattle.std.proofs.Common.{ℕ, ◌≡◌, ◌*◌, ◌<◌, ◌≤◌, Bool, true, false, cond, ◌&&◌, List, ◌++◌, length, take, drop, Option, Some, None, Result, Ok, Err, IsTrue, IfOk, MatchResult, refl, sym, ap, subst, ◌∙◌, arith, length-append}
+use Rattle.std.specs.Option.{option_and_then, ok_or}
 use Rattle.std.specs.Str.{bytes_eq}
-use Rattle.std.proofs.lemmas.Nat.{from_le_bytes-to_le_bytes_4}
 use Rattle.std.proofs.lemmas.Bool.{and_from, cond-true, cond-false, and_parts}
 use Rattle.std.proofs.lemmas.Slice.Eq.{bytes_eq-Decides}
 use Rattle.std.proofs.lemmas.List.{take-append-drop}
 use Rattle.bp_core.specs.declared.refusals.Refusal.{Refusal}
 use Rattle.bp_core.specs.declared.refusals.Refusal.TheVariants as refusals
 use Rattle.bp_core.specs.Answers.{Answers}
-use Rattle.bp_rows.specs.declared.resolution.Unit.{Unit as LengthUnit}
-use Rattle.bp_rows.specs.declared.resolution.Unit.TheVariants as units
 use Rattle.bp_rows.specs.Image.{Image, IsPage}
 use Rattle.bp_rows.specs.Limits.{sides_are_imported}
 use Rattle.bp_rows.specs.Bits.{rows_in, row_bytes}
 use Rattle.bp_rows.specs.Packed.{packed_rows}
-use Rattle.bp_rows.proofs.Pages.{sides_bound, imported_is_allowed}
+use Rattle.bp_rows.proofs.Pages.{imported_is_allowed}
 use Rattle.bp_rows.proofs.Grids.{grid_of_is_grid}
 use Rattle.bp_rows.proofs.Packing.{rows_in-packed_rows, length-packed_rows}
-use Rattle.bp_tiff.specs.declared.form.Form.{Form}
 use Rattle.bp_tiff.specs.declared.form.Form.TheVariants.{Plain}
 use Rattle.bp_tiff.specs.declared.fields.Fields.{Fields}
-use Rattle.bp_tiff.specs.declared.places.TheConstants.{PLAIN_UNIT_AT, PLAIN_STRIP_AT}
+use Rattle.bp_tiff.specs.declared.places.TheConstants.{PLAIN_STRIP_AT}
 use Rattle.bp_tiff.specs.Tiff.{tiff_of, head_of, fields_of}
-use Rattle.bp_tiff.specs.Units.{unit_code, unit_of}
-use Rattle.bp_tiff.specs.Plain.{IsPlainFile, named_fields, fields_with, page_with, if_plain_file, plain_answer, form_not_built, short_at, IsMadeOf, StripMakes}
+use Rattle.bp_tiff.proofs.FileLemmas.{fields_named-tiff_of, image}
+use Rattle.bp_tiff.specs.Plain.{IsPlainFile, named_fields, page_with, if_plain_file, plain_answer, form_not_built, IsMadeOf, StripMakes}
 
 -- ---- what the bytes of a plain file name
 
 pub length-head_of : (f : Fields) (n : ℕ) → length (head_of Plain f n) ≡ PLAIN_STRIP_AT
 length-head_of f n = refl
 
-unit_of-unit_code : (u : LengthUnit) → unit_of (unit_code u) ≡ Some u
-unit_of-unit_code units.None = refl
-unit_of-unit_code units.Inch = refl
-unit_of-unit_code units.Centimetre = refl
-
--- a code is read back from two bytes
-abbrev code_again : ℕ → ℕ
-code_again n = from_le_bytes w16 (to_le_bytes w16 n)
-
-code_again-unit_code : (u : LengthUnit) → code_again (unit_code u) ≡ unit_code u
-code_again-unit_code units.None = refl
-code_again-unit_code units.Inch = refl
-code_again-unit_code units.Centimetre = refl
-
-unit_at : (p : Image) → short_at (tiff_of Plain p) PLAIN_UNIT_AT ≡ code_again (unit_code p.unit)
-unit_at p = refl
-
-abbrev fields_from : ℕ → ℕ → ℕ → ℕ → ℕ → ℕ → LengthUnit → Fields
-fields_from w h xn xd yn yd u = record {
-  width = w;
-  height = h;
-  xres = record { num = xn; den = xd };
-  yres = record { num = yn; den = yd };
-  unit = u;
-}
-
-number : (n : ℕ) → n < 2 ^ 32 → from_le_bytes w32 (to_le_bytes w32 n) ≡ n
-number n small = from_le_bytes-to_le_bytes_4 n small
-
-same_fields :
-    (w w' h h' xn xn' xd xd' yn yn' yd yd' : ℕ) (u : LengthUnit)
-    → w ≡ w'
-    → h ≡ h'
-    → xn ≡ xn'
-    → xd ≡ xd'
-    → yn ≡ yn'
-    → yd ≡ yd'
-    → fields_from w h xn xd yn yd u ≡ fields_from w' h' xn' xd' yn' yd' u
-same_fields w w' h h' xn xn' xd xd' yn yn' yd yd' u p q r s t v = cc
-
--- the fields that the bytes of a page's file name are the page's
-fields_again : (p : Image) → IsPage p → fields_with (tiff_of Plain p) p.unit ≡ fields_of p
-fields_again p page =
-    let sides = sides_bound p.width p.height page.sides in
-    let wide : p.width < 2 ^ 32 = omega arith in
-    let high : p.height < 2 ^ 32 = omega arith in
-    same_fields _ _ _ _ _ _ _ _ _ _ _ _ p.unit (number p.width wide) (number p.height high)
-    (number p.xres.num page.xres.num) (number p.xres.den page.xres.den)
-    (number p.yres.num page.yres.num) (number p.yres.den page.yres.den)
-
 pub named_fields-tiff_of : (p : Image) → IsPage p → named_fields (tiff_of Plain p) ≡ Some (fields_of p)
-named_fields-tiff_of p page =
-    let with_unit = option_map (fields_with (tiff_of Plain p)) in
-    ap (λ code. with_unit (unit_of code)) (unit_at p ∙ code_again-unit_code p.unit)
-    ∙ ap with_unit (unit_of-unit_code p.unit)
-    ∙ ap Some (fields_again p page)
-
-abbrev image : Fields → List (List Bool) → Image
-image f rs = record {
-  width = f.width;
-  height = f.height;
-  xres = f.xres;
-  yres = f.yres;
-  unit = f.unit;
-  rows = rs;
-}
+named_fields-tiff_of p page = fields_named-tiff_of Plain p page
 
 pub page_with-tiff_of : (p : Image) → IsPage p → page_with (tiff_of Plain p) (fields_of p) ≡ p
 page_with-tiff_of p page =
     ap (image (fields_of p)) (sym (rows_in-packed_rows p.width p.height p.rows page.grid))
-
--- no two pages share a file
-pub one_file :
-    (form : Form) (p q : Image)
-    → IsPage p
-    → IsPage q
-    → tiff_of form p ≡ tiff_of form q
-    → p ≡ q
-one_file Plain p q left right same =
-    let named : Some (fields_of p) ≡ Some (fields_of q) =
-    sym (named_fields-tiff_of p left) ∙ ap named_fields same ∙ named_fields-tiff_of q right in
-    let fields : fields_of p ≡ fields_of q = cc in
-    sym (page_with-tiff_of p left) ∙ ap (λ f. page_with (tiff_of Plain p) f) fields
-    ∙ ap (λ bytes. page_with bytes (fields_of q)) same ∙ page_with-tiff_of q right
 
 -- ---- the answer
 

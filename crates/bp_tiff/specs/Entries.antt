@@ -7,8 +7,8 @@ use Rattle.bp_tiff.specs.declared.entries.Value.{Value}
 use Rattle.bp_tiff.specs.declared.entries.Value.TheVariants as values
 use Rattle.bp_tiff.specs.declared.fields.Fields.{Fields}
 use Rattle.bp_tiff.specs.declared.form.Form.{Form}
-use Rattle.bp_tiff.specs.declared.form.Form.TheVariants.{Plain}
-use Rattle.bp_tiff.specs.declared.places.TheConstants.{PLAIN_XRES_AT, PLAIN_YRES_AT, PLAIN_STRIP_AT}
+use Rattle.bp_tiff.specs.declared.form.Form.TheVariants.{Plain, G4}
+use Rattle.bp_tiff.specs.declared.places.TheConstants.{PLAIN_XRES_AT, PLAIN_YRES_AT, PLAIN_STRIP_AT, G4_XRES_AT, G4_YRES_AT, G4_STRIP_AT}
 use Rattle.bp_tiff.specs.declared.tags.TheConstants as tags
 use Rattle.bp_tiff.specs.Units.{unit_code}
 
@@ -43,8 +43,8 @@ long tag n = record { tag = tag; value = values.Long n }
 abbrev pub ratio : ℕ → ℕ → Entry
 ratio tag at = record { tag = tag; value = values.RationalAt at }
 
--- Section 8, in the order of the tags. Compression 1 is none. White is zero, the first pixel stands in the high
--- bit, and all rows in one strip.
+-- Sections 8 and 11, in the order of the tags. Compression 1 is none, 4 is T.6 without uncompressed mode. White is
+-- zero, the first pixel stands in the high bit, and all rows in one strip.
 abbrev pub entries : Form → Fields → ℕ → List Entry
 entries Plain f strip_bytes =
     long tags.IMAGE_WIDTH f.width
@@ -59,5 +59,21 @@ entries Plain f strip_bytes =
     ∷ long tags.STRIP_BYTE_COUNTS strip_bytes
     ∷ ratio tags.X_RESOLUTION PLAIN_XRES_AT
     ∷ ratio tags.Y_RESOLUTION PLAIN_YRES_AT
+    ∷ short tags.RESOLUTION_UNIT (unit_code f.unit)
+    ∷ []
+entries G4 f strip_bytes =
+    long tags.IMAGE_WIDTH f.width
+    ∷ long tags.IMAGE_LENGTH f.height
+    ∷ short tags.BITS_PER_SAMPLE 1
+    ∷ short tags.COMPRESSION 4
+    ∷ short tags.PHOTOMETRIC 0
+    ∷ short tags.FILL_ORDER 1
+    ∷ long tags.STRIP_OFFSETS G4_STRIP_AT
+    ∷ short tags.SAMPLES_PER_PIXEL 1
+    ∷ long tags.ROWS_PER_STRIP f.height
+    ∷ long tags.STRIP_BYTE_COUNTS strip_bytes
+    ∷ ratio tags.X_RESOLUTION G4_XRES_AT
+    ∷ ratio tags.Y_RESOLUTION G4_YRES_AT
+    ∷ long tags.T6_OPTIONS 0
     ∷ short tags.RESOLUTION_UNIT (unit_code f.unit)
     ∷ []

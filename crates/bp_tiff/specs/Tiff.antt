@@ -5,9 +5,10 @@ use Rattle.std.specs.Int.{to_le_bytes, w16, w32}
 use Rattle.bp_rows.specs.declared.resolution.Res.{Res}
 use Rattle.bp_rows.specs.Image.{Image}
 use Rattle.bp_rows.specs.Packed.{packed_rows}
+use Rattle.bp_t6.specs.Written.{strip_of as t6_strip}
 use Rattle.bp_tiff.specs.declared.fields.Fields.{Fields}
 use Rattle.bp_tiff.specs.declared.form.Form.{Form}
-use Rattle.bp_tiff.specs.declared.form.Form.TheVariants.{Plain}
+use Rattle.bp_tiff.specs.declared.form.Form.TheVariants.{Plain, G4}
 use Rattle.bp_tiff.specs.declared.places.TheConstants.{DIRECTORY_AT}
 use Rattle.bp_tiff.specs.Entries.{entries, directory}
 
@@ -28,9 +29,10 @@ abbrev pub head_of : Form → Fields → ℕ → List ℕ
 head_of form f strip_bytes =
     header ++ directory (entries form f strip_bytes) ++ rational f.xres ++ rational f.yres
 
--- section 3, Compression 1: packed rows
+-- section 3, Compression 1: packed rows; Compression 4: the codes of ITU-T T.6
 abbrev pub strip_of : Form → Image → List ℕ
 strip_of Plain p = packed_rows p.rows
+strip_of G4 p = t6_strip p
 
 -- TiffOf: the file of a page
 abbrev pub tiff_of : Form → Image → List ℕ

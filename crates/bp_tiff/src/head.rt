@@ -1,10 +1,10 @@
 // What stands in a page file before its strip (TIFF 6.0, section 2).
 ghost use Rattle.std.specs.Prelude.{◌≡◌, ◌++◌, ◌<◌, ◌^◌, length, OnOk};
 ghost use Rattle.std.specs.List.{flat_map};
-ghost use Rattle.bp_tiff.specs.Entries.{one_value, value_bytes, entry_bytes, directory};
+ghost use Rattle.bp_tiff.specs.Entries.{one_value, value_bytes, entry_bytes, directory, entries};
 ghost use Rattle.bp_tiff.specs.Tiff.{header, rational, head_of};
 
-use crate::entries::{Entry, Value, plain_entries};
+use crate::entries::{Entry, Value, g4_entries, plain_entries};
 use crate::fields::Fields;
 use crate::form::Form;
 use crate::places::DIRECTORY_AT;
@@ -22,9 +22,7 @@ pub fn put_head(
     ensures { OnOk result (out.new.items ≡ out.old.items ++ head_of form fields.now strip_bytes) }
 {
     put_header(out)?;
-    match form {
-        Form::Plain => put_directory(out, &plain_entries(fields, strip_bytes))?,
-    }
+    put_fields(out, form, fields, strip_bytes)?;
     put_rational(out, fields.xres)?;
     put_rational(out, fields.yres)
 }
@@ -36,6 +34,22 @@ fn put_header(out: &mut Vec<u8>) -> Result<(), OutOfMemory>
     out.extend_from_slice(&42u16.to_le_bytes())?;
     out.extend_from_slice(&DIRECTORY_AT.to_le_bytes())?;
     Ok(())
+}
+
+// The directory of the fields.
+fn put_fields(
+    out: &mut Vec<u8>,
+    form: Form,
+    fields: &Fields,
+    strip_bytes: u32,
+) -> Result<(), OutOfMemory>
+    ensures { OnOk result (
+        out.new.items ≡ out.old.items ++ directory (entries form fields.now strip_bytes)) }
+{
+    match form {
+        Form::Plain => put_directory(out, &plain_entries(fields, strip_bytes)),
+        Form::G4 => put_directory(out, &g4_entries(fields, strip_bytes)),
+    }
 }
 
 fn put_directory(out: &mut Vec<u8>, entries: &[Entry]) -> Result<(), OutOfMemory>

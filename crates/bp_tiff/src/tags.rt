@@ -25,6 +25,8 @@ pub const STRIP_BYTE_COUNTS: u16 = 279;
 pub const X_RESOLUTION: u16 = 282;
 /// Pixels for each unit of length, down.
 pub const Y_RESOLUTION: u16 = 283;
+/// What else the codes of the strip may be (uncompressed mode).
+pub const T6_OPTIONS: u16 = 293;
 /// The unit of length.
 pub const RESOLUTION_UNIT: u16 = 296;
 

@@ -245,7 +245,10 @@ other_count p q same =
     let counts : thirteen ≡ 14 = ap (λ bytes. get_or bytes 8 0) same in
     absurd (omega (arith, counts))
 
-pub same_form : (first second : Form) (p q : Image) → tiff_of first p ≡ tiff_of second q → first ≡ second
+pub same_form :
+    (first second : Form) (p q : Image)
+    → tiff_of first p ≡ tiff_of second q
+    → first ≡ second
 same_form Plain Plain p q same = refl
 same_form Plain G4 p q same = absurd (other_count p q same)
 same_form G4 Plain p q same = absurd (other_count q p (sym same))

@@ -1,4 +1,5 @@
--- Carries the bytes of a plain file over to the page that they name, and on to the answer of a reader.
+-- Carries the bytes of a plain file over to the page that they name, and on to the answer of a
+-- reader.
 use Rattle.std.proofs.Common.{ℕ, ◌≡◌, ◌*◌, ◌<◌, ◌≤◌, Bool, true, false, cond, ◌&&◌, List, ◌++◌, length, take, drop, Option, Some, None, Result, Ok, Err, IsTrue, IfOk, MatchResult, refl, sym, ap, subst, ◌∙◌, arith, length-append}
 use Rattle.std.specs.Option.{option_and_then, ok_or}
 use Rattle.std.specs.Str.{bytes_eq}
@@ -27,7 +28,10 @@ use Rattle.bp_tiff.specs.Plain.{IsPlainFile, named_fields, page_with, if_plain_f
 pub length-head_of : (f : Fields) (n : ℕ) → length (head_of Plain f n) ≡ PLAIN_STRIP_AT
 length-head_of f n = refl
 
-pub named_fields-tiff_of : (p : Image) → IsPage p → named_fields (tiff_of Plain p) ≡ Some (fields_of p)
+pub named_fields-tiff_of :
+    (p : Image)
+    → IsPage p
+    → named_fields (tiff_of Plain p) ≡ Some (fields_of p)
 named_fields-tiff_of p page = fields_named-tiff_of Plain p page
 
 pub page_with-tiff_of : (p : Image) → IsPage p → page_with (tiff_of Plain p) (fields_of p) ≡ p
@@ -49,7 +53,8 @@ is_file :
 is_file bytes p imported file =
     let limits = sides_are_imported p.width p.height in
     let test = bytes_eq bytes (tiff_of Plain p) in
-    let passes = and_from limits test imported ((bytes_eq-Decides bytes (tiff_of Plain p)).1 file) in
+    let equal = (bytes_eq-Decides bytes (tiff_of Plain p)).1 file in
+    let passes = and_from limits test imported equal in
     cond-true (limits && test) (Some p) None passes
 
 no_file_at :
@@ -94,7 +99,8 @@ plain_answer-some :
     → IsNamedFile bytes f
     → plain_answer bytes ≡ Ok (page_with bytes f)
 plain_answer-some bytes f named file =
-    ap (λ o. ok_or (option_and_then (λ g. if_plain_file bytes (page_with bytes g)) o) form_not_built) named
+    let find = λ (g : Fields). if_plain_file bytes (page_with bytes g) in
+    ap (λ o. ok_or (option_and_then find o) form_not_built) named
     ∙ ap (λ o. ok_or o form_not_built) (is_file bytes (page_with bytes f) file.0 file.1)
 
 -- the page of a plain file is the answer
@@ -157,7 +163,8 @@ pub none_short :
     → length bytes < PLAIN_STRIP_AT
     → plain_answer bytes ≡ Err form_not_built
 none_short bytes short =
-    plain_answer-none bytes (λ f named file. let long = long_part bytes f file.1 in absurd (omega arith))
+    plain_answer-none bytes
+    (λ f named file. let long = long_part bytes f file.1 in absurd (omega arith))
 
 -- the page that the bytes name is the one whose file they are
 same_named :

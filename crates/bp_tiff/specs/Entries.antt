@@ -1,4 +1,5 @@
--- The directory of a page file (TIFF 6.0, section 2, Image File Directory), and its entries (section 8).
+-- The directory of a page file (TIFF 6.0, section 2, Image File Directory), and its entries
+-- (section 8).
 use Rattle.std.specs.Prelude.{ℕ, List, [], ◌∷◌, ◌++◌, length}
 use Rattle.std.specs.Int.{to_le_bytes, w16, w32}
 use Rattle.std.specs.List.{flat_map}
@@ -43,8 +44,8 @@ long tag n = record { tag = tag; value = values.Long n }
 abbrev pub ratio : ℕ → ℕ → Entry
 ratio tag at = record { tag = tag; value = values.RationalAt at }
 
--- Sections 8 and 11, in the order of the tags. Compression 1 is none, 4 is T.6 without uncompressed mode. White is
--- zero, the first pixel stands in the high bit, and all rows in one strip.
+-- Sections 8 and 11, in the order of the tags. Compression 1 is none, 4 is T.6, here without
+-- uncompressed mode. White is zero, the first pixel stands in the high bit, and all rows in one strip.
 abbrev pub entries : Form → Fields → ℕ → List Entry
 entries Plain f strip_bytes =
     long tags.IMAGE_WIDTH f.width

@@ -71,7 +71,8 @@ if_plain_file bytes p =
 
 -- the page whose plain file the bytes are, where they are one
 abbrev pub plain_page : List ℕ → Option Image
-plain_page bytes = option_and_then (λ f. if_plain_file bytes (page_with bytes f)) (named_fields bytes)
+plain_page bytes =
+    option_and_then (λ f. if_plain_file bytes (page_with bytes f)) (named_fields bytes)
 
 abbrev pub form_not_built : Rule
 form_not_built = record { kind = FormNotBuilt; line = 0; a = 0; b = 0 }

@@ -1,5 +1,5 @@
--- The page file that this product writes (TIFF 6.0): the least byte first, one directory, one strip, and the file
--- ends with the strip.
+-- The page file that this product writes (TIFF 6.0): the least byte first, one directory, one strip,
+-- and the file ends with the strip.
 use Rattle.std.specs.Prelude.{ℕ, List, ◌++◌, length, codes}
 use Rattle.std.specs.Int.{to_le_bytes, w16, w32}
 use Rattle.bp_rows.specs.declared.resolution.Res.{Res}
@@ -14,7 +14,13 @@ use Rattle.bp_tiff.specs.Entries.{entries, directory}
 
 -- what a file says of its page beside the pixels
 abbrev pub fields_of : Image → Fields
-fields_of p = record { width = p.width; height = p.height; xres = p.xres; yres = p.yres; unit = p.unit }
+fields_of p = record {
+  width = p.width;
+  height = p.height;
+  xres = p.xres;
+  yres = p.yres;
+  unit = p.unit;
+}
 
 -- section 2, Image File Header: the byte order, 42, and where the directory begins
 abbrev pub header : List ℕ

@@ -17,8 +17,8 @@ use std::alloc::Global;
 // How many bytes stand before the strip of a plain file.
 const HEAD_BYTES: usize = PLAIN_STRIP_AT as usize;
 
-/// The page whose plain file the bytes are, as `write_tiff` writes it. Bytes that are no plain file of
-/// a page within the limits of an import break the rule FormNotBuilt.
+/// The page whose plain file the bytes are, as `write_tiff` writes it. Bytes that are no plain file
+/// of a page within the limits of an import break the rule FormNotBuilt.
 pub fn read_plain(alloc: Global, bytes: &[u8]) -> Result<Page, Refusal>
     // What is read has the bytes as its file.
     ensures found { IfOk result (λ p. IsPlainFile bytes.now p) }

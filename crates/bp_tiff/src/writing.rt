@@ -11,8 +11,14 @@ use bp_rows::Page;
 use bp_t6::code_page;
 use std::alloc::Global;
 
-/// The TIFF file of a page: little-endian, one strip, which ends the file (TIFF 6.0, sections 2, 3, 8
-/// and 11).
+/// The TIFF file of a page: the least byte first, one strip, which ends the file (TIFF 6.0, sections
+/// 2, 3, 8 and 11).
+///
+/// ```text
+/// let page = Page::white(alloc, 8, 1, res, res, Unit::Inch)?;
+/// write_tiff(alloc, Form::Plain, &page)?.len(); // 187: a head of 186 bytes, and one of rows
+/// write_tiff(alloc, Form::G4, &page)?.len(); // 202: a head of 198 bytes, and four of codes
+/// ```
 pub fn write_tiff(alloc: Global, form: Form, page: &Page) -> Result<Bytes, OutOfMemory>
     ensures { IfOk result (λ bytes. bytes ≡ tiff_of form page.now) }
 {

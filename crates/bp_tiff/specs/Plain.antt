@@ -7,6 +7,7 @@ use Rattle.bp_core.specs.declared.refusals.Refusal.{Refusal}
 use Rattle.bp_core.specs.declared.refusals.Refusal.TheVariants as refusals
 use Rattle.bp_core.specs.declared.rules.Rule.{Rule}
 use Rattle.bp_core.specs.declared.rules.RuleKind.TheVariants.{FormNotBuilt}
+use Rattle.bp_core.specs.Rules.{bare_rule}
 use Rattle.bp_rows.specs.declared.resolution.Res.{Res}
 use Rattle.bp_rows.specs.declared.resolution.Unit.{Unit as LengthUnit}
 use Rattle.bp_rows.specs.Bits.{rows_in}
@@ -75,7 +76,7 @@ plain_page bytes =
     option_and_then (λ f. if_plain_file bytes (page_with bytes f)) (named_fields bytes)
 
 abbrev pub form_not_built : Rule
-form_not_built = record { kind = FormNotBuilt; line = 0; a = 0; b = 0 }
+form_not_built = bare_rule FormNotBuilt
 
 -- that page, or the rule that any other bytes break
 abbrev pub plain_answer : List ℕ → Result Image Rule

@@ -79,12 +79,7 @@ fn page_of(alloc: Global, fields: &Fields, strip: &[u8]) -> Result<Page, Refusal
 fn not_built() -> Rule
     ensures { result ≡ form_not_built }
 {
-    Rule {
-        kind: RuleKind::FormNotBuilt,
-        line: 0,
-        a: 0,
-        b: 0,
-    }
+    Rule::bare(RuleKind::FormNotBuilt)
 }
 
 // What the bytes say where the fields of a plain file stand.

@@ -16,7 +16,7 @@ use Rattle.bp_rows.proofs.Pages.{strip_small}
 use Rattle.bp_tiff.specs.declared.form.Form.TheVariants.{Plain}
 use Rattle.bp_tiff.specs.Tiff.{tiff_of, head_of, fields_of}
 use Rattle.bp_tiff.specs.Plain.{IsPlainFile}
-use Rattle.bp_tiff.proofs.PlainFiles.{length-head_of, plain_answer-file}
+use Rattle.bp_tiff.proofs.PlainFileLemmas.{length-head_of, plain_answer-file}
 use Rattle.bp_cli.specs.declared.burn.TheConstants.{FILE_LIMIT}
 use Rattle.bp_cli.specs.Burn.{BurnLine, HasPage, BurnAlike, lacks_a_side, burn_page, burn_read, burn_answer, burn_gives, burn_outcome}
 use Rattle.bp_cli.specs.Commands.{CommandLine, Matter, burn, AlikeFor, outcome_of}

@@ -1,2 +1,3 @@
 mod Examples
-pub mod PlainFiles
+pub mod FileLemmas
+pub mod PlainFileLemmas

@@ -1,27 +1,32 @@
 -- Reading a plain page file as this product writes it.
-use Rattle.std.specs.Prelude.{ℕ, ◌≡◌, ◌+◌, Bool, true, false, ◌&&◌, Option, Some, None, Result, Ok, Err, List, take, drop, IsTrue, if◌then◌else◌}
+use Rattle.std.specs.Prelude.{ℕ, ◌≡◌, ◌+◌, Bool, ◌&&◌, Option, Some, None, Result, Ok, Err, List, take, drop, IsTrue, if◌then◌else◌}
 use Rattle.std.specs.Int.{from_le_bytes, w16, w32}
 use Rattle.std.specs.Option.{ok_or, option_map, option_and_then}
 use Rattle.std.specs.Str.{bytes_eq}
-use Rattle.bp_core.specs.declared.rules.Rule.{Rule}
-use Rattle.bp_core.specs.declared.rules.RuleKind.TheVariants.{FormNotBuilt}
-use Rattle.bp_rows.specs.declared.resolution.Res.{Res}
-use Rattle.bp_rows.specs.declared.resolution.Unit.{Unit as LengthUnit}
 use Rattle.bp_core.specs.declared.refusals.Refusal.{Refusal}
 use Rattle.bp_core.specs.declared.refusals.Refusal.TheVariants as refusals
-use Rattle.bp_rows.specs.Image.{Image, IsPage, IsGrid}
-use Rattle.bp_rows.specs.Packed.{packed_rows}
-use Rattle.bp_rows.specs.Limits.{sides_are_allowed, sides_are_imported}
+use Rattle.bp_core.specs.declared.rules.Rule.{Rule}
+use Rattle.bp_core.specs.declared.rules.RuleKind.TheVariants.{FormNotBuilt}
+use Rattle.bp_core.specs.Rules.{bare_rule}
+use Rattle.bp_rows.specs.declared.resolution.Res.{Res}
+use Rattle.bp_rows.specs.declared.resolution.Unit.{Unit as LengthUnit}
 use Rattle.bp_rows.specs.Bits.{rows_in}
-use Rattle.bp_tiff.specs.declared.form.Form.TheVariants.{Plain}
+use Rattle.bp_rows.specs.Image.{Image, IsPage, IsGrid}
+use Rattle.bp_rows.specs.Limits.{sides_are_allowed, sides_are_imported}
+use Rattle.bp_rows.specs.Packed.{packed_rows}
 use Rattle.bp_tiff.specs.declared.fields.Fields.{Fields}
-use Rattle.bp_tiff.specs.Tiff.{tiff_of, unit_of, fields_of}
+use Rattle.bp_tiff.specs.declared.form.Form.TheVariants.{Plain}
+use Rattle.bp_tiff.specs.declared.places.TheConstants.{WIDTH_AT, HEIGHT_AT, PLAIN_UNIT_AT, PLAIN_XRES_AT, PLAIN_YRES_AT, PLAIN_STRIP_AT}
+use Rattle.bp_tiff.specs.Tiff.{tiff_of, fields_of}
+use Rattle.bp_tiff.specs.Units.{unit_of}
 
 -- the bytes are the plain file of that page, which is within the limits of an import
 pub record IsPlainFile (bytes : List ℕ) (p : Image) : Type 0 where
   pub page : IsPage p
   pub imported : IsTrue (sides_are_imported p.width p.height)
   pub file : bytes ≡ tiff_of Plain p
+
+-- ---- the page that bytes name
 
 -- the numbers that stand at a place
 abbrev pub short_at : List ℕ → ℕ → ℕ
@@ -33,39 +38,69 @@ long_at bytes at = from_le_bytes w32 (take 4 (drop at bytes))
 abbrev pub res_at : List ℕ → ℕ → Res
 res_at bytes at = record { num = long_at bytes at; den = long_at bytes (at + 4) }
 
+-- what bytes say where the fields of a plain file stand, but for the unit
 abbrev pub fields_with : List ℕ → LengthUnit → Fields
-fields_with bytes u =
-    record { width = long_at bytes 18; height = long_at bytes 30; xres = res_at bytes 170; yres = res_at bytes 178; unit = u }
+fields_with bytes u = record {
+  width = long_at bytes WIDTH_AT;
+  height = long_at bytes HEIGHT_AT;
+  xres = res_at bytes PLAIN_XRES_AT;
+  yres = res_at bytes PLAIN_YRES_AT;
+  unit = u;
+}
 
--- what bytes say where the fields of a plain file stand
+-- and the unit, where they have the code of one
 abbrev pub named_fields : List ℕ → Option Fields
-named_fields bytes = option_map (fields_with bytes) (unit_of (short_at bytes 162))
+named_fields bytes = option_map (fields_with bytes) (unit_of (short_at bytes PLAIN_UNIT_AT))
 
 -- the page of these fields, with the rows in the bytes from the strip's place on
 abbrev pub page_with : List ℕ → Fields → Image
-page_with bytes f =
-    record { width = f.width; height = f.height; xres = f.xres; yres = f.yres; unit = f.unit; rows = rows_in f.width f.height (drop 186 bytes) }
+page_with bytes f = record {
+  width = f.width;
+  height = f.height;
+  xres = f.xres;
+  yres = f.yres;
+  unit = f.unit;
+  rows = rows_in f.width f.height (drop PLAIN_STRIP_AT bytes);
+}
+
+-- ---- the answer
 
 -- a page within the limits of an import, where the bytes are its plain file
 abbrev pub if_plain_file : List ℕ → Image → Option Image
-if_plain_file bytes p = if sides_are_imported p.width p.height && bytes_eq bytes (tiff_of Plain p) then Some p else None
+if_plain_file bytes p =
+    if sides_are_imported p.width p.height && bytes_eq bytes (tiff_of Plain p) then Some p else None
 
 -- the page whose plain file the bytes are, where they are one
 abbrev pub plain_page : List ℕ → Option Image
-plain_page bytes = option_and_then (λ f. if_plain_file bytes (page_with bytes f)) (named_fields bytes)
+plain_page bytes =
+    option_and_then (λ f. if_plain_file bytes (page_with bytes f)) (named_fields bytes)
 
 abbrev pub form_not_built : Rule
-form_not_built = record { kind = FormNotBuilt; line = 0; a = 0; b = 0 }
+form_not_built = bare_rule FormNotBuilt
 
 -- that page, or the rule that any other bytes break
 abbrev pub plain_answer : List ℕ → Result Image Rule
 plain_answer bytes = ok_or (plain_page bytes) form_not_built
 
--- A strip makes the page of these fields whose packed rows it is, or breaks the rule where no rows of these sides
--- have it.
+-- ---- a page made of a strip
+
+-- the page has these fields and this strip
+pub record IsMadeOf (f : Fields) (strip : List ℕ) (p : Image) : Type 0 where
+  pub page : IsPage p
+  pub fields : fields_of p ≡ f
+  pub packed : packed_rows p.rows ≡ strip
+
+-- no rows of these sides have this strip
+abbrev pub HasNoRows : Fields → List ℕ → Type 0
+HasNoRows f strip =
+    (rows : List (List Bool))
+    → IsTrue (sides_are_allowed f.width f.height)
+    → IsGrid f.width f.height rows
+    → packed_rows rows ≡ strip
+    → ⊥
+
+-- a page is made of a strip, or the rule is broken where none has it
 abbrev pub StripMakes : Fields → List ℕ → Result Image Refusal → Type 0
-StripMakes f strip (Ok p) = IsPage p × (fields_of p ≡ f) × (packed_rows p.rows ≡ strip)
-StripMakes f strip (Err (refusals.Rule rule)) =
-    (rule ≡ form_not_built)
-    × ((rows : List (List Bool)) → IsTrue (sides_are_allowed f.width f.height) → IsGrid f.width f.height rows → packed_rows rows ≡ strip → ⊥)
+StripMakes f strip (Ok p) = IsMadeOf f strip p
+StripMakes f strip (Err (refusals.Rule rule)) = (rule ≡ form_not_built) × HasNoRows f strip
 StripMakes f strip (Err refusals.OutOfMemory) = Unit {0}

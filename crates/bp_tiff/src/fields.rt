@@ -1,7 +1,7 @@
 // What a page file says of its page beside the pixels.
-ghost use Rattle.std.specs.Prelude.{◌≡◌, MatchOption, ◌<◌};
-ghost use Rattle.bp_tiff.specs.Tiff.{unit_code, unit_of, fields_of};
-ghost use Rattle.bp_rows.specs.Image.{IsPage};
+ghost use Rattle.std.specs.Prelude.{◌≡◌};
+ghost use Rattle.bp_tiff.specs.Tiff.{fields_of};
+ghost use Rattle.bp_tiff.specs.Units.{unit_code, unit_of};
 
 use bp_rows::{Page, Res, Unit};
 

@@ -5,4 +5,6 @@
 pub enum Form {
     /// Packed rows, without compression (Compression 1).
     Plain,
+    /// Codes of ITU-T T.6 (Compression 4; section 11, Group 4).
+    G4,
 }

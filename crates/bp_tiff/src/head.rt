@@ -1,26 +1,16 @@
-// What stands in a page file before its strip.
+// What stands in a page file before its strip (TIFF 6.0, section 2).
 ghost use Rattle.std.specs.Prelude.{◌≡◌, ◌++◌, ◌<◌, ◌^◌, length, OnOk};
 ghost use Rattle.std.specs.List.{flat_map};
-ghost use Rattle.bp_tiff.specs.Tiff.{value_bytes, entry_bytes, entries, head_of};
+ghost use Rattle.bp_tiff.specs.Entries.{one_value, value_bytes, entry_bytes, directory, entries};
+ghost use Rattle.bp_tiff.specs.Tiff.{header, rational, head_of};
 
-use crate::fields::{Fields, code_of_unit};
+use crate::entries::{Entry, Value, g4_entries, plain_entries};
+use crate::fields::Fields;
 use crate::form::Form;
+use crate::places::DIRECTORY_AT;
+use crate::tags::{LONG, RATIONAL, SHORT};
 use bp_core::OutOfMemory;
-
-/// A value of a directory entry, or where it stands in the file (TIFF 6.0, section 2).
-#[derive(Clone, Copy)]
-pub enum Value {
-    Short(u16),
-    Long(u32),
-    RationalAt(u32),
-}
-
-/// An entry of the directory, with one value (TIFF 6.0, section 2).
-#[derive(Clone, Copy)]
-pub struct Entry {
-    pub tag: u16,
-    pub value: Value,
-}
+use bp_rows::Res;
 
 /// Appends the head of a file of these fields, whose strip has so many bytes.
 pub fn put_head(
@@ -31,78 +21,45 @@ pub fn put_head(
 ) -> Result<(), OutOfMemory>
     ensures { OnOk result (out.new.items ≡ out.old.items ++ head_of form fields.now strip_bytes) }
 {
-    out.extend_from_slice(b"II*\0\x08\0\0\0")?;
-    let entries = entries_of(form, fields, strip_bytes);
-    out.extend_from_slice(&(entries.len() as u16).to_le_bytes())?;
-    put_entries(out, &entries)?;
-    out.extend_from_slice(&0u32.to_le_bytes())?;
-    out.extend_from_slice(&fields.xres.num.to_le_bytes())?;
-    out.extend_from_slice(&fields.xres.den.to_le_bytes())?;
-    out.extend_from_slice(&fields.yres.num.to_le_bytes())?;
-    out.extend_from_slice(&fields.yres.den.to_le_bytes())?;
+    put_header(out)?;
+    put_fields(out, form, fields, strip_bytes)?;
+    put_rational(out, fields.xres)?;
+    put_rational(out, fields.yres)
+}
+
+fn put_header(out: &mut Vec<u8>) -> Result<(), OutOfMemory>
+    ensures { OnOk result (out.new.items ≡ out.old.items ++ header) }
+{
+    out.extend_from_slice(b"II")?;
+    out.extend_from_slice(&42u16.to_le_bytes())?;
+    out.extend_from_slice(&DIRECTORY_AT.to_le_bytes())?;
     Ok(())
 }
 
-// The entries in the order of their tags (TIFF 6.0, section 8).
-fn entries_of(form: Form, fields: &Fields, strip_bytes: u32) -> [Entry; 13]
-    ensures { result ≡ entries form fields.now strip_bytes }
+// The directory of the fields.
+fn put_fields(
+    out: &mut Vec<u8>,
+    form: Form,
+    fields: &Fields,
+    strip_bytes: u32,
+) -> Result<(), OutOfMemory>
+    ensures { OnOk result (
+        out.new.items ≡ out.old.items ++ directory (entries form fields.now strip_bytes)) }
 {
     match form {
-        Form::Plain => [
-            Entry {
-                tag: 256,
-                value: Value::Long(fields.width),
-            },
-            Entry {
-                tag: 257,
-                value: Value::Long(fields.height),
-            },
-            Entry {
-                tag: 258,
-                value: Value::Short(1),
-            },
-            Entry {
-                tag: 259,
-                value: Value::Short(1),
-            },
-            Entry {
-                tag: 262,
-                value: Value::Short(0),
-            },
-            Entry {
-                tag: 266,
-                value: Value::Short(1),
-            },
-            Entry {
-                tag: 273,
-                value: Value::Long(186),
-            },
-            Entry {
-                tag: 277,
-                value: Value::Short(1),
-            },
-            Entry {
-                tag: 278,
-                value: Value::Long(fields.height),
-            },
-            Entry {
-                tag: 279,
-                value: Value::Long(strip_bytes),
-            },
-            Entry {
-                tag: 282,
-                value: Value::RationalAt(170),
-            },
-            Entry {
-                tag: 283,
-                value: Value::RationalAt(178),
-            },
-            Entry {
-                tag: 296,
-                value: Value::Short(code_of_unit(fields.unit)),
-            },
-        ],
+        Form::Plain => put_directory(out, &plain_entries(fields, strip_bytes)),
+        Form::G4 => put_directory(out, &g4_entries(fields, strip_bytes)),
     }
+}
+
+fn put_directory(out: &mut Vec<u8>, entries: &[Entry]) -> Result<(), OutOfMemory>
+    requires { length entries.now < 2 ^ 16 }
+    ensures { OnOk result (out.new.items ≡ out.old.items ++ directory entries.now) }
+{
+    out.extend_from_slice(&(entries.len() as u16).to_le_bytes())?;
+    put_entries(out, entries)?;
+    out.extend_from_slice(&0u32.to_le_bytes())?;
+    Ok(())
 }
 
 fn put_entries(out: &mut Vec<u8>, entries: &[Entry]) -> Result<(), OutOfMemory>
@@ -121,18 +78,35 @@ fn put_value(out: &mut Vec<u8>, value: Value) -> Result<(), OutOfMemory>
 {
     match value {
         Value::Short(n) => {
-            out.extend_from_slice(&[3, 0, 1, 0, 0, 0])?;
+            put_one(out, SHORT)?;
             out.extend_from_slice(&n.to_le_bytes())?;
             out.extend_from_slice(&[0, 0])?;
         }
         Value::Long(n) => {
-            out.extend_from_slice(&[4, 0, 1, 0, 0, 0])?;
+            put_one(out, LONG)?;
             out.extend_from_slice(&n.to_le_bytes())?;
         }
         Value::RationalAt(at) => {
-            out.extend_from_slice(&[5, 0, 1, 0, 0, 0])?;
+            put_one(out, RATIONAL)?;
             out.extend_from_slice(&at.to_le_bytes())?;
         }
     }
+    Ok(())
+}
+
+// A type, and a count of one value.
+fn put_one(out: &mut Vec<u8>, kind: u16) -> Result<(), OutOfMemory>
+    ensures { OnOk result (out.new.items ≡ out.old.items ++ one_value kind) }
+{
+    out.extend_from_slice(&kind.to_le_bytes())?;
+    out.extend_from_slice(&1u32.to_le_bytes())?;
+    Ok(())
+}
+
+fn put_rational(out: &mut Vec<u8>, res: Res) -> Result<(), OutOfMemory>
+    ensures { OnOk result (out.new.items ≡ out.old.items ++ rational res) }
+{
+    out.extend_from_slice(&res.num.to_le_bytes())?;
+    out.extend_from_slice(&res.den.to_le_bytes())?;
     Ok(())
 }

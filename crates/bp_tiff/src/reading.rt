@@ -7,21 +7,26 @@ ghost use Rattle.bp_tiff.specs.Plain.{IsPlainFile, short_at, long_at, res_at, na
 use crate::fields::{Fields, unit_of_code};
 use crate::form::Form;
 use crate::head::put_head;
+use crate::places::{
+    HEIGHT_AT, PLAIN_STRIP_AT, PLAIN_UNIT_AT, PLAIN_XRES_AT, PLAIN_YRES_AT, WIDTH_AT,
+};
 use bp_core::{Refusal, Rule, RuleKind};
 use bp_rows::{Page, Res, bytes_of_strip, import_sides};
 use std::alloc::Global;
 
-// Where the strip of a plain file begins.
-const HEAD_BYTES: usize = 186;
+// How many bytes stand before the strip of a plain file.
+const HEAD_BYTES: usize = PLAIN_STRIP_AT as usize;
 
-/// The page whose plain file the bytes are, as `write_tiff` writes it. Bytes that are no plain file of
-/// a page within the limits of an import break the rule FormNotBuilt.
+/// The page whose plain file the bytes are, as `write_tiff` writes it. Bytes that are no plain file
+/// of a page within the limits of an import break the rule FormNotBuilt.
 pub fn read_plain(alloc: Global, bytes: &[u8]) -> Result<Page, Refusal>
     // What is read has the bytes as its file.
     ensures found { IfOk result (λ p. IsPlainFile bytes.now p) }
 
     // A page that has the bytes as its file is read, unless memory runs out.
-    ensures only { (p : Image) → IsPlainFile bytes.now p → MatchResult result (λ q. q ≡ p) (λ e. e ≡ Refusal.OutOfMemory) }
+    ensures only { (p : Image)
+        → IsPlainFile bytes.now p
+        → MatchResult result (λ q. q ≡ p) (λ e. e ≡ Refusal.OutOfMemory) }
 
     // Whatever the bytes are, this is the answer.
     ensures exact { Answers (λ p. p) result (plain_answer bytes.now) }
@@ -74,49 +79,44 @@ fn page_of(alloc: Global, fields: &Fields, strip: &[u8]) -> Result<Page, Refusal
 fn not_built() -> Rule
     ensures { result ≡ form_not_built }
 {
-    Rule {
-        kind: RuleKind::FormNotBuilt,
-        line: 0,
-        a: 0,
-        b: 0,
-    }
+    Rule::bare(RuleKind::FormNotBuilt)
 }
 
 // What the bytes say where the fields of a plain file stand.
 fn fields_in(bytes: &[u8]) -> Option<Fields>
-    requires { 186 ≤ length bytes.now }
+    requires { PLAIN_STRIP_AT ≤ length bytes.now }
     ensures { result ≡ named_fields bytes.now }
 {
-    let unit = unit_of_code(short(bytes, 162))?;
+    let unit = unit_of_code(read_short(bytes, PLAIN_UNIT_AT as usize))?;
     Some(Fields {
-        width: long(bytes, 18),
-        height: long(bytes, 30),
-        xres: res(bytes, 170),
-        yres: res(bytes, 178),
+        width: read_long(bytes, WIDTH_AT as usize),
+        height: read_long(bytes, HEIGHT_AT as usize),
+        xres: read_res(bytes, PLAIN_XRES_AT as usize),
+        yres: read_res(bytes, PLAIN_YRES_AT as usize),
         unit,
     })
 }
 
-fn short(bytes: &[u8], at: usize) -> u16
+fn read_short(bytes: &[u8], at: usize) -> u16
     requires { at + 2 ≤ length bytes.now }
     ensures { result ≡ short_at bytes.now at }
 {
     u16::from_le_bytes([bytes[at], bytes[at + 1]])
 }
 
-fn long(bytes: &[u8], at: usize) -> u32
+fn read_long(bytes: &[u8], at: usize) -> u32
     requires { at + 4 ≤ length bytes.now }
     ensures { result ≡ long_at bytes.now at }
 {
     u32::from_le_bytes([bytes[at], bytes[at + 1], bytes[at + 2], bytes[at + 3]])
 }
 
-fn res(bytes: &[u8], at: usize) -> Res
+fn read_res(bytes: &[u8], at: usize) -> Res
     requires { at + 8 ≤ length bytes.now }
     ensures { result ≡ res_at bytes.now at }
 {
     Res {
-        num: long(bytes, at),
-        den: long(bytes, at + 4),
+        num: read_long(bytes, at),
+        den: read_long(bytes, at + 4),
     }
 }

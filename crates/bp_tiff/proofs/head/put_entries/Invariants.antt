@@ -1,6 +1,6 @@
 use Rattle.std.proofs.Common.{◌≡◌, ◌++◌, take}
 use Rattle.std.specs.List.{flat_map}
-use Rattle.bp_tiff.specs.Tiff.{entry_bytes}
+use Rattle.bp_tiff.specs.Entries.{entry_bytes}
 use Rattle.bp_tiff.proofs.head.put_entries.Given as goal
 
 abbrev pub invariant-loop-entry : goal.invariant-loop-entry

@@ -1,5 +1,8 @@
-use Rattle.bp_tiff.proofs.PlainFiles.{one_file}
+use Rattle.bp_tiff.proofs.FileLemmas.{same_form, one_page}
 use Rattle.bp_tiff.proofs.laws.one_page_a_file.Goals as goal
 
-pub returns : goal.returns
-returns c = one_file
+pub returns-clause-page : goal.returns-clause-page
+returns-clause-page c = one_page c.strip_law.ensures
+
+pub returns-clause-form : goal.returns-clause-form
+returns-clause-form c = same_form

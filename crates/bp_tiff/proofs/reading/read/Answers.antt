@@ -1,12 +1,13 @@
-use Rattle.std.proofs.Common.{ℕ, ◌≡◌, ◌<◌, ◌++◌, [], List, Some, Err, true, false, not, IsTrue, length, take, drop, arith, refl, sym, ap, subst, ◌∙◌}
+use Rattle.std.proofs.Common.{ℕ, ◌≡◌, ◌++◌, List, Some, Err, true, false, not, IsTrue, length, take, drop, arith, sym, ap, subst, ◌∙◌}
 use Rattle.std.specs.Str.{bytes_eq}
 use Rattle.std.proofs.lemmas.Bool.{false≢true, true≢false, not-false}
 use Rattle.std.proofs.lemmas.Slice.Eq.{bytes_eq-Decides}
 use Rattle.bp_rows.specs.Limits.{sides_are_imported}
 use Rattle.bp_tiff.specs.declared.form.Form.TheVariants.{Plain}
+use Rattle.bp_tiff.specs.declared.places.TheConstants.{PLAIN_STRIP_AT}
 use Rattle.bp_tiff.specs.Tiff.{head_of}
-use Rattle.bp_tiff.specs.Plain.{named_fields, plain_answer, form_not_built, StripMakes}
-use Rattle.bp_tiff.proofs.PlainFiles.{none_short, none_named, read_strip, read_file}
+use Rattle.bp_tiff.specs.Plain.{named_fields, StripMakes}
+use Rattle.bp_tiff.proofs.PlainFileLemmas.{none_short, none_named, read_strip, read_file}
 use Rattle.bp_tiff.proofs.reading.read.Goals as goal
 use Rattle.bp_tiff.proofs.reading.read.Goals.{then-not-import_sides-via-then-not-import_sides, then-not-import_sides-via-else-not-import_sides+then-strip-bytes_of_strip}
 
@@ -37,7 +38,7 @@ returns-then-ne-clause-exact c =
     let bytes = c.args.bytes.now in
     let fields = c.in-Some.fields in
     let named : named_fields bytes ≡ Some fields = sym c.in-Some.ensures in
-    let wanted : c.as_slice.result.now ≡ head_of Plain fields (length (drop 186 bytes)) =
+    let wanted : c.as_slice.result.now ≡ head_of Plain fields (length (drop PLAIN_STRIP_AT bytes)) =
     c.as_slice.ensures.value ∙ c.in_ok-put_head.ensures ∙ ap (λ xs. xs ++ head_of Plain fields (length c.split_at.result.1.now)) c.in_ok-wanted.ensures.items
     ∙ ap (λ xs. head_of Plain fields (length xs)) c.split_at.ensures.back in
     none_named bytes fields named
@@ -45,7 +46,7 @@ returns-then-ne-clause-exact c =
     ∙ ap Err (sym c.not_built-then-ne.ensures)
 
 -- what stands before the strip, where all was found right
-head_found : (c : goal.After-drop-wanted-2) → take 186 c.args.bytes.now ≡ head_of Plain c.in-Some.fields (length (drop 186 c.args.bytes.now))
+head_found : (c : goal.After-drop-wanted-2) → take PLAIN_STRIP_AT c.args.bytes.now ≡ head_of Plain c.in-Some.fields (length (drop PLAIN_STRIP_AT c.args.bytes.now))
 head_found c =
     sym c.split_at.ensures.front ∙ sym (found_same c.as_slice.result.now c.split_at.result.0.now c.if-ne.ensures)
     ∙ c.as_slice.ensures.value ∙ c.in_ok-put_head.ensures
@@ -55,7 +56,7 @@ head_found c =
 imported_found : (c : goal.After-drop-wanted-2) → IsTrue (sides_are_imported c.in-Some.fields.width c.in-Some.fields.height)
 imported_found c = sym c.if-not-import_sides.ensures
 
-made_found : (c : goal.After-drop-wanted-2) → StripMakes c.in-Some.fields (drop 186 c.args.bytes.now) c.page_of.result
+made_found : (c : goal.After-drop-wanted-2) → StripMakes c.in-Some.fields (drop PLAIN_STRIP_AT c.args.bytes.now) c.page_of.result
 made_found c = subst (λ (strip : List ℕ). StripMakes c.in-Some.fields strip c.page_of.result) c.split_at.ensures.back c.page_of.ensures
 
 pub returns-clause-found : goal.returns-clause-found

@@ -1,4 +1,4 @@
-use Rattle.bp_tiff.proofs.PlainFiles.{read_only}
+use Rattle.bp_tiff.proofs.PlainFileLemmas.{read_only}
 use Rattle.bp_tiff.proofs.reading.read_plain.Goals as goal
 
 pub returns-clause-only : goal.returns-clause-only

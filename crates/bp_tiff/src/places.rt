@@ -1,0 +1,42 @@
+// Where the parts of a page file stand, in bytes from its first.
+ghost use Rattle.std.specs.Prelude.{◌≡◌};
+ghost use Rattle.bp_tiff.specs.Places.{strip_at};
+
+use crate::form::Form;
+
+/// The directory.
+pub const DIRECTORY_AT: u32 = 8;
+
+/// The value of ImageWidth, the first entry.
+pub const WIDTH_AT: u32 = 18;
+/// The value of ImageLength, the second entry.
+pub const HEIGHT_AT: u32 = 30;
+
+/// In a plain file, which has thirteen entries: the value of ResolutionUnit, the last of them.
+pub const PLAIN_UNIT_AT: u32 = 162;
+/// The resolution across.
+pub const PLAIN_XRES_AT: u32 = 170;
+/// The resolution down.
+pub const PLAIN_YRES_AT: u32 = 178;
+/// The strip, which ends the file.
+pub const PLAIN_STRIP_AT: u32 = 186;
+
+/// In a file of the form G4, which has fourteen entries: the value of ResolutionUnit, the last of
+/// them.
+pub const G4_UNIT_AT: u32 = 174;
+/// The resolution across.
+pub const G4_XRES_AT: u32 = 182;
+/// The resolution down.
+pub const G4_YRES_AT: u32 = 190;
+/// The strip, which ends the file.
+pub const G4_STRIP_AT: u32 = 198;
+
+/// How many bytes stand before the strip of a file.
+pub fn bytes_of_head(form: Form) -> u32
+    ensures { result ≡ strip_at form }
+{
+    match form {
+        Form::Plain => PLAIN_STRIP_AT,
+        Form::G4 => G4_STRIP_AT,
+    }
+}

@@ -12,7 +12,7 @@ use Rattle.bp_outside.specs.Source.{SourceView, after_read}
 use Rattle.bp_outside.specs.Folder as folders
 use Rattle.bp_outside.specs.Out as outs
 use Rattle.bp_outside.specs.Memory.{after_call, file_map, is_sure, next_fails, no_calls, paths_differ}
-use Rattle.bp_outside.proofs.Rows.{get-first_with}
+use Rattle.bp_outside.proofs.FileMapLemmas.{get-first_with}
 
 first : risen 0 ≡ 1
 first = refl

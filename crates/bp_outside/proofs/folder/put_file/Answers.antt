@@ -1,5 +1,5 @@
 use Rattle.std.proofs.lemmas.Result.{err_from_is_err_and}
-use Rattle.bp_outside.proofs.Added.{put_in_part, put_whole}
+use Rattle.bp_outside.proofs.FolderLemmas.{put_in_part, put_whole}
 use Rattle.bp_outside.proofs.folder.put_file.Goals as goal
 
 pub returns-in_err-append_all : goal.returns-in_err-append_all

@@ -1,5 +1,5 @@
 use Rattle.std.proofs.Common.{◌∙◌}
-use Rattle.bp_outside.proofs.Held.{last_grown}
+use Rattle.bp_outside.proofs.MemoryLemmas.{last_grown}
 use Rattle.bp_outside.proofs.memory.folder.add_bytes.Goals as goal
 
 pub returns : goal.returns

@@ -6,7 +6,7 @@ use Rattle.bp_outside.specs.declared.files.FileRow.{FileRow}
 use Rattle.bp_outside.specs.declared.memory.calls.Calls.{Calls}
 use Rattle.bp_outside.specs.Folder.{AddsPrefix, add_to_last}
 use Rattle.bp_outside.specs.Memory.{next_fails, after_call, is_sure}
-use Rattle.bp_outside.proofs.Added.{last_nothing}
+use Rattle.bp_outside.proofs.FolderLemmas.{last_nothing}
 
 not_empty : (x : ℕ) (xs : List ℕ) → (length (x ∷ xs) == 0) ≡ false
 not_empty x xs = grind arith

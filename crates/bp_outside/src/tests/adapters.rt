@@ -1,0 +1,183 @@
+// The adapters over a runtime of the tests' own: what they ask of the system, call by call, and what they
+// make of its answers.
+use super::stage::{NONE, Stage};
+use crate::{
+    FileFolder, FileSource, Folder, FolderRefusal, Out, OutRefusal, ReadRefusal, Source, StdOut,
+    put_file, write_all,
+};
+use std::io::ErrorKind;
+use std::test::Fail;
+
+// The calls are the opening (0), the length (1) and the reads of 2 bytes, of 1 and of none (2 to 4).
+#[test]
+fn a_source_tells_absent_from_failed(rt: HostRuntime) -> Result<(), Fail> {
+    let alloc = rt.alloc();
+    for (failing, kind, refusal) in [
+        (0, ErrorKind::NotFound, ReadRefusal::Absent),
+        (0, ErrorKind::NotADirectory, ReadRefusal::Absent),
+        (0, ErrorKind::PermissionDenied, ReadRefusal::Failed),
+        (0, ErrorKind::IsADirectory, ReadRefusal::Failed),
+        (0, ErrorKind::FilesystemLoop, ReadRefusal::Failed),
+        (0, ErrorKind::InvalidFilename, ReadRefusal::Failed),
+        (0, ErrorKind::InvalidInput, ReadRefusal::Failed),
+        (0, ErrorKind::OutOfMemory, ReadRefusal::Failed),
+        (1, ErrorKind::NotFound, ReadRefusal::Failed),
+        (2, ErrorKind::NotFound, ReadRefusal::Failed),
+        (3, ErrorKind::OutOfMemory, ReadRefusal::Failed),
+        (4, ErrorKind::Interrupted, ReadRefusal::Failed),
+    ] {
+        let stage = Stage::new(alloc, failing, kind, b"123", 2);
+        let system = &stage;
+        let mut source = FileSource::below(&system, "in");
+        let answer = source.read(alloc, "a.tif", 3).err();
+        assert_eq!(rt; answer, Some(refusal), "{kind:?} at call {failing}");
+    }
+    Ok(())
+}
+
+// A source asks for that path below its folder, and for nothing else.
+#[test]
+fn a_source_reads_that_file_alone(rt: HostRuntime) -> Result<(), Fail> {
+    let alloc = rt.alloc();
+    for (path, max, lines) in [
+        ("a.tif", 3, "read in/a.tif\nlength\nread\nread\nread\n"),
+        (
+            "/etc/b",
+            u64::MAX,
+            "read in//etc/b\nlength\nread\nread\nread\n",
+        ),
+        ("a.tif", 2, "read in/a.tif\nlength\nread\nread\n"),
+        ("a.tif", 0, "read in/a.tif\nlength\nread\n"),
+    ] {
+        let stage = Stage::new(alloc, NONE, ErrorKind::Other, b"123", 2);
+        let system = &stage;
+        let mut source = FileSource::below(&system, "in");
+        match source.read(alloc, path, max) {
+            Ok(bytes) => assert_eq!(rt; bytes.as_slice(), b"123".as_slice()),
+            Err(refusal) => {
+                assert_eq!(rt; refusal, ReadRefusal::TooLong);
+                assert!(rt; max < 3);
+            }
+        }
+        assert_eq!(rt; stage.lines().as_str(), lines);
+        assert_eq!(rt; stage.written().len(), 0);
+    }
+    Ok(())
+}
+
+// The calls are the folder (0), the opening (1) and the writes of 2 bytes and of 1 (2 and 3).
+#[test]
+fn a_folder_fails_where_the_system_does(rt: HostRuntime) -> Result<(), Fail> {
+    let alloc = rt.alloc();
+    for (failing, kind, step, lines) in [
+        (
+            0,
+            ErrorKind::StorageFull,
+            2,
+            "create_dir out\nmetadata out\n",
+        ),
+        (
+            1,
+            ErrorKind::OutOfMemory,
+            2,
+            "create_dir out\nempty out/a.tif\n",
+        ),
+        (
+            2,
+            ErrorKind::StorageFull,
+            2,
+            "create_dir out\nempty out/a.tif\nwrite\n",
+        ),
+        (
+            3,
+            ErrorKind::OutOfMemory,
+            2,
+            "create_dir out\nempty out/a.tif\nwrite\nwrite\n",
+        ),
+        (
+            NONE,
+            ErrorKind::Other,
+            0,
+            "create_dir out\nempty out/a.tif\nwrite\n",
+        ),
+    ] {
+        let stage = Stage::new(alloc, failing, kind, &[], step);
+        let system = &stage;
+        let mut folder = FileFolder::below(&system, "out");
+        let answer = put_file(alloc, &mut folder, "a.tif", b"123");
+        assert_eq!(rt;
+            answer,
+            Err(FolderRefusal::Failed),
+            "{kind:?} at call {failing}"
+        );
+        assert_eq!(rt; stage.lines().as_str(), lines);
+    }
+    Ok(())
+}
+
+// A file is put at that path below the folder, and nowhere else.
+#[test]
+fn a_folder_writes_that_file_alone(rt: HostRuntime) -> Result<(), Fail> {
+    let alloc = rt.alloc();
+    for (path, lines) in [
+        ("a.tif", "create_dir out\nempty out/a.tif\nwrite\nwrite\n"),
+        (
+            "v/a.tif",
+            "create_dir out/v\nempty out/v/a.tif\nwrite\nwrite\n",
+        ),
+        (
+            "/etc/a.tif",
+            "create_dir out//etc\nempty out//etc/a.tif\nwrite\nwrite\n",
+        ),
+    ] {
+        let stage = Stage::new(alloc, NONE, ErrorKind::Other, &[], 2);
+        let system = &stage;
+        let mut folder = FileFolder::below(&system, "out");
+        put_file(alloc, &mut folder, path, b"123")?;
+        assert_eq!(rt; stage.lines().as_str(), lines);
+        assert_eq!(rt; stage.written().as_slice(), b"123".as_slice());
+    }
+    Ok(())
+}
+
+// The calls are the writes of 2 bytes, 2 bytes and 1. An out that takes nothing fails.
+#[test]
+fn an_out_fails_where_the_system_does(rt: HostRuntime) -> Result<(), Fail> {
+    let alloc = rt.alloc();
+    for (failing, kind, step, lines, bytes) in [
+        (0, ErrorKind::BrokenPipe, 2, "print\n", "".as_bytes()),
+        (
+            1,
+            ErrorKind::OutOfMemory,
+            2,
+            "print\nprint\n",
+            "ok".as_bytes(),
+        ),
+        (
+            2,
+            ErrorKind::StorageFull,
+            2,
+            "print\nprint\nprint\n",
+            "ok 1".as_bytes(),
+        ),
+        (NONE, ErrorKind::Other, 0, "print\n", "".as_bytes()),
+    ] {
+        let stage = Stage::new(alloc, failing, kind, &[], step);
+        let mut out = StdOut::of(&stage);
+        let answer = write_all(alloc, &mut out, b"ok 1\n");
+        assert_eq!(rt;
+            answer,
+            Err(OutRefusal::Failed),
+            "{kind:?} at call {failing}"
+        );
+        assert_eq!(rt; stage.lines().as_str(), lines);
+        assert_eq!(rt; stage.written().as_slice(), bytes);
+    }
+    let stage = Stage::new(alloc, NONE, ErrorKind::Other, &[], 2);
+    let mut out = StdOut::of(&stage);
+    write_all(alloc, &mut out, b"ok 1\n")?;
+    assert_eq!(rt; out.write(alloc, b"")?, 0);
+    assert_eq!(rt; stage.lines().as_str(), "print\nprint\nprint\nprint\n");
+    assert_eq!(rt; stage.written().as_slice(), b"ok 1\n".as_slice());
+    Ok(())
+}

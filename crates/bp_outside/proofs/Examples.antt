@@ -33,13 +33,16 @@ text = folders.file (codes "b/a.txt") []
 abbrev begun : folders.FolderView
 begun = record { files = Some (page ∷ text ∷ []); under_way = true; faults = 4; sure = false }
 
-bytes_go_to_the_last_file : folders.with_bytes begun (7 ∷ 8 ∷ []) ≡ record begun { files = Some (page ∷ folders.file (codes "b/a.txt") (7 ∷ 8 ∷ []) ∷ []) }
+bytes_go_to_the_last_file : folders.with_bytes begun (7 ∷ 8 ∷ [])
+    ≡ record begun { files = Some (page ∷ folders.file (codes "b/a.txt") (7 ∷ 8 ∷ []) ∷ []) }
 bytes_go_to_the_last_file = refl
 
-a_new_file_is_last : folders.after_create begun (codes "c") (Ok tt) ≡ record begun { files = Some (page ∷ text ∷ folders.file (codes "c") [] ∷ []) }
+a_new_file_is_last : folders.after_create begun (codes "c") (Ok tt)
+    ≡ record begun { files = Some (page ∷ text ∷ folders.file (codes "c") [] ∷ []) }
 a_new_file_is_last = refl
 
-a_refusal_leaves_the_files : folders.after_create begun (codes "c") (Err folder_refusals.Failed) ≡ record begun { faults = 5 }
+a_refusal_leaves_the_files : folders.after_create begun (codes "c") (Err folder_refusals.Failed)
+    ≡ record begun { faults = 5 }
 a_refusal_leaves_the_files = refl
 
 the_end : folders.after_finish begun (Ok tt) ≡ record begun { under_way = false }
@@ -54,7 +57,8 @@ untold_stays_untold = refl
 abbrev printed : outs.OutView
 printed = record { written = Some (codes "ok "); faults = 0; sure = true }
 
-more_is_written : outs.with_written printed (codes "1") ≡ record printed { written = Some (codes "ok 1") }
+more_is_written : outs.with_written printed (codes "1")
+    ≡ record printed { written = Some (codes "ok 1") }
 more_is_written = refl
 
 want_of_memory_is_no_fault : outs.after_refusal printed out_refusals.OutOfMemory ≡ printed

@@ -5,8 +5,8 @@ use Rattle.std.specs.Io.KnownBytes.{Consumes}
 use Rattle.bp_outside.specs.declared.refusals.ReadRefusal.{ReadRefusal}
 use Rattle.bp_outside.specs.declared.refusals.ReadRefusal.TheVariants.{Absent, TooLong, Failed, OutOfMemory}
 
--- what the answer says of the bytes that the reader had: all of them, or more than max; nothing where the reading
--- failed or memory ran out
+-- what the answer says of the bytes that the reader had: all of them, or more than max; nothing
+-- where the reading failed or memory ran out
 abbrev pub ReadsWhole : ℕ → Result (Vec ℕ Global) ReadRefusal → List ℕ → Type 0
 ReadsWhole max (Ok bytes) known = known ≡ bytes.items
 ReadsWhole max (Err Absent) known = ⊥

@@ -12,8 +12,8 @@ use Rattle.bp_outside.specs.declared.refusals.ReadRefusal.TheVariants.{Absent, T
 abbrev pub FileMap : Type 0
 FileMap = map.FinMap (slice_cmp nat_cmp) (List ℕ)
 
--- what is known of a source: its files, if they are told; how often a read failed, found no file, found
--- a file over its limit; and whether it is sure, one that can't fail
+-- what is known of a source: its files, if they are told; how often a read failed, found no file,
+-- found a file over its limit; and whether it is sure, one that can't fail
 pub record SourceView : Type 0 where
   pub files : Option FileMap
   pub faults : ℕ
@@ -21,9 +21,9 @@ pub record SourceView : Type 0 where
   pub overlong : ℕ
   pub sure : Bool
 
--- what a read of at most max bytes at a path may answer over these files. As Ok gives at most max bytes,
--- no two of the first three lines hold at once: where nothing failed and memory served, each answer comes
--- exactly where its line holds
+-- what a read of at most max bytes at a path may answer over these files. As Ok gives at most max
+-- bytes, no two of the first three lines hold at once: where nothing failed and memory served, each
+-- answer comes exactly where its line holds
 abbrev pub ReadOver : List ℕ → ℕ → Result (Vec ℕ Global) ReadRefusal → FileMap → Type 0
 ReadOver path max (Ok bytes) files = map.get files path ≡ Some bytes.items
 ReadOver path max (Err Absent) files = map.get files path ≡ None

@@ -7,8 +7,8 @@ use Rattle.bp_outside.specs.Counts.{risen}
 use Rattle.bp_outside.specs.declared.refusals.ReadRefusal.{ReadRefusal}
 use Rattle.bp_outside.specs.declared.refusals.ReadRefusal.TheVariants.{Absent, Failed}
 
--- how many bytes of a piece of that length a write took; failed where it was an error, and where it took
--- nothing of a piece that has any
+-- how many bytes of a piece of that length a write took; failed where it was an error, and where it
+-- took nothing of a piece that has any
 abbrev pub write_answer : {E : Type 0} → E → ℕ → Result ℕ Error → Result ℕ E
 write_answer failed length (Ok count) =
     if (count == 0) && not (length == 0) then Err failed else Ok count

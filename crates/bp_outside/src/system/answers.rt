@@ -1,4 +1,4 @@
-// What the system's answers say to a source, a folder and an out. Each is a function over the answer.
+// What the system's answers say to a source, a folder and an out. Each is a function of the answer.
 ghost use Rattle.std.specs.Prelude.{◌≡◌, ◌++◌, ◌∷◌, IfOk, string_bytes};
 ghost use Rattle.std.specs.Path.{slash};
 ghost use Rattle.bp_outside.specs.SystemAnswers.{after_answer, opening_refusal, write_answer};
@@ -8,8 +8,8 @@ use std::alloc::{AllocError, Global};
 use std::io;
 use std::io::ErrorKind;
 
-// How many bytes of a piece of `length` bytes a write took. Where it was an error, or took nothing of a
-// piece that has any, it is `failed`, and the faults rise.
+// How many bytes of a piece of `length` bytes a write took. Where it was an error, or took nothing
+// of a piece that has any, it is `failed`, and the faults rise.
 pub fn write_answer<E: Copy>(
     answer: io::Result<usize>,
     length: usize,

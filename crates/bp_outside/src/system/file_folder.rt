@@ -39,8 +39,8 @@ impl<'a, R: Files> FileFolder<'a, R> {
         }
     }
 
-    // Takes the system's answer to opening a file as the file under way, which ends the one before. An
-    // error leaves that one, and is counted.
+    // Takes the system's answer to opening a file as the file under way, which ends the one before.
+    // An error leaves that one, and is counted.
     fn begin(&mut self, opened: io::Result<R::File>) -> Result<(), FolderRefusal>
         ensures begun { IfOk opened (λ file. self.new.file ≡ Some file) }
         ensures ok { IfOk opened (λ _. result ≡ Ok tt) }
@@ -78,8 +78,8 @@ impl<'a, R: Files> Folder for FileFolder<'a, R> {
     /// Takes no memory, so it never runs out of it.
     fn append(&mut self, _alloc: Global, piece: &[u8]) -> Result<usize, FolderRefusal>
         requires { (untold_folder (is_some self.old.file) self.old.faults).under_way ≡ true }
-        ensures appends { Appends (untold_folder (is_some self.old.file) self.old.faults) piece.now result
-            (untold_folder (is_some self.new.file) self.new.faults) }
+        ensures appends { Appends (untold_folder (is_some self.old.file) self.old.faults)
+            piece.now result (untold_folder (is_some self.new.file) self.new.faults) }
         ensures bytes { AppendsTo R.File.contents self.old.file self.new.file result piece.now }
         ensures no_memory { ¬ (IsErrOf result FolderRefusal.OutOfMemory) }
     {

@@ -45,7 +45,8 @@ impl<F: Read + OpenFile> OpenedFile<F> {
     pub fn read(&mut self, room: &mut [u8]) -> io::Result<usize>
         requires { self.old.failed ≡ false }
         ensures bound { ReadsAtMost result room.new }
-        ensures bytes { ReadConsumes (F.remaining self.old.file) (F.remaining self.new.file) result room.new }
+        ensures bytes { ReadConsumes (F.remaining self.old.file) (F.remaining self.new.file) result
+            room.new }
         ensures failed { IsErr result ↔ IsTrue self.new.failed }
     {
         let answer = self.file.read(room);

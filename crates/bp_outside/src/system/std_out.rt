@@ -33,7 +33,8 @@ impl<'a, R: Print> Out for StdOut<'a, R> {
 
     /// Takes no memory, so it never runs out of it.
     fn write(&mut self, _alloc: Global, piece: &[u8]) -> Result<usize, OutRefusal>
-        ensures writes { Writes (untold_out self.old.faults) piece.now result (untold_out self.new.faults) }
+        ensures writes { Writes (untold_out self.old.faults) piece.now result
+            (untold_out self.new.faults) }
         ensures no_memory { ¬ (IsErrOf result OutRefusal.OutOfMemory) }
     {
         let answer = self.rt.write_some(piece);

@@ -26,9 +26,8 @@ fn a_source_tells_absent_from_failed(rt: HostRuntime) -> Result<(), Fail> {
         (3, ErrorKind::OutOfMemory, ReadRefusal::Failed),
         (4, ErrorKind::Interrupted, ReadRefusal::Failed),
     ] {
-        let stage = Stage::new(alloc, failing, kind, b"123", 2);
-        let system = &stage;
-        let mut source = FileSource::below(&system, "in");
+        let stage = Stage::new(alloc, failing, kind, b"123", 2)?;
+        let mut source = FileSource::below(&stage, "in");
         let answer = source.read(alloc, "a.tif", 3).err();
         assert_eq!(rt; answer, Some(refusal), "{kind:?} at call {failing}");
     }
@@ -49,9 +48,8 @@ fn a_source_reads_that_file_alone(rt: HostRuntime) -> Result<(), Fail> {
         ("a.tif", 2, "read in/a.tif\nlength\nread\nread\n"),
         ("a.tif", 0, "read in/a.tif\nlength\nread\n"),
     ] {
-        let stage = Stage::new(alloc, NONE, ErrorKind::Other, b"123", 2);
-        let system = &stage;
-        let mut source = FileSource::below(&system, "in");
+        let stage = Stage::new(alloc, NONE, ErrorKind::Other, b"123", 2)?;
+        let mut source = FileSource::below(&stage, "in");
         match source.read(alloc, path, max) {
             Ok(bytes) => assert_eq!(rt; bytes.as_slice(), b"123".as_slice()),
             Err(refusal) => {
@@ -101,9 +99,8 @@ fn a_folder_fails_where_the_system_does(rt: HostRuntime) -> Result<(), Fail> {
             "create_dir out\nempty out/a.tif\nwrite\n",
         ),
     ] {
-        let stage = Stage::new(alloc, failing, kind, &[], step);
-        let system = &stage;
-        let mut folder = FileFolder::below(&system, "out");
+        let stage = Stage::new(alloc, failing, kind, &[], step)?;
+        let mut folder = FileFolder::below(&stage, "out");
         let answer = put_file(alloc, &mut folder, "a.tif", b"123");
         assert_eq!(rt;
             answer,
@@ -130,9 +127,8 @@ fn a_folder_writes_that_file_alone(rt: HostRuntime) -> Result<(), Fail> {
             "create_dir out//etc\nempty out//etc/a.tif\nwrite\nwrite\n",
         ),
     ] {
-        let stage = Stage::new(alloc, NONE, ErrorKind::Other, &[], 2);
-        let system = &stage;
-        let mut folder = FileFolder::below(&system, "out");
+        let stage = Stage::new(alloc, NONE, ErrorKind::Other, &[], 2)?;
+        let mut folder = FileFolder::below(&stage, "out");
         put_file(alloc, &mut folder, path, b"123")?;
         assert_eq!(rt; stage.lines().as_str(), lines);
         assert_eq!(rt; stage.written().as_slice(), b"123".as_slice());
@@ -162,7 +158,7 @@ fn an_out_fails_where_the_system_does(rt: HostRuntime) -> Result<(), Fail> {
         ),
         (NONE, ErrorKind::Other, 0, "print\n", "".as_bytes()),
     ] {
-        let stage = Stage::new(alloc, failing, kind, &[], step);
+        let stage = Stage::new(alloc, failing, kind, &[], step)?;
         let mut out = StdOut::of(&stage);
         let answer = write_all(alloc, &mut out, b"ok 1\n");
         assert_eq!(rt;
@@ -173,7 +169,7 @@ fn an_out_fails_where_the_system_does(rt: HostRuntime) -> Result<(), Fail> {
         assert_eq!(rt; stage.lines().as_str(), lines);
         assert_eq!(rt; stage.written().as_slice(), bytes);
     }
-    let stage = Stage::new(alloc, NONE, ErrorKind::Other, &[], 2);
+    let stage = Stage::new(alloc, NONE, ErrorKind::Other, &[], 2)?;
     let mut out = StdOut::of(&stage);
     write_all(alloc, &mut out, b"ok 1\n")?;
     assert_eq!(rt; out.write(alloc, b"")?, 0);

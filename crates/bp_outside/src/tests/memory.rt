@@ -74,11 +74,8 @@ fn a_file_is_put_whole_or_in_part(rt: HostRuntime) -> Result<(), Fail> {
         assert_eq!(rt; answer.is_ok(), failing == 5, "at call {failing}");
         assert_eq!(rt; folder.files().len(), files, "at call {failing}");
         if let Some(last) = folder.files().last() {
-            assert_eq!(rt;
-                last.bytes.as_slice(),
-                &bytes[..length],
-                "at call {failing}"
-            );
+            assert_eq!(rt; last.bytes.len(), length, "at call {failing}");
+            assert!(rt; bytes.as_slice().starts_with(last.bytes.as_slice()));
         }
     }
     Ok(())
@@ -98,7 +95,8 @@ fn a_piece_is_written_whole_or_in_part(rt: HostRuntime) -> Result<(), Fail> {
             Ok(())
         };
         assert_eq!(rt; answer, refusal, "at call {failing}");
-        assert_eq!(rt; out.written(), &bytes[..length], "at call {failing}");
+        assert_eq!(rt; out.written().len(), length, "at call {failing}");
+        assert!(rt; bytes.as_slice().starts_with(out.written()));
     }
     Ok(())
 }

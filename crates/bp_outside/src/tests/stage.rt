@@ -1,64 +1,86 @@
 // A runtime of the tests' own. It keeps a line for each call that it gets, and the bytes that were written,
 // and fails at one call. Each file that is opened holds the same bytes.
+ghost use Rattle.std.specs.Prelude.{◌≤◌, length, IfOk};
+
 use std::alloc::{AllocError, Allocator, Global};
 use std::cell::Cell;
 use std::fmt::Display;
 use std::fs::{Metadata, OpenFile, OpenOptions};
 use std::io;
 use std::io::{ErrorKind, Read, Seek, SeekFrom, Write};
+use std::rc::Rc;
 use std::rt::Files;
 
 // No call fails.
 pub const NONE: u64 = u64::MAX;
 
 #[derive(Drop)]
-pub struct Stage<'a> {
+pub struct Stage {
+    book: Rc<Book>,
+}
+
+// What the stage and its open files share.
+#[derive(Drop)]
+struct Book {
     alloc: Global,
     // The number, from 0, of the call that fails, and the kind of its error.
     failing: u64,
     kind: ErrorKind,
     // What each file holds, and how many bytes of a file or a piece one call moves at most.
-    holds: &'a [u8],
+    holds: Vec<u8>,
     step: usize,
     calls: Cell<u64>,
     lines: Cell<String>,
     written: Cell<Vec<u8>>,
 }
 
-impl<'a> Stage<'a> {
+impl Stage {
     pub fn new(
         alloc: Global,
         failing: u64,
         kind: ErrorKind,
-        holds: &'a [u8],
+        holds: &[u8],
         step: usize,
-    ) -> Stage<'a> {
-        Stage {
+    ) -> Result<Stage, AllocError> {
+        let book = Book {
             alloc,
             failing,
             kind,
-            holds,
+            holds: Vec::from_slice(alloc, holds)?,
             step,
             calls: Cell::new(0),
             lines: Cell::new(String::new(alloc)),
             written: Cell::new(Vec::new(alloc)),
-        }
+        };
+        Ok(Stage {
+            book: Rc::new(alloc, book)?,
+        })
     }
 
     // The calls so far, a line each.
     pub fn lines(&self) -> String {
-        self.lines.replace(String::new(self.alloc))
+        self.book.take_lines()
     }
 
     // The bytes written so far.
     pub fn written(&self) -> Vec<u8> {
+        self.book.take_written()
+    }
+}
+
+impl Book {
+    fn take_lines(&self) -> String {
+        self.lines.replace(String::new(self.alloc))
+    }
+
+    fn take_written(&self) -> Vec<u8> {
         self.written.replace(Vec::new(self.alloc))
     }
 
     fn call(&self, line: &str) -> io::Result<()> {
         let number = self.calls.get();
         self.calls.set(number.saturating_add(1));
-        let mut lines = self.lines();
+        let mut lines = self.take_lines();
         let kept = add_line(&mut lines, line);
         self.lines.set(lines);
         kept?;
@@ -74,10 +96,12 @@ impl<'a> Stage<'a> {
     }
 
     // Takes the first bytes of the piece.
-    fn take(&self, line: &str, piece: &[u8]) -> io::Result<usize> {
+    fn take(&self, line: &str, piece: &[u8]) -> io::Result<usize>
+        ensures { IfOk result (λ count. count ≤ length piece.now) }
+    {
         self.call(line)?;
         let count = piece.len().min(self.step);
-        let mut written = self.written();
+        let mut written = self.take_written();
         let kept = written.extend_from_slice(&piece[..count]);
         self.written.set(written);
         kept?;
@@ -90,22 +114,22 @@ fn add_line(lines: &mut String, line: &str) -> Result<(), AllocError> {
     lines.push_str("\n")
 }
 
-impl<'a> Print for Stage<'a> {
+impl Print for Stage {
     fn print<D: Display + Drop>(&self, _value: D) -> io::Result<()> {
-        self.call("print a value")
+        self.book.call("print a value")
     }
 
     fn println<D: Display + Drop>(&self, _value: D) -> io::Result<()> {
-        self.call("print a line")
+        self.book.call("print a line")
     }
 
     fn write_all(&self, bytes: &[u8]) -> io::Result<()> {
-        self.take("print all", bytes)?;
+        self.book.take("print all", bytes)?;
         Ok(())
     }
 
     fn write_some(&self, bytes: &[u8]) -> io::Result<usize> {
-        self.take("print", bytes)
+        self.book.take("print", bytes)
     }
 }
 
@@ -118,111 +142,112 @@ fn letters(how: &OpenOptions) -> &'static str {
     }
 }
 
-impl<'a> Files for &'a Stage<'a> {
-    type File = StagedFile<'a>;
+impl Files for Stage {
+    type File = StagedFile;
 
-    type Dir = StagedFile<'a>;
+    type Dir = StagedFile;
 
-    fn open_file(&self, how: &OpenOptions, path: &str) -> io::Result<StagedFile<'a>> {
+    fn open_file(&self, how: &OpenOptions, path: &str) -> io::Result<StagedFile> {
         how.check()?;
-        self.call_at(letters(how), path)?;
+        self.book.call_at(letters(how), path)?;
         Ok(StagedFile {
-            stage: self,
-            rest: self.holds,
+            book: self.book.clone()?,
+            at: 0,
         })
     }
 
-    fn open_dir(&self, path: &str) -> io::Result<StagedFile<'a>> {
-        self.call_at("open_dir", path)?;
+    fn open_dir(&self, path: &str) -> io::Result<StagedFile> {
+        self.book.call_at("open_dir", path)?;
         Err(io::Error::from(ErrorKind::Unsupported))
     }
 
     // No folder stands there.
     fn metadata(&self, path: &str) -> io::Result<Metadata> {
-        self.call_at("metadata", path)?;
+        self.book.call_at("metadata", path)?;
         Ok(Metadata::of_file(0))
     }
 
     fn symlink_metadata(&self, path: &str) -> io::Result<Metadata> {
-        self.call_at("symlink_metadata", path)?;
+        self.book.call_at("symlink_metadata", path)?;
         Ok(Metadata::of_file(0))
     }
 
     fn copy(&self, from: &str, _to: &str) -> io::Result<u64> {
-        self.call_at("copy", from)?;
+        self.book.call_at("copy", from)?;
         Ok(0)
     }
 
     fn rename(&self, from: &str, _to: &str) -> io::Result<()> {
-        self.call_at("rename", from)
+        self.book.call_at("rename", from)
     }
 
     fn remove_file(&self, path: &str) -> io::Result<()> {
-        self.call_at("remove_file", path)
+        self.book.call_at("remove_file", path)
     }
 
     fn create_dir(&self, path: &str) -> io::Result<()> {
-        self.call_at("create_dir", path)
+        self.book.call_at("create_dir", path)
     }
 
     fn remove_dir(&self, path: &str) -> io::Result<()> {
-        self.call_at("remove_dir", path)
+        self.book.call_at("remove_dir", path)
     }
 
     fn remove_dir_all<B: Allocator>(&self, _alloc: B, path: &str) -> io::Result<()> {
-        self.call_at("remove_dir_all", path)
+        self.book.call_at("remove_dir_all", path)
     }
 }
 
-// An open file of the stage: what is left of it to read.
+// An open file of the stage, and how many bytes of it were read.
 #[derive(Drop)]
-pub struct StagedFile<'a> {
-    stage: &'a Stage<'a>,
-    rest: &'a [u8],
+pub struct StagedFile {
+    book: Rc<Book>,
+    at: usize,
 }
 
-impl<'a> Read for StagedFile<'a> {
+impl Read for StagedFile {
     fn read(&mut self, room: &mut [u8]) -> io::Result<usize> {
-        self.stage.call("read")?;
-        let count = self.rest.len().min(room.len()).min(self.stage.step);
-        room[..count].copy_from_slice(&self.rest[..count]);
-        self.rest = &self.rest[count..];
+        self.book.call("read")?;
+        let rest = &self.book.holds[self.at.min(self.book.holds.len())..];
+        let count = rest.len().min(room.len()).min(self.book.step);
+        room[..count].copy_from_slice(&rest[..count]);
+        self.at = self.at.saturating_add(count);
         Ok(count)
     }
 }
 
-impl<'a> Write for StagedFile<'a> {
+impl Write for StagedFile {
     fn write(&mut self, piece: &[u8]) -> io::Result<usize> {
-        self.stage.take("write", piece)
+        self.book.take("write", piece)
     }
 
     fn flush(&mut self) -> io::Result<()> {
-        self.stage.call("flush")
+        self.book.call("flush")
     }
 }
 
-impl<'a> Seek for StagedFile<'a> {
+impl Seek for StagedFile {
     fn seek(&mut self, _to: SeekFrom) -> io::Result<u64> {
-        self.stage.call("seek")?;
+        self.book.call("seek")?;
         Ok(0)
     }
 }
 
-impl<'a> OpenFile for StagedFile<'a> {
+impl OpenFile for StagedFile {
     fn metadata(&self) -> io::Result<Metadata> {
-        self.stage.call("length")?;
-        Ok(Metadata::of_file(self.rest.len() as u64))
+        self.book.call("length")?;
+        Ok(Metadata::of_file(self.book.holds.len() as u64))
     }
 
     fn set_len(&self, _size: u64) -> io::Result<()> {
-        self.stage.call("set_len")
+        self.book.call("set_len")
     }
 
     fn sync_all(&self) -> io::Result<()> {
-        self.stage.call("sync_all")
+        self.book.call("sync_all")
     }
 
     fn sync_data(&self) -> io::Result<()> {
-        self.stage.call("sync_data")
+        self.book.call("sync_data")
     }
 }

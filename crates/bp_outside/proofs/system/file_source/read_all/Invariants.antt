@@ -6,7 +6,8 @@ abbrev pub invariant-loop-taken : goal.invariant-loop-taken
 invariant-loop-taken g l =
     record {
       all : length l.bytes.items + l.left ≡ l.max;
-      lost : Consumes (g.F.Read.remaining l.initial.file.file) (g.F.Read.remaining l.file.file) l.bytes.items;
+      lost : Consumes (g.F.Read.remaining l.initial.file.file) (g.F.Read.remaining l.file.file)
+          l.bytes.items;
       unfailed : l.file.failed ≡ false;
     }
 

@@ -1,7 +1,12 @@
 -- Worked examples of the definitions in specs/, each run by the check.
 use Rattle.std.proofs.Common.{◌≡◌, true, false, [], ◌∷◌, refl}
+use Rattle.std.proofs.lemmas.Bool.{false≢true}
 use Rattle.std.specs.Prelude.{Some, None, Ok, Err, codes}
 use Rattle.std.specs.FinMap.{get}
+use Rattle.std.specs.Fs.{new_options, with_create, with_truncate, with_write}
+use Rattle.std.specs.declared.fs.options.OpenOptions.{OpenOptions}
+use Rattle.std.specs.declared.io.Error.{Error}
+use Rattle.std.specs.declared.io.ErrorKind.TheVariants as kinds
 use Rattle.bp_outside.specs.declared.files.FileRow.{FileRow}
 use Rattle.bp_outside.specs.declared.memory.calls.Calls.{Calls}
 use Rattle.bp_outside.specs.declared.refusals.FolderRefusal.TheVariants as folder_refusals
@@ -12,6 +17,8 @@ use Rattle.bp_outside.specs.Source.{SourceView, after_read}
 use Rattle.bp_outside.specs.Folder as folders
 use Rattle.bp_outside.specs.Out as outs
 use Rattle.bp_outside.specs.Memory.{after_call, file_map, is_sure, next_fails, no_calls, paths_differ}
+use Rattle.bp_outside.specs.SystemAnswers.{opening_refusal, write_answer}
+use Rattle.bp_outside.specs.SystemFiles.{BeginsEmpty}
 use Rattle.bp_outside.proofs.FileMapLemmas.{get-first_with}
 
 first : risen 0 ≡ 1
@@ -103,3 +110,41 @@ not_sure = refl
 
 sure : is_sure (no_calls []) 0 ≡ true
 sure = refl
+
+-- a piece of 3 bytes, and one of none
+all_taken : write_answer out_refusals.Failed 3 (Ok 3) ≡ Ok 3
+all_taken = refl
+
+some_taken : write_answer out_refusals.Failed 3 (Ok 1) ≡ Ok 1
+some_taken = refl
+
+none_of_some_taken : write_answer out_refusals.Failed 3 (Ok 0) ≡ Err out_refusals.Failed
+none_of_some_taken = refl
+
+none_of_none_taken : write_answer out_refusals.Failed 0 (Ok 0) ≡ Ok 0
+none_of_none_taken = refl
+
+an_error : (error : Error) → write_answer out_refusals.Failed 0 (Err error) ≡ Err out_refusals.Failed
+an_error error = refl
+
+not_found : opening_refusal kinds.NotFound ≡ read_refusals.Absent
+not_found = refl
+
+below_a_plain_file : opening_refusal kinds.NotADirectory ≡ read_refusals.Absent
+below_a_plain_file = refl
+
+a_link_loop : opening_refusal kinds.FilesystemLoop ≡ read_refusals.Failed
+a_link_loop = refl
+
+a_name_too_long : opening_refusal kinds.InvalidFilename ≡ read_refusals.Failed
+a_name_too_long = refl
+
+abbrev writing : OpenOptions
+writing = with_create (with_write new_options true) true
+
+begins_empty : BeginsEmpty (with_truncate writing true)
+begins_empty =
+    record { writes = refl; from_the_front = refl; makes = refl; replaces = refl; empties = refl }
+
+keeps_what_stood_there : ¬ (BeginsEmpty writing)
+keeps_what_stood_there begins = false≢true begins.empties

@@ -124,7 +124,8 @@ none_of_some_taken = refl
 none_of_none_taken : write_answer out_refusals.Failed 0 (Ok 0) ≡ Ok 0
 none_of_none_taken = refl
 
-an_error : (error : Error) → write_answer out_refusals.Failed 0 (Err error) ≡ Err out_refusals.Failed
+an_error : (error : Error)
+    → write_answer out_refusals.Failed 0 (Err error) ≡ Err out_refusals.Failed
 an_error error = refl
 
 not_found : opening_refusal kinds.NotFound ≡ read_refusals.Absent

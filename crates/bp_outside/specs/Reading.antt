@@ -1,5 +1,5 @@
 -- Reading a stream of bytes to its end, up to a limit. A reader's bytes are known or not.
-use Rattle.std.specs.Prelude.{◌≡◌, ℕ, ◌<◌, ◌≤◌, List, length, Vec, Option, Result, Ok, Err}
+use Rattle.std.specs.Prelude.{◌≡◌, ℕ, ◌<◌, ◌≤◌, ⊤, List, length, Vec, Option, Result, Ok, Err}
 use Rattle.std.specs.declared.alloc.Global.{Global}
 use Rattle.std.specs.Io.KnownBytes.{Consumes}
 use Rattle.bp_outside.specs.declared.refusals.ReadRefusal.{ReadRefusal}
@@ -11,8 +11,8 @@ abbrev pub ReadsWhole : ℕ → Result (Vec ℕ Global) ReadRefusal → List ℕ
 ReadsWhole max (Ok bytes) known = known ≡ bytes.items
 ReadsWhole max (Err Absent) known = ⊥
 ReadsWhole max (Err TooLong) known = max < length known
-ReadsWhole max (Err Failed) known = Unit {0}
-ReadsWhole max (Err OutOfMemory) known = Unit {0}
+ReadsWhole max (Err Failed) known = ⊤
+ReadsWhole max (Err OutOfMemory) known = ⊤
 
 -- a reader lost at most so many bytes from its front
 pub record TakesAtMost (most : ℕ) (before after : Option (List ℕ)) : Type 0 where

@@ -1,5 +1,5 @@
 -- Where files are read from.
-use Rattle.std.specs.Prelude.{◌≡◌, ℕ, ◌<◌, Bool, List, length, Vec, Option, Some, None, Result, Ok, Err, IsSomeAnd}
+use Rattle.std.specs.Prelude.{◌≡◌, ℕ, ◌<◌, ⊤, Bool, List, length, Vec, Option, Some, None, Result, Ok, Err, IsSomeAnd}
 use Rattle.std.specs.declared.alloc.Global.{Global}
 use Rattle.std.specs.Ordering.{nat_cmp}
 use Rattle.std.specs.Cmp.Lexicographic.{slice_cmp}
@@ -28,8 +28,8 @@ abbrev pub ReadOver : List ℕ → ℕ → Result (Vec ℕ Global) ReadRefusal �
 ReadOver path max (Ok bytes) files = map.get files path ≡ Some bytes.items
 ReadOver path max (Err Absent) files = map.get files path ≡ None
 ReadOver path max (Err TooLong) files = IsSomeAnd (map.get files path) (λ bytes. max < length bytes)
-ReadOver path max (Err Failed) files = Unit {0}
-ReadOver path max (Err OutOfMemory) files = Unit {0}
+ReadOver path max (Err Failed) files = ⊤
+ReadOver path max (Err OutOfMemory) files = ⊤
 
 -- the source after a read that gave this: only the count of the answer's own cause rises
 abbrev pub after_read : SourceView → Result (Vec ℕ Global) ReadRefusal → SourceView

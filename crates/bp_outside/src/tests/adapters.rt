@@ -1,35 +1,37 @@
-// The adapters over a runtime of the tests' own: what they ask of the system, call by call, and what they
-// make of its answers.
-use super::stage::{NONE, Stage};
-use crate::{
-    FileFolder, FileSource, Folder, FolderRefusal, Out, OutRefusal, ReadRefusal, Source, StdOut,
-    put_file, write_all,
+// The adapters over a runtime of the tests' own: what they ask of the system, call by call, and
+// what they make of its answers.
+use super::stage::{
+    A_FOLDER, CLOSED_PIPE, INTERRUPTED, LINK_LOOP, NAME_TOO_LONG, NO_MEMORY, NO_PERMISSION,
+    NO_SPACE, NO_SUCH_FILE, NONE, NOT_A_FOLDER, Stage,
 };
-use std::io::ErrorKind;
+use crate::{
+    FileFolder, FileSource, FolderRefusal, OutRefusal, ReadRefusal, Source, StdOut, put_file,
+    write_all,
+};
 use std::test::Fail;
 
-// The calls are the opening (0), the length (1) and the reads of 2 bytes, of 1 and of none (2 to 4).
+// The calls are the opening (0), the length (1) and the reads of 2 bytes, of 1 and of none (2 to
+// 4).
 #[test]
 fn a_source_tells_absent_from_failed(rt: HostRuntime) -> Result<(), Fail> {
     let alloc = rt.alloc();
-    for (failing, kind, refusal) in [
-        (0, ErrorKind::NotFound, ReadRefusal::Absent),
-        (0, ErrorKind::NotADirectory, ReadRefusal::Absent),
-        (0, ErrorKind::PermissionDenied, ReadRefusal::Failed),
-        (0, ErrorKind::IsADirectory, ReadRefusal::Failed),
-        (0, ErrorKind::FilesystemLoop, ReadRefusal::Failed),
-        (0, ErrorKind::InvalidFilename, ReadRefusal::Failed),
-        (0, ErrorKind::InvalidInput, ReadRefusal::Failed),
-        (0, ErrorKind::OutOfMemory, ReadRefusal::Failed),
-        (1, ErrorKind::NotFound, ReadRefusal::Failed),
-        (2, ErrorKind::NotFound, ReadRefusal::Failed),
-        (3, ErrorKind::OutOfMemory, ReadRefusal::Failed),
-        (4, ErrorKind::Interrupted, ReadRefusal::Failed),
+    for (failing, error, refusal) in [
+        (0, NO_SUCH_FILE, ReadRefusal::Absent),
+        (0, NOT_A_FOLDER, ReadRefusal::Absent),
+        (0, NO_PERMISSION, ReadRefusal::Failed),
+        (0, A_FOLDER, ReadRefusal::Failed),
+        (0, LINK_LOOP, ReadRefusal::Failed),
+        (0, NAME_TOO_LONG, ReadRefusal::Failed),
+        (0, NO_MEMORY, ReadRefusal::Failed),
+        (1, NO_SUCH_FILE, ReadRefusal::Failed),
+        (2, NO_SUCH_FILE, ReadRefusal::Failed),
+        (3, NO_MEMORY, ReadRefusal::Failed),
+        (4, INTERRUPTED, ReadRefusal::Failed),
     ] {
-        let stage = Stage::new(alloc, failing, kind, b"123", 2)?;
+        let stage = Stage::new(alloc, failing, error, b"123", 2)?;
         let mut source = FileSource::below(&stage, "in");
         let answer = source.read(alloc, "a.tif", 3).err();
-        assert_eq!(rt; answer, Some(refusal), "{kind:?} at call {failing}");
+        assert_eq!(rt; answer, Some(refusal), "error {error} at call {failing}");
     }
     Ok(())
 }
@@ -48,7 +50,7 @@ fn a_source_reads_that_file_alone(rt: HostRuntime) -> Result<(), Fail> {
         ("a.tif", 2, "read in/a.tif\nlength\nread\nread\n"),
         ("a.tif", 0, "read in/a.tif\nlength\nread\n"),
     ] {
-        let stage = Stage::new(alloc, NONE, ErrorKind::Other, b"123", 2)?;
+        let stage = Stage::new(alloc, NONE, NO_SPACE, b"123", 2)?;
         let mut source = FileSource::below(&stage, "in");
         match source.read(alloc, path, max) {
             Ok(bytes) => assert_eq!(rt; bytes.as_slice(), b"123".as_slice()),
@@ -67,45 +69,30 @@ fn a_source_reads_that_file_alone(rt: HostRuntime) -> Result<(), Fail> {
 #[test]
 fn a_folder_fails_where_the_system_does(rt: HostRuntime) -> Result<(), Fail> {
     let alloc = rt.alloc();
-    for (failing, kind, step, lines) in [
-        (
-            0,
-            ErrorKind::StorageFull,
-            2,
-            "create_dir out\nmetadata out\n",
-        ),
-        (
-            1,
-            ErrorKind::OutOfMemory,
-            2,
-            "create_dir out\nempty out/a.tif\n",
-        ),
-        (
-            2,
-            ErrorKind::StorageFull,
-            2,
-            "create_dir out\nempty out/a.tif\nwrite\n",
-        ),
+    for (failing, error, step, lines) in [
+        (0, NO_SPACE, 2, "create_dir out\nmetadata out\n"),
+        (1, NO_MEMORY, 2, "create_dir out\nempty out/a.tif\n"),
+        (2, NO_SPACE, 2, "create_dir out\nempty out/a.tif\nwrite\n"),
         (
             3,
-            ErrorKind::OutOfMemory,
+            NO_MEMORY,
             2,
             "create_dir out\nempty out/a.tif\nwrite\nwrite\n",
         ),
         (
             NONE,
-            ErrorKind::Other,
+            NO_SPACE,
             0,
             "create_dir out\nempty out/a.tif\nwrite\n",
         ),
     ] {
-        let stage = Stage::new(alloc, failing, kind, &[], step)?;
+        let stage = Stage::new(alloc, failing, error, &[], step)?;
         let mut folder = FileFolder::below(&stage, "out");
         let answer = put_file(alloc, &mut folder, "a.tif", b"123");
         assert_eq!(rt;
             answer,
             Err(FolderRefusal::Failed),
-            "{kind:?} at call {failing}"
+            "error {error} at call {failing}"
         );
         assert_eq!(rt; stage.lines().as_str(), lines);
     }
@@ -127,7 +114,7 @@ fn a_folder_writes_that_file_alone(rt: HostRuntime) -> Result<(), Fail> {
             "create_dir out//etc\nempty out//etc/a.tif\nwrite\nwrite\n",
         ),
     ] {
-        let stage = Stage::new(alloc, NONE, ErrorKind::Other, &[], 2)?;
+        let stage = Stage::new(alloc, NONE, NO_SPACE, &[], 2)?;
         let mut folder = FileFolder::below(&stage, "out");
         put_file(alloc, &mut folder, path, b"123")?;
         assert_eq!(rt; stage.lines().as_str(), lines);
@@ -140,40 +127,33 @@ fn a_folder_writes_that_file_alone(rt: HostRuntime) -> Result<(), Fail> {
 #[test]
 fn an_out_fails_where_the_system_does(rt: HostRuntime) -> Result<(), Fail> {
     let alloc = rt.alloc();
-    for (failing, kind, step, lines, bytes) in [
-        (0, ErrorKind::BrokenPipe, 2, "print\n", "".as_bytes()),
+    for (failing, error, step, lines, written, answer) in [
+        (0, CLOSED_PIPE, 2, "print\n", "", Err(OutRefusal::Failed)),
         (
             1,
-            ErrorKind::OutOfMemory,
+            NO_MEMORY,
             2,
             "print\nprint\n",
-            "ok".as_bytes(),
+            "ok",
+            Err(OutRefusal::Failed),
         ),
         (
             2,
-            ErrorKind::StorageFull,
+            NO_SPACE,
             2,
             "print\nprint\nprint\n",
-            "ok 1".as_bytes(),
-        ),
-        (NONE, ErrorKind::Other, 0, "print\n", "".as_bytes()),
-    ] {
-        let stage = Stage::new(alloc, failing, kind, &[], step)?;
-        let mut out = StdOut::of(&stage);
-        let answer = write_all(alloc, &mut out, b"ok 1\n");
-        assert_eq!(rt;
-            answer,
+            "ok 1",
             Err(OutRefusal::Failed),
-            "{kind:?} at call {failing}"
-        );
+        ),
+        (NONE, NO_SPACE, 0, "print\n", "", Err(OutRefusal::Failed)),
+        (NONE, NO_SPACE, 2, "print\nprint\nprint\n", "ok 1\n", Ok(())),
+    ] {
+        let stage = Stage::new(alloc, failing, error, &[], step)?;
+        let mut out = StdOut::of(&stage);
+        let told = write_all(alloc, &mut out, b"ok 1\n");
+        assert_eq!(rt; told, answer, "error {error} at call {failing}");
         assert_eq!(rt; stage.lines().as_str(), lines);
-        assert_eq!(rt; stage.written().as_slice(), bytes);
+        assert_eq!(rt; stage.written().as_slice(), written.as_bytes());
     }
-    let stage = Stage::new(alloc, NONE, ErrorKind::Other, &[], 2)?;
-    let mut out = StdOut::of(&stage);
-    write_all(alloc, &mut out, b"ok 1\n")?;
-    assert_eq!(rt; out.write(alloc, b"")?, 0);
-    assert_eq!(rt; stage.lines().as_str(), "print\nprint\nprint\nprint\n");
-    assert_eq!(rt; stage.written().as_slice(), b"ok 1\n".as_slice());
     Ok(())
 }

@@ -54,8 +54,8 @@ fn a_path_that_stands_twice_is_seen(rt: HostRuntime) -> Result<(), Fail> {
     Ok(())
 }
 
-// The calls are create (0), append of 4,096 (1), of 4,096 (2), of 1,808 (3), and finish (4). A call that
-// fails has added half of what it would have taken.
+// The calls are create (0), append of 4,096 (1), of 4,096 (2), of 1,808 (3), and finish (4). A call
+// that fails has added half of what it would have taken.
 #[test]
 fn a_file_is_put_whole_or_in_part(rt: HostRuntime) -> Result<(), Fail> {
     let alloc = rt.alloc();

@@ -1,5 +1,5 @@
-// A runtime of the tests' own. It keeps a line for each call that it gets, and the bytes that were written,
-// and fails at one call. Each file that is opened holds the same bytes.
+// A runtime of the tests' own. It keeps a line for each call that it gets, and the bytes that were
+// written, and fails at one call. Each file that is opened holds the same bytes.
 ghost use Rattle.std.specs.Prelude.{◌≤◌, length, IfOk};
 
 use std::alloc::{AllocError, Allocator, Global};
@@ -14,6 +14,27 @@ use std::rt::Files;
 // No call fails.
 pub const NONE: u64 = u64::MAX;
 
+// Errors of the system, by their numbers on Linux.
+pub const NO_SUCH_FILE: i32 = 2;
+
+pub const INTERRUPTED: i32 = 4;
+
+pub const NO_MEMORY: i32 = 12;
+
+pub const NO_PERMISSION: i32 = 13;
+
+pub const NOT_A_FOLDER: i32 = 20;
+
+pub const A_FOLDER: i32 = 21;
+
+pub const NO_SPACE: i32 = 28;
+
+pub const CLOSED_PIPE: i32 = 32;
+
+pub const NAME_TOO_LONG: i32 = 36;
+
+pub const LINK_LOOP: i32 = 40;
+
 #[derive(Drop)]
 pub struct Stage {
     book: Rc<Book>,
@@ -23,9 +44,9 @@ pub struct Stage {
 #[derive(Drop)]
 struct Book {
     alloc: Global,
-    // The number, from 0, of the call that fails, and the kind of its error.
+    // The number, from 0, of the call that fails, and the number of its error.
     failing: u64,
-    kind: ErrorKind,
+    error: i32,
     // What each file holds, and how many bytes of a file or a piece one call moves at most.
     holds: Vec<u8>,
     step: usize,
@@ -38,14 +59,14 @@ impl Stage {
     pub fn new(
         alloc: Global,
         failing: u64,
-        kind: ErrorKind,
+        error: i32,
         holds: &[u8],
         step: usize,
     ) -> Result<Stage, AllocError> {
         let book = Book {
             alloc,
             failing,
-            kind,
+            error,
             holds: Vec::from_slice(alloc, holds)?,
             step,
             calls: Cell::new(0),
@@ -85,7 +106,7 @@ impl Book {
         self.lines.set(lines);
         kept?;
         if number == self.failing {
-            return Err(io::Error::from(self.kind));
+            return Err(io::Error::from_raw_os_error(self.error));
         }
         Ok(())
     }

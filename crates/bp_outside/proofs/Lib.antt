@@ -1,7 +1,7 @@
-pub mod Added
+pub mod CountsLemmas
 mod Examples
-pub mod Held
-pub mod Risen
-pub mod Rows
-pub mod Taken
-pub mod Written
+pub mod FileMapLemmas
+pub mod FolderLemmas
+pub mod MemoryLemmas
+pub mod OutLemmas
+pub mod ReadingLemmas

@@ -6,8 +6,8 @@ use Rattle.bp_outside.specs.declared.files.FileRow.{FileRow}
 use Rattle.bp_outside.specs.declared.refusals.FolderRefusal.{FolderRefusal}
 use Rattle.bp_outside.specs.declared.refusals.FolderRefusal.TheVariants.{Failed, OutOfMemory}
 
--- what is known of a folder: its files in order of creation, if they are told; whether the last of them
--- is under way; how often a call failed; and whether it is sure, one that can't fail
+-- what is known of a folder: its files in order of creation, if they are told; whether the last of
+-- them is under way; how often a call failed; and whether it is sure, one that can't fail
 pub record FolderView : Type 0 where
   pub files : Option (List FileRow)
   pub under_way : Bool
@@ -20,7 +20,11 @@ file path bytes = record { path = path; bytes = bytes }
 
 -- the folder with one more file at its end, which is under way or not
 abbrev pub with_file : FolderView → List ℕ → List ℕ → Bool → FolderView
-with_file folder path bytes under_way = record folder { files = option_map (λ files. files ++ file path bytes ∷ []) folder.files; under_way = under_way }
+with_file folder path bytes under_way =
+    record folder {
+      files = option_map (λ files. files ++ file path bytes ∷ []) folder.files;
+      under_way = under_way;
+    }
 
 -- the files with these bytes added to the last of them
 abbrev pub add_to_last : List ℕ → List FileRow → List FileRow
@@ -47,8 +51,10 @@ abbrev pub after_finish : FolderView → Result (Unit {0}) FolderRefusal → Fol
 after_finish folder (Ok _) = record folder { under_way = false }
 after_finish folder (Err refusal) = after_refusal folder refusal
 
--- the first so many bytes of a piece were added: at most the piece, and at least one byte where it has one
-pub record AddsFirst (folder : FolderView) (piece : List ℕ) (count : ℕ) (after : FolderView) : Type 0 where
+-- the first so many bytes of a piece were added: at most the piece, and at least one byte where it
+-- has one
+pub record AddsFirst (folder : FolderView) (piece : List ℕ) (count : ℕ) (after : FolderView)
+    : Type 0 where
   pub within : count ≤ length piece
   pub some : 0 < length piece → 0 < count
   pub added : after ≡ with_bytes folder (take count piece)
@@ -68,13 +74,17 @@ abbrev pub AppendsAll : FolderView → List ℕ → Result (Unit {0}) FolderRefu
 AppendsAll folder piece (Ok _) after = after ≡ with_bytes folder piece
 AppendsAll folder piece (Err refusal) after = AddsPrefix (after_refusal folder refusal) piece after
 
--- what is left where a whole file was to be put and was refused: nothing of it, or the file with some
--- prefix of its bytes, still under way
+-- what is left where a whole file was to be put and was refused: nothing of it, or the file with
+-- some prefix of its bytes, still under way
 pub data PutsPart (folder : FolderView) (path bytes : List ℕ) (after : FolderView) : Type 0 where
   nothing : after ≡ folder → PutsPart folder path bytes after
-  prefix : (count : ℕ) → after ≡ with_file folder path (take count bytes) true → PutsPart folder path bytes after
+  prefix : (count : ℕ)
+      → after ≡ with_file folder path (take count bytes) true
+      → PutsPart folder path bytes after
 
 -- what a call that was to put a whole file leaves. With Ok no file is under way
-abbrev pub PutsFile : FolderView → List ℕ → List ℕ → Result (Unit {0}) FolderRefusal → FolderView → Type 0
+abbrev pub PutsFile : FolderView → List ℕ → List ℕ
+    → Result (Unit {0}) FolderRefusal → FolderView → Type 0
 PutsFile folder path bytes (Ok _) after = after ≡ with_file folder path bytes false
-PutsFile folder path bytes (Err refusal) after = PutsPart (after_refusal folder refusal) path bytes after
+PutsFile folder path bytes (Err refusal) after =
+    PutsPart (after_refusal folder refusal) path bytes after

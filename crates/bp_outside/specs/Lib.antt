@@ -7,4 +7,6 @@ pub mod ReadCounts
 pub mod Reading
 pub mod Source
 pub mod Sure
+pub mod SystemAnswers
+pub mod SystemFiles
 pub mod Untold

@@ -32,7 +32,8 @@ is_sure calls faults = (length calls.failing == 0) && (faults == 0)
 -- no path stands twice
 abbrev pub paths_differ : List FileRow → Bool
 paths_differ [] = true
-paths_differ (row ∷ rows) = not (list_any (λ other. bytes_eq other.path row.path) rows) && paths_differ rows
+paths_differ (row ∷ rows) =
+    not (list_any (λ other. bytes_eq other.path row.path) rows) && paths_differ rows
 
 abbrev pub path_pairs : List FileRow → List (List ℕ × List ℕ)
 path_pairs rows = map (λ row. (row.path, row.bytes)) rows
@@ -61,14 +62,24 @@ source_files source = source.files
 -- what is known of a folder in memory, and its calls
 abbrev pub folder_shown : MemFolder → FolderView
 folder_shown folder =
-    record { files = Some folder.files.items; under_way = folder.under_way; faults = folder.faults; sure = is_sure folder.calls folder.faults }
+    record {
+      files = Some folder.files.items;
+      under_way = folder.under_way;
+      faults = folder.faults;
+      sure = is_sure folder.calls folder.faults;
+    }
 
 abbrev pub folder_calls : MemFolder → Calls
 folder_calls folder = folder.calls
 
 -- what is known of an out in memory, and its calls
 abbrev pub out_shown : MemOut → OutView
-out_shown out = record { written = Some out.written; faults = out.faults; sure = is_sure out.calls out.faults }
+out_shown out =
+    record {
+      written = Some out.written;
+      faults = out.faults;
+      sure = is_sure out.calls out.faults;
+    }
 
 abbrev pub out_calls : MemOut → Calls
 out_calls out = out.calls

@@ -5,8 +5,8 @@ use Rattle.bp_outside.specs.Counts.{risen}
 use Rattle.bp_outside.specs.declared.refusals.OutRefusal.{OutRefusal}
 use Rattle.bp_outside.specs.declared.refusals.OutRefusal.TheVariants.{Failed, OutOfMemory}
 
--- what is known of an out: the bytes written, if they are told; how often a write failed; and whether it
--- is sure, one that can't fail
+-- what is known of an out: the bytes written, if they are told; how often a write failed; and
+-- whether it is sure, one that can't fail
 pub record OutView : Type 0 where
   pub written : Option (List ℕ)
   pub faults : ℕ
@@ -14,14 +14,16 @@ pub record OutView : Type 0 where
 
 -- the out with these bytes written as well
 abbrev pub with_written : OutView → List ℕ → OutView
-with_written out bytes = record out { written = option_map (λ written. written ++ bytes) out.written }
+with_written out bytes =
+    record out { written = option_map (λ written. written ++ bytes) out.written }
 
 -- the out after a refusal: as it was, but for the count of faults
 abbrev pub after_refusal : OutView → OutRefusal → OutView
 after_refusal out Failed = record out { faults = risen out.faults }
 after_refusal out OutOfMemory = out
 
--- the first so many bytes of a piece were written: at most the piece, and at least one byte where it has one
+-- the first so many bytes of a piece were written: at most the piece, and at least one byte where
+-- it has one
 pub record WritesFirst (out : OutView) (piece : List ℕ) (count : ℕ) (after : OutView) : Type 0 where
   pub within : count ≤ length piece
   pub some : 0 < length piece → 0 < count

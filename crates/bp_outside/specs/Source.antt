@@ -1,5 +1,5 @@
 -- Where files are read from.
-use Rattle.std.specs.Prelude.{◌≡◌, ℕ, ◌<◌, Bool, List, length, Vec, Option, Some, None, Result, Ok, Err, IsSomeAnd}
+use Rattle.std.specs.Prelude.{◌≡◌, ℕ, ◌<◌, ⊤, Bool, List, length, Vec, Option, Some, None, Result, Ok, Err, IsSomeAnd}
 use Rattle.std.specs.declared.alloc.Global.{Global}
 use Rattle.std.specs.Ordering.{nat_cmp}
 use Rattle.std.specs.Cmp.Lexicographic.{slice_cmp}
@@ -12,8 +12,8 @@ use Rattle.bp_outside.specs.declared.refusals.ReadRefusal.TheVariants.{Absent, T
 abbrev pub FileMap : Type 0
 FileMap = map.FinMap (slice_cmp nat_cmp) (List ℕ)
 
--- what is known of a source: its files, if they are told; how often a read failed, found no file, found
--- a file over its limit; and whether it is sure, one that can't fail
+-- what is known of a source: its files, if they are told; how often a read failed, found no file,
+-- found a file over its limit; and whether it is sure, one that can't fail
 pub record SourceView : Type 0 where
   pub files : Option FileMap
   pub faults : ℕ
@@ -21,15 +21,15 @@ pub record SourceView : Type 0 where
   pub overlong : ℕ
   pub sure : Bool
 
--- what a read of at most max bytes at a path may answer over these files. As Ok gives at most max bytes,
--- no two of the first three lines hold at once: where nothing failed and memory served, each answer comes
--- exactly where its line holds
+-- what a read of at most max bytes at a path may answer over these files. As Ok gives at most max
+-- bytes, no two of the first three lines hold at once: where nothing failed and memory served, each
+-- answer comes exactly where its line holds
 abbrev pub ReadOver : List ℕ → ℕ → Result (Vec ℕ Global) ReadRefusal → FileMap → Type 0
 ReadOver path max (Ok bytes) files = map.get files path ≡ Some bytes.items
 ReadOver path max (Err Absent) files = map.get files path ≡ None
 ReadOver path max (Err TooLong) files = IsSomeAnd (map.get files path) (λ bytes. max < length bytes)
-ReadOver path max (Err Failed) files = Unit {0}
-ReadOver path max (Err OutOfMemory) files = Unit {0}
+ReadOver path max (Err Failed) files = ⊤
+ReadOver path max (Err OutOfMemory) files = ⊤
 
 -- the source after a read that gave this: only the count of the answer's own cause rises
 abbrev pub after_read : SourceView → Result (Vec ℕ Global) ReadRefusal → SourceView

@@ -7,10 +7,17 @@ use Rattle.bp_outside.specs.declared.counts.ReadCounts.{ReadCounts}
 
 abbrev pub untold_source : ReadCounts → SourceView
 untold_source counts =
-    record { files = None; faults = counts.faults; absences = counts.absences; overlong = counts.overlong; sure = false }
+    record {
+      files = None;
+      faults = counts.faults;
+      absences = counts.absences;
+      overlong = counts.overlong;
+      sure = false;
+    }
 
 abbrev pub untold_folder : Bool → ℕ → FolderView
-untold_folder under_way faults = record { files = None; under_way = under_way; faults = faults; sure = false }
+untold_folder under_way faults =
+    record { files = None; under_way = under_way; faults = faults; sure = false }
 
 abbrev pub untold_out : ℕ → OutView
 untold_out faults = record { written = None; faults = faults; sure = false }

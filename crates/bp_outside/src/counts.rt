@@ -4,7 +4,7 @@ ghost use Rattle.bp_outside.specs.ReadCounts.{raised};
 
 use crate::refusals::ReadRefusal;
 
-/// How often a source failed, found no file, and found a file over its limit.
+// How often a source failed, found no file, and found a file over its limit.
 #[derive(Clone, Copy, Debug)]
 pub struct ReadCounts {
     pub faults: u64,
@@ -19,7 +19,7 @@ impl ReadCounts {
         overlong: 0,
     };
 
-    /// Raises the count of this refusal by one, and gives it back.
+    // Raises the count of this refusal by one, and gives it back.
     pub fn refuse(&mut self, refusal: ReadRefusal) -> ReadRefusal
         ensures same { result ≡ refusal }
         ensures counted { self.new ≡ raised self.old refusal }

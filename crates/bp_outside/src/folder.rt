@@ -34,6 +34,8 @@ pub trait Folder {
 
 /// Puts a whole file at this path below the folder. With `Ok` it is there and no file is under way.
 /// A refusal leaves nothing of it, or the file with some prefix of the bytes, still under way.
+///
+///     put_file(alloc, &mut folder, "VOL001/IMAGES/AC0001.tif", bytes.as_slice())?;
 pub fn put_file<F: Folder>(
     alloc: Global,
     folder: &mut F,

@@ -1,4 +1,10 @@
-//! The outside: where bytes come from and go to. Each refusal raises the count of its own cause.
+//! The outside: where bytes come from and go to.
+//!
+//! `Source`, `Folder` and `Out` are the world as traits. Each has one ghost view, `shows`, which
+//! contracts cite (`SourceView`, `FolderView`, `OutView`): what is held, where that is told, and
+//! counts that never fall. A refusal raises the count of its own cause. `MemSource`, `MemFolder`
+//! and `MemOut` tell all that they hold; `FileSource`, `FileFolder` and `StdOut` stand on the
+//! system and tell nothing. A whole file is put by `put_file`, and a whole piece by `write_all`.
 #![tactic(auto)]
 
 mod counts;

@@ -24,10 +24,15 @@ pub struct MemFolder {
 }
 
 impl MemFolder {
-    /// A folder with these files, of which none is under way. Its calls whose numbers, from 0, are in
-    /// `failing` are to fail.
+    /// A folder with these files, of which none is under way. Its calls whose numbers, from 0, are
+    /// in `failing` are to fail.
     pub fn over(files: FileList, failing: NumberList) -> MemFolder
-        ensures shows { folder_shown result ≡ record { files = Some files; under_way = false; faults = 0; sure = (length failing == 0) } }
+        ensures shows { folder_shown result ≡ record {
+          files = Some files;
+          under_way = false;
+          faults = 0;
+          sure = (length failing == 0);
+        } }
         ensures calls { folder_calls result ≡ no_calls failing }
     {
         MemFolder {
@@ -55,8 +60,10 @@ impl Folder for MemFolder {
 
     /// Fails exactly where the number of the call is one that was given to fail.
     fn create(&mut self, alloc: Global, path: &str) -> Result<(), FolderRefusal>
-        ensures after { folder_shown self.new ≡ after_create (folder_shown self.old) (chars path.now) result }
-        ensures fails { IsErrOf result FolderRefusal.Failed ↔ IsTrue (next_fails (folder_calls self.old)) }
+        ensures after { folder_shown self.new
+            ≡ after_create (folder_shown self.old) (chars path.now) result }
+        ensures fails { IsErrOf result FolderRefusal.Failed
+            ↔ IsTrue (next_fails (folder_calls self.old)) }
         ensures numbered { folder_calls self.new ≡ after_call (folder_calls self.old) }
     {
         if self.calls.next_fails() {
@@ -72,13 +79,14 @@ impl Folder for MemFolder {
         Ok(())
     }
 
-    /// Takes at most `APPEND_LIMIT` bytes. Fails exactly where the number of the call is one that was
-    /// given to fail, and has then added the first half of what it would take.
+    /// Takes at most `APPEND_LIMIT` bytes. Fails exactly where the number of the call is one that
+    /// was given to fail, and has then added the first half of what it would take.
     fn append(&mut self, alloc: Global, piece: &[u8]) -> Result<usize, FolderRefusal>
         requires { (folder_shown self.old).under_way ≡ true }
         ensures appends { Appends (folder_shown self.old) piece.now result (folder_shown self.new) }
         ensures count { IfOk result (λ count. count ≡ min (length piece.now) APPEND_LIMIT) }
-        ensures fails { IsErrOf result FolderRefusal.Failed ↔ IsTrue (next_fails (folder_calls self.old)) }
+        ensures fails { IsErrOf result FolderRefusal.Failed
+            ↔ IsTrue (next_fails (folder_calls self.old)) }
         ensures numbered { folder_calls self.new ≡ after_call (folder_calls self.old) }
     {
         let count = piece.len().min(APPEND_LIMIT);
@@ -95,7 +103,8 @@ impl Folder for MemFolder {
     fn finish(&mut self, alloc: Global) -> Result<(), FolderRefusal>
         requires { (folder_shown self.old).under_way ≡ true }
         ensures after { folder_shown self.new ≡ after_finish (folder_shown self.old) result }
-        ensures fails { IsErrOf result FolderRefusal.Failed ↔ IsTrue (next_fails (folder_calls self.old)) }
+        ensures fails { IsErrOf result FolderRefusal.Failed
+            ↔ IsTrue (next_fails (folder_calls self.old)) }
         ensures numbered { folder_calls self.new ≡ after_call (folder_calls self.old) }
     {
         if self.calls.next_fails() {
@@ -109,7 +118,8 @@ impl Folder for MemFolder {
 
 // Adds these bytes to the last file.
 fn add_bytes(files: &mut Vec<FileRow>, bytes: &[u8]) -> Result<(), OutOfMemory>
-    ensures { files.new.items ≡ (if is_ok result then add_to_last bytes.now files.old.items else files.old.items) }
+    ensures { files.new.items
+        ≡ (if is_ok result then add_to_last bytes.now files.old.items else files.old.items) }
 {
     let count = files.len();
     if count == 0 {

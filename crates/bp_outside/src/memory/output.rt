@@ -21,9 +21,11 @@ pub struct MemOut {
 }
 
 impl MemOut {
-    /// An out with these bytes written. Its calls whose numbers, from 0, are in `failing` are to fail.
+    /// An out with these bytes written. Its calls whose numbers, from 0, are in `failing` are to
+    /// fail.
     pub fn over(written: Bytes, failing: NumberList) -> MemOut
-        ensures shows { out_shown result ≡ record { written = Some written; faults = 0; sure = (length failing == 0) } }
+        ensures shows { out_shown result
+            ≡ record { written = Some written; faults = 0; sure = (length failing == 0) } }
         ensures calls { out_calls result ≡ no_calls failing }
     {
         MemOut {
@@ -48,12 +50,13 @@ impl Out for MemOut {
 
     ghost unfailing = { λ out. never_failed _ _ };
 
-    /// Takes at most `WRITE_LIMIT` bytes. Fails exactly where the number of the call is one that was
-    /// given to fail, and has then written the first half of what it would take.
+    /// Takes at most `WRITE_LIMIT` bytes. Fails exactly where the number of the call is one that
+    /// was given to fail, and has then written the first half of what it would take.
     fn write(&mut self, _alloc: Global, piece: &[u8]) -> Result<usize, OutRefusal>
         ensures writes { Writes (out_shown self.old) piece.now result (out_shown self.new) }
         ensures count { IfOk result (λ count. count ≡ min (length piece.now) WRITE_LIMIT) }
-        ensures fails { IsErrOf result OutRefusal.Failed ↔ IsTrue (next_fails (out_calls self.old)) }
+        ensures fails { IsErrOf result OutRefusal.Failed
+            ↔ IsTrue (next_fails (out_calls self.old)) }
         ensures numbered { out_calls self.new ≡ after_call (out_calls self.old) }
     {
         let count = piece.len().min(WRITE_LIMIT);

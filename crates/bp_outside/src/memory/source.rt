@@ -27,7 +27,13 @@ impl MemSource {
     /// in `failing` are to fail.
     pub fn over(files: FileList, failing: NumberList) -> MemSource
         requires { paths_differ files ≡ true }
-        ensures shows { source_shown result ≡ record { files = Some (file_map files); faults = 0; absences = 0; overlong = 0; sure = (length failing == 0) } }
+        ensures shows { source_shown result ≡ record {
+          files = Some (file_map files);
+          faults = 0;
+          absences = 0;
+          overlong = 0;
+          sure = (length failing == 0);
+        } }
         ensures files { source_files result ≡ files }
         ensures calls { source_calls result ≡ no_calls failing }
     {
@@ -58,7 +64,8 @@ impl Source for MemSource {
         ensures limit { IfOk result (λ bytes. length bytes.items ≤ max) }
         ensures told { IfSome (source_shown self.old).files (ReadOver (chars path.now) max result) }
         ensures after { source_shown self.new ≡ after_read (source_shown self.old) result }
-        ensures fails { IsErrOf result ReadRefusal.Failed ↔ IsTrue (next_fails (source_calls self.old)) }
+        ensures fails { IsErrOf result ReadRefusal.Failed
+            ↔ IsTrue (next_fails (source_calls self.old)) }
         ensures numbered { source_calls self.new ≡ after_call (source_calls self.old) }
         ensures files { source_files self.new ≡ source_files self.old }
     {

@@ -1,9 +1,11 @@
 // Standard output as an out.
-ghost use Rattle.std.specs.Prelude.{◌≡◌, false, None};
+ghost use Rattle.std.specs.Prelude.{◌≡◌, false, None, IsErrOf};
+ghost use Rattle.bp_outside.specs.Out.{Writes};
 ghost use Rattle.bp_outside.specs.Untold.{untold_out};
 
 use crate::output::Out;
 use crate::refusals::OutRefusal;
+use crate::system::answers::write_answer;
 use std::alloc::Global;
 
 /// The standard output.
@@ -29,13 +31,13 @@ impl<'a, R: Print> Out for StdOut<'a, R> {
 
     ghost unfailing = { λ out sure. absurd (false≢true sure) };
 
-    fn write(&mut self, _alloc: Global, piece: &[u8]) -> Result<usize, OutRefusal> {
-        match self.rt.write_some(piece) {
-            Ok(count) if count > 0 || piece.is_empty() => Ok(count),
-            _ => {
-                self.faults = self.faults.saturating_add(1);
-                Err(OutRefusal::Failed)
-            }
-        }
+    /// Takes no memory, so it never runs out of it.
+    fn write(&mut self, _alloc: Global, piece: &[u8]) -> Result<usize, OutRefusal>
+        ensures writes { Writes (untold_out self.old.faults) piece.now result
+            (untold_out self.new.faults) }
+        ensures no_memory { ¬ (IsErrOf result OutRefusal.OutOfMemory) }
+    {
+        let answer = self.rt.write_some(piece);
+        write_answer(answer, piece.len(), OutRefusal::Failed, &mut self.faults)
     }
 }

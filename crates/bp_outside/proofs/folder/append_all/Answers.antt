@@ -1,6 +1,6 @@
 use Rattle.std.proofs.Common.{sym, arith}
 use Rattle.std.proofs.lemmas.Result.{err_from_is_err_and}
-use Rattle.bp_outside.proofs.Added.{refused_after, append_more, with_bytes-nothing}
+use Rattle.bp_outside.proofs.FolderLemmas.{refused_after, append_more, with_bytes-nothing}
 use Rattle.bp_outside.proofs.folder.append_all.Goals as goal
 
 pub returns-in_err-at : goal.returns-in_err-at

@@ -1,11 +1,14 @@
 use Rattle.std.proofs.lemmas.Result.{err_from_is_err_and}
-use Rattle.bp_outside.proofs.Added.{put_in_part, put_whole}
+use Rattle.bp_outside.proofs.FolderLemmas.{put_in_part, put_whole}
 use Rattle.bp_outside.proofs.folder.put_file.Goals as goal
 
 pub returns-in_err-append_all : goal.returns-in_err-append_all
 returns-in_err-append_all g c =
-    let p = err_from_is_err_and c.from_residual-in_err-append_all.result c.from_residual-in_err-append_all.ensures.1 in
+    let residual = c.from_residual-in_err-append_all in
+    let p = err_from_is_err_and residual.result residual.ensures.1 in
     rw (p.1, p.2) (put_in_part _ _ _ _ _ _ c.in_ok-create.ensures c.in_err-append_all.ensures)
 
 pub returns : goal.returns
-returns g c = put_whole c.finish.result _ _ _ _ _ _ c.in_ok-create.ensures c.in_ok-append_all.ensures c.finish.ensures
+returns g c =
+    put_whole c.finish.result _ _ _ _ _ _
+    c.in_ok-create.ensures c.in_ok-append_all.ensures c.finish.ensures

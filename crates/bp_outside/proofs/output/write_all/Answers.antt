@@ -1,5 +1,5 @@
 use Rattle.std.proofs.lemmas.Result.{err_from_is_err_and}
-use Rattle.bp_outside.proofs.Written.{refused_after, write_more}
+use Rattle.bp_outside.proofs.OutLemmas.{refused_after, write_more}
 use Rattle.bp_outside.proofs.output.write_all.Goals as goal
 
 pub returns-in_err-at : goal.returns-in_err-at

@@ -1,5 +1,5 @@
 use Rattle.std.proofs.Common.{sym, ◌∙◌}
-use Rattle.bp_outside.proofs.Rows.{get-first_with, found_at, not_found_at, not_found, same_path, other_path}
+use Rattle.bp_outside.proofs.FileMapLemmas.{get-first_with, found_at, not_found_at, not_found, same_path, other_path}
 use Rattle.bp_outside.proofs.memory.source.find_file.Goals as goal
 
 pub loop-file-init : goal.loop-file-init

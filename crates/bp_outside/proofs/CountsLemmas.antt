@@ -1,4 +1,4 @@
--- When a count rose.
+-- Carry a count that rises by one to the fact that it rose.
 use Rattle.std.proofs.Common.{ℕ, ◌-◌, ◌^◌, ◌<◌, arith}
 use Rattle.bp_outside.specs.Counts.{Rose, risen}
 

@@ -1,0 +1,4 @@
+mod FieldLemmas
+mod PageTextLemmas
+mod ReaderLemmas
+mod RecordLemmas

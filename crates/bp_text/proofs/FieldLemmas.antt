@@ -1,5 +1,5 @@
 -- What the tests of a field say of the number or the text in it.
-use Rattle.std.proofs.Common.{Bor, ◌≡◌, ℕ, ◌+◌, ◌-◌, ◌*◌, nat_le, ◌^◌, ◌<◌, ◌≤◌, length, take, get_or, add-one, Bool, true, false, Option, Some, None, List, refl, sym, ap, ◌∙◌, inl, inr, arith}
+use Rattle.std.proofs.Common.{Bor, ◌≡◌, ℕ, ◌+◌, ◌-◌, ◌*◌, nat_le, ◌^◌, ◌<◌, length, take, get_or, add-one, true, false, Option, Some, None, List, sym, ap, ◌∙◌, inl, inr, arith}
 use Rattle.std.specs.Char.{digit_value, is_ascii_digit}
 use Rattle.std.specs.List.{list_all}
 use Rattle.std.specs.Str.Parse.{digits_value}

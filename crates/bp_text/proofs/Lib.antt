@@ -1,3 +1,4 @@
+mod Examples
 mod FieldLemmas
 mod PageTextLemmas
 mod ReaderLemmas

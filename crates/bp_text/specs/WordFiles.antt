@@ -1,5 +1,5 @@
 -- Files of words: comma-separated values (RFC 4180), a record a word. What the records of a text are is csv's to say.
-use Rattle.std.specs.Prelude.{ℕ, ◌&&◌, ◌||◌, ◌==◌, Bool, List, [], length, map, nat_le, not, slice_index_or, Option, Some, None, Result, if◌then◌else◌}
+use Rattle.std.specs.Prelude.{ℕ, ◌&&◌, ◌||◌, ◌==◌, Bool, List, [], length, nat_le, slice_index_or, Option, Some, None, Result, if◌then◌else◌}
 use Rattle.std.specs.Char.{is_ascii_control, is_ascii_digit}
 use Rattle.std.specs.List.{list_all, list_any}
 use Rattle.std.specs.Option.{option_and_then}

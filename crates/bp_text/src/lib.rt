@@ -13,3 +13,6 @@ pub use keeping::kept;
 pub use page_texts::page_text;
 pub use word_files::read_words;
 pub use words::{Word, WordList, WordRow, WordRows};
+
+#[cfg(test)]
+mod tests;

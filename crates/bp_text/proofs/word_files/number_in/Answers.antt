@@ -1,4 +1,4 @@
-use Rattle.std.proofs.Common.{rules, ◌≡◌, ◌+◌, ◌-◌, ◌*◌, ◌<◌, ◌≤◌, ◌^◌, arith, sym}
+use Rattle.std.proofs.Common.{◌≤◌, ◌^◌, arith, sym}
 use Rattle.std.proofs.Math.Nat.{pow-le-pow_right}
 use Rattle.bp_text.proofs.FieldLemmas.{next_digit}
 use Rattle.bp_text.proofs.word_files.number_in.Goals as goal

@@ -1,4 +1,4 @@
-use Rattle.std.proofs.Common.{◌≡◌, ◌+◌, [], ◌++◌, ap, sym, ◌∙◌, true, arith}
+use Rattle.std.proofs.Common.{◌+◌, ap, sym, ◌∙◌, arith}
 use Rattle.std.proofs.lemmas.Result.{err_from_is_err_and}
 use Rattle.bp_core.proofs.InTurnLemmas.{after_front, bad_answer, found_in, front_none, piece_bad, piece_read}
 use Rattle.bp_core.specs.InTurn.{read_each}

@@ -1,4 +1,5 @@
--- The glyphs in which labels and designations are drawn. They come from no public standard: they are this product's own.
+-- The glyphs in which labels and designations are drawn. They come from no public standard: they
+-- are this product's own.
 use Rattle.std.specs.Prelude.{ℕ, ◌==◌, Bool, List, [], ◌∷◌, ◌++◌, codes, map, Option, position, slice_get, slice_index_or}
 use Rattle.std.specs.Option.{option_and_then}
 use Rattle.bp_codes.specs.Bits.{number_of}
@@ -8,7 +9,8 @@ use Rattle.bp_codes.specs.CodeLists.{line}
 abbrev pub alphabet : List ℕ
 alphabet = codes "ABCDEFGHIJKLMNOPQRSTUVWXYZ0123456789-_. "
 
--- the glyph at a place of printed lines: the piece of each line at that place is a row, whose bits are a number
+-- the glyph at a place of printed lines: the piece of each line at that place is a row, whose bits
+-- are a number
 abbrev pub glyph_at : List (List (List Bool)) → ℕ → List ℕ
 glyph_at lines place = map (λ pieces. number_of (slice_index_or pieces place [])) lines
 
@@ -84,7 +86,8 @@ digits_6_to_9_and_signs =
 
 -- the glyphs of the alphabet in turn, each as its seven rows
 unfoldable pub glyph_rows : List (List ℕ)
-glyph_rows = letters_a_to_h ++ letters_i_to_p ++ letters_q_to_x ++ y_z_and_0_to_5 ++ digits_6_to_9_and_signs
+glyph_rows =
+    letters_a_to_h ++ letters_i_to_p ++ letters_q_to_x ++ y_z_and_0_to_5 ++ digits_6_to_9_and_signs
 
 -- the place of a character in the alphabet
 abbrev pub place_of : ℕ → Option ℕ

@@ -5,8 +5,8 @@ ghost use Rattle.bp_codes.specs.Glyphs.{glyph_rows, place_of, rows_at};
 use crate::in_print::rows_in_print;
 use std::marker::Model;
 
-/// A table of `N` glyphs, one for each character of the alphabet: A to Z, 0 to 9, `-`, `_`, `.` and the space. A
-/// glyph has seven rows of five bits, the bit of value 16 at the left, and 1 is black.
+/// A table of `N` glyphs, one for each character of the alphabet: A to Z, 0 to 9, `-`, `_`, `.` and
+/// the space. A glyph has seven rows of five bits, the bit of value 16 at the left, and 1 is black.
 #[derive(Debug, Drop)]
 pub struct GlyphTable<const N: usize> {
     glyphs: [[u8; 7]; N],
@@ -25,8 +25,8 @@ impl<const N: usize> Model for GlyphTable<N> {
 }
 
 impl<const N: usize> GlyphTable<N> {
-    /// The seven rows of a character's glyph, from the top down; None exactly where the alphabet lacks the
-    /// character, as a small letter.
+    /// The seven rows of a character's glyph, from the top down; None exactly where the alphabet
+    /// lacks the character, as a small letter.
     pub fn rows_of(&self, c: char) -> Option<[u8; 7]>
         ensures { result ≡ rows_at self.now c }
     {

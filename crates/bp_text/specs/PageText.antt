@@ -3,7 +3,8 @@ use Rattle.std.specs.Prelude.{ℕ, ◌==◌, List, [], ◌∷◌, ◌++◌, if�
 use Rattle.bp_core.specs.Characters.{form_feed, line_end, space}
 use Rattle.bp_text.specs.declared.words.Word.{Word}
 
--- what stands between a word and the words after it: a space where the next is of its line, else the end of a line
+-- what stands between a word and the words after it: a space where the next is of its line, else
+-- the end of a line
 abbrev pub end_of : Word → List Word → List ℕ
 end_of word [] = line_end
 end_of word (next ∷ words) = if word.line == next.line then space ∷ [] else line_end

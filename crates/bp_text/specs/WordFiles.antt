@@ -1,4 +1,5 @@
--- Files of words: comma-separated values (RFC 4180), a record a word. What the records of a text are is csv's to say.
+-- Files of words: comma-separated values (RFC 4180), a record a word. What the records of a text
+-- are is csv's to say.
 use Rattle.std.specs.Prelude.{ℕ, ◌&&◌, ◌||◌, ◌==◌, Bool, List, [], length, nat_le, slice_index_or, Option, Some, None, Result, if◌then◌else◌}
 use Rattle.std.specs.Char.{is_ascii_control, is_ascii_digit}
 use Rattle.std.specs.List.{list_all, list_any}
@@ -11,7 +12,7 @@ use Rattle.bp_core.specs.Rules.{rule_at_line}
 use Rattle.bp_core.specs.declared.rectangle.Rect.{Rect}
 use Rattle.bp_core.specs.declared.rules.Rule.{Rule}
 use Rattle.bp_core.specs.declared.rules.RuleKind.TheVariants.{WordShape}
-use Rattle.bp_text.specs.declared.word_files.TheConstants.{FIELDS, MOST_DIGITS}
+use Rattle.bp_text.specs.declared.word_files.TheConstants.{FIELDS, MOST_DIGITS, IMAGE, LINE, LEFT, TOP, WIDTH, HEIGHT, TEXT}
 use Rattle.bp_text.specs.declared.words.WordRow.{WordRow}
 
 infixl 10 ◌>>=◌
@@ -20,7 +21,9 @@ o >>= f = option_and_then f o
 
 -- 1 to 9 digits are a number, with leading zeros or without
 abbrev pub is_number : List ℕ → Bool
-is_number field = nat_le 1 (length field) && nat_le (length field) MOST_DIGITS && list_all is_ascii_digit field
+is_number field =
+    nat_le 1 (length field) && nat_le (length field) MOST_DIGITS
+    && list_all is_ascii_digit field
 
 abbrev pub number_of : List ℕ → Option ℕ
 number_of field = if is_number field then Some (digits_value 10 field) else None
@@ -36,8 +39,8 @@ side_of field = number_of field >>= nonzero
 abbrev pub characters_of : List ℕ → Option (List ℕ)
 characters_of field = if is_utf8 field then Some (chars field) else None
 
--- no character stands there, or a control character does; in UTF-8 their bytes stand for nothing else
--- (RFC 3629, section 3)
+-- no character stands there, or a control character does; in UTF-8 their bytes stand for nothing
+-- else (RFC 3629, section 3)
 abbrev pub is_blank : List ℕ → Bool
 is_blank field = (length field == 0) || list_any is_ascii_control field
 
@@ -52,26 +55,27 @@ field_of fields n = slice_index_or fields n []
 -- the rectangle in the fields left, top, width and height
 abbrev pub rect_of : List (List ℕ) → Option Rect
 rect_of fields = do
-  left ← number_of (field_of fields 2)
-  top ← number_of (field_of fields 3)
-  width ← side_of (field_of fields 4)
-  height ← side_of (field_of fields 5)
+  left ← number_of (field_of fields LEFT)
+  top ← number_of (field_of fields TOP)
+  width ← side_of (field_of fields WIDTH)
+  height ← side_of (field_of fields HEIGHT)
   Some (record { left = left; top = top; width = width; height = height })
 
 -- the word in the fields image id, line, left, top, width, height and text
 abbrev pub word_row_of : List (List ℕ) → Option WordRow
 word_row_of fields = do
-  image ← characters_of (field_of fields 0)
-  line ← number_of (field_of fields 1)
+  image ← characters_of (field_of fields IMAGE)
+  line ← number_of (field_of fields LINE)
   rect ← rect_of fields
-  text ← word_text_of (field_of fields 6)
+  text ← word_text_of (field_of fields TEXT)
   Some (record { image = image; word = record { line = line; rect = rect; text = text } })
 
 -- what a record says
 abbrev pub row_of : List (List ℕ) → Option WordRow
 row_of fields = if length fields == FIELDS then word_row_of fields else None
 
--- what a file says: the words of its records, without the byte order mark at its head, or WordShape with the number
--- of the first record that says none
+-- what a file says: the words of its records, without the byte order mark at its head, or WordShape
+-- with the number of the first record that says none
 abbrev pub words_of : List ℕ → Result (List WordRow) Rule
-words_of bytes = read_each row_of (rule_at_line WordShape) 1 (records default_config (strip_bom bytes))
+words_of bytes =
+    read_each row_of (rule_at_line WordShape) 1 (records default_config (strip_bom bytes))

@@ -1,7 +1,8 @@
 //! Words on pages: the files that they come in, those that no box touches, and the text of a page.
 //!
-//! `read_words` reads a file of words; `kept` drops the words that a box touches; `page_text` writes the text of a
-//! page from the words that are left. Their contracts cite `words_of`, `kept_of` and `text_of`.
+//! `read_words` reads a file of words; `kept` drops the words that a box touches; `page_text`
+//! writes the text of a page from the words that are left. Their contracts cite `words_of`,
+//! `kept_of` and `text_of`.
 #![tactic(auto)]
 
 mod keeping;

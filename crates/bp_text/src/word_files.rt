@@ -17,17 +17,31 @@ use bp_core::{ListOf, OutOfMemory, Rect, Refusal, Rule, RuleKind, Text};
 use csv::{ByteRecord, Reader, ReaderBuilder};
 use std::alloc::Global;
 
-/// How many fields a record has.
-pub const FIELDS: usize = 7;
+// How many fields a record has, and the place of each, counted from 0.
+const FIELDS: usize = 7;
 
-/// How many digits a number has at most.
-pub const MOST_DIGITS: usize = 9;
+const IMAGE: usize = 0;
 
-/// The words of a file, each with the id of the image of its page, or WordShape with the number of the first bad
-/// record, counted from 1. The file has comma-separated values (RFC 4180) in UTF-8, without a line of names: image
-/// id, line, left, top, width, height, text. A number has 1 to 9 digits, width and height aren't 0, and the text has
-/// a character and no control character (below 20 hex, or 7F). A byte order mark at the head is dropped, and empty
-/// lines are no records.
+const LINE: usize = 1;
+
+const LEFT: usize = 2;
+
+const TOP: usize = 3;
+
+const WIDTH: usize = 4;
+
+const HEIGHT: usize = 5;
+
+const TEXT: usize = 6;
+
+// How many digits a number has at most.
+const MOST_DIGITS: usize = 9;
+
+/// The words of a file, each with the id of the image of its page, or WordShape with the number of
+/// the first bad record, counted from 1. The file has comma-separated values (RFC 4180) in UTF-8,
+/// without a line of names: image id, line, left, top, width, height, text. A number has 1 to 9
+/// digits, width and height aren't 0, and the text has a character and no control character (below
+/// 20 hex, or 7F). A byte order mark at the head is dropped, and empty lines are no records.
 pub fn read_words(alloc: Global, bytes: &[u8]) -> Result<WordRows, Refusal>
     requires { length bytes.now < 2 ^ 32 }
     ensures { Answers (λ rows. rows) result (words_of bytes.now) }
@@ -46,8 +60,8 @@ pub fn read_words(alloc: Global, bytes: &[u8]) -> Result<WordRows, Refusal>
     Ok(ListOf::from_vec(rows))
 }
 
-// The next record, and whether there was one. Bytes in memory are read without a fault, and records may have any number
-// of fields, so that an error is want of memory.
+// The next record, and whether there was one. Bytes in memory are read without a fault, and records
+// may have any number of fields, so that an error is want of memory.
 fn read_record(reader: &mut Reader<&[u8]>, row: &mut ByteRecord) -> Result<bool, OutOfMemory>
     requires { IsBetween reader.old }
     ensures { IfOk result (λ found. MatchBool found
@@ -113,10 +127,10 @@ fn row_parts_in(row: &ByteRecord) -> Option<Parts<'_>>
     ensures { option_map parts_seen result ≡ word_row_of (fields_of row.now) }
 {
     Some(Parts {
-        image: text_in(field_at(row, 0))?,
-        line: number_in(field_at(row, 1))?,
+        image: text_in(field_at(row, IMAGE))?,
+        line: number_in(field_at(row, LINE))?,
         rect: rect_in(row)?,
-        text: word_text_in(field_at(row, 6))?,
+        text: word_text_in(field_at(row, TEXT))?,
     })
 }
 
@@ -125,10 +139,10 @@ fn rect_in(row: &ByteRecord) -> Option<Rect>
     ensures { result ≡ rect_of (fields_of row.now) }
 {
     Some(Rect {
-        left: number_in(field_at(row, 2))?,
-        top: number_in(field_at(row, 3))?,
-        width: side_in(field_at(row, 4))?,
-        height: side_in(field_at(row, 5))?,
+        left: number_in(field_at(row, LEFT))?,
+        top: number_in(field_at(row, TOP))?,
+        width: side_in(field_at(row, WIDTH))?,
+        height: side_in(field_at(row, HEIGHT))?,
     })
 }
 

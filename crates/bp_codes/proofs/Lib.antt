@@ -1,6 +1,7 @@
 pub mod BitLists
 mod Examples
 pub mod Front
+mod GlyphExamples
 pub mod Kept
 pub mod PrefixFree
 pub mod Print

@@ -1,6 +1,7 @@
 pub mod Bits
 pub mod CodeLists
 pub mod Fronts
+pub mod Glyphs
 pub mod Index
 pub mod Laws
 pub mod NextCode

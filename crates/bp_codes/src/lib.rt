@@ -3,6 +3,8 @@
 
 mod black_index;
 mod code;
+mod glyph_table;
+mod in_print;
 mod index;
 pub mod laws;
 mod mode_index;
@@ -12,6 +14,7 @@ mod tables;
 mod white_index;
 
 pub use code::{Code, NoCode};
+pub use glyph_table::{GlyphTable, glyphs};
 pub use span::{BitSpan, Fill};
 pub use tables::{CodeTable, black, modes, white};
 

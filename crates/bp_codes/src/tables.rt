@@ -6,6 +6,7 @@ ghost use Rattle.bp_codes.specs.NextCode.{next_row};
 ghost use Rattle.bp_codes.specs.Span.{span_bits};
 
 use crate::code::{Code, NoCode, printed};
+use crate::in_print::rows_in_print;
 use crate::index::{ENDS, Index, STRANGE};
 use crate::span::BitSpan;
 use std::marker::Model;
@@ -57,13 +58,6 @@ impl<const N: usize> CodeTable<N> {
             row => Ok(usize::from(row)),
         }
     }
-}
-
-// Rows from the codes as they stand in print.
-macro_rules! rows_in_print {
-    ($($code:literal)*) => {
-        [$(printed($code)),*]
-    };
 }
 
 /// The codes of white runs: row r below 64 is the run of r pixels, row 63 + k the make-up code of 64 * k.

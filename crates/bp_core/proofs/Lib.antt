@@ -1,3 +1,4 @@
+pub mod InTurnLemmas
 pub mod RectangleLemmas
 mod TextLemmas
 mod Examples

@@ -4,6 +4,9 @@ use Rattle.std.specs.Prelude.{ℕ, List, [], ◌∷◌}
 abbrev pub newline : ℕ
 newline = 10
 
+abbrev pub form_feed : ℕ
+form_feed = 12
+
 abbrev pub carriage_return : ℕ
 carriage_return = 13
 

@@ -1,5 +1,6 @@
 pub mod Answers
 pub mod Characters
+pub mod InTurn
 pub mod Rectangle
 pub mod Review
 pub mod Rules

@@ -6,7 +6,8 @@ use Rattle.std.proofs.lemmas.Bool.{cases_Bool, and_from}
 use Rattle.bp_core.specs.declared.rules.Rule.{Rule}
 use Rattle.bp_core.specs.declared.rules.RuleKind.TheVariants.{DatShape, DatEncoding}
 use Rattle.bp_core.specs.Rules.{rule_at_line}
-use Rattle.bp_load.specs.Lines.{without_mark, filled_lines, each_line, first_then}
+use Rattle.bp_core.specs.InTurn.{first_then}
+use Rattle.bp_load.specs.Lines.{without_mark, filled_lines, each_line}
 use Rattle.bp_load.specs.Dat.{dat_of, table_of, row_of, of_number, values_of}
 
 of_number_is : (n : ℕ) (o : Option (List (List ℕ))) (v : List (List ℕ)) → of_number n o ≡ Some v → (length v == n) ≡ true

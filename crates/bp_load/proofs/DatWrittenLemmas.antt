@@ -10,7 +10,8 @@ use Rattle.std.proofs.lemmas.List.Folds.{list_all-append, list_all-map}
 use Rattle.bp_core.specs.declared.rules.RuleKind.TheVariants.{DatShape, DatEncoding}
 use Rattle.bp_load.specs.Table.{Table, is_even}
 use Rattle.bp_core.specs.Rules.{rule_at_line}
-use Rattle.bp_load.specs.Lines.{without_mark, filled_lines, each_line, first_then, onto}
+use Rattle.bp_core.specs.InTurn.{first_then, onto}
+use Rattle.bp_load.specs.Lines.{without_mark, filled_lines, each_line}
 use Rattle.bp_load.specs.Dat.{dat_of, table_of, after_header, with_rows, row_of, of_number, values_of, each_value, together, quoted_value, is_quoted, inside, is_inner, read_character, write_character, quoted, dat_values_text, dat_line_text, dat_text, is_cell_character, is_cell, is_name, is_writable}
 use Rattle.bp_load.proofs.TextLemmas.{passing_bytes, weaker}
 use Rattle.bp_load.proofs.LineLemmas.{filled_keep}

@@ -1,5 +1,5 @@
 -- The first line of a text and the lines after it.
-use Rattle.std.proofs.Common.{◌≡◌, ◌≢◌, lit<, ℕ, Bor, get_or, nat_eq, encode_utf8, ◌+◌, ◌-◌, ◌<◌, ◌≤◌, ◌==◌, Bool, true, not, cond, ltb, nat_lt, Result, Ok, Err, filter, append_assoc, Option, Some, None, List, [], ◌∷◌, ◌++◌, length, take, drop, refl, sym, ap, arith, ◌∙◌, inl, inr, length-append}
+use Rattle.std.proofs.Common.{◌≡◌, ◌≢◌, lit<, ℕ, Bor, get_or, nat_eq, encode_utf8, ◌+◌, ◌-◌, ◌<◌, ◌≤◌, ◌==◌, Bool, true, not, cond, ltb, nat_lt, Err, filter, Option, Some, None, List, [], ◌∷◌, ◌++◌, length, take, drop, refl, sym, ap, arith, ◌∙◌, inl, inr, length-append}
 use Rattle.std.specs.Option.{MatchOption, unwrap_or}
 use Rattle.std.specs.Char.{len_utf8}
 use Rattle.std.specs.Str.Pattern.{FindsCharPrefix}
@@ -10,15 +10,11 @@ use Rattle.std.specs.List.{starts_with, slice_split, onto_first, position_or_len
 use Rattle.std.specs.Str.Lines.{lines, lines_of_parts, strip_carriage_return}
 use Rattle.std.proofs.lemmas.Bool.{cases_Bool, cases_lt, ne_eqb, eq-eqb, eqb-true, lt-ltb, le-ltb}
 use Rattle.std.proofs.lemmas.List.{take_rest, take_at, take-append-drop, drop_more, drop_all}
-use Rattle.std.specs.Option.{ok_or}
 use Rattle.std.specs.Prelude.{slice_index_or}
-use Rattle.bp_core.specs.Answers.{Answers}
-use Rattle.bp_core.specs.declared.refusals.Refusal.{Refusal}
-use Rattle.bp_core.specs.declared.refusals.Refusal.TheVariants as refusals
-use Rattle.bp_core.specs.declared.rules.Rule.{Rule}
 use Rattle.bp_core.specs.declared.rules.RuleKind.{RuleKind}
+use Rattle.bp_core.proofs.InTurnLemmas.{after_front, piece_bad, piece_read}
 use Rattle.bp_core.specs.Rules.{rule_at_line}
-use Rattle.bp_load.specs.Lines.{without_mark, byte_order_mark, filled_lines, each_line, first_then, onto}
+use Rattle.bp_load.specs.Lines.{without_mark, byte_order_mark, filled_lines, each_line}
 use Rattle.std.proofs.lemmas.List.Splits.{slice_split_first, slice_split-cons_no, length-slice_split}
 
 -- what follows an index is what stands after the first that passes
@@ -69,19 +65,6 @@ place_some k n m e =
 pub rest_after : (bs : List ℕ) (k : ℕ) → take (length bs - (k + 1)) (drop (k + 1) bs) ≡ drop (k + 1) bs
 rest_after bs k = take_rest bs (k + 1)
 
--- values before those that are read next
-abbrev pub after_front : {V : Type 0} → List V → Result (List V) Rule → Result (List V) Rule
-after_front front (Ok vs) = Ok (front ++ vs)
-after_front front (Err rule) = Err rule
-
-pub front_none : {V : Type 0} (r : Result (List V) Rule) → after_front [] r ≡ r
-front_none (Ok vs) = refl
-front_none (Err rule) = refl
-
-front_more : {V : Type 0} (front : List V) (v : V) (r : Result (List V) Rule) → after_front front (onto v r) ≡ after_front (front ++ v ∷ []) r
-front_more front v (Ok vs) = ap Ok (sym (append_assoc front (v ∷ []) vs))
-front_more front v (Err rule) = refl
-
 abbrev is_filled : List ℕ → Bool
 is_filled line = not (length line == 0)
 
@@ -100,9 +83,8 @@ each_skip read kind n front line bs rest e none = ap (λ ls. after_front front (
 pub next_more : {V : Type 0} (read : List ℕ → Option V) (kind : RuleKind) (n : ℕ) (front : List V) (v : V) (line bs rest : List ℕ) → filled_lines bs ≡ line ∷ filled_lines rest → read line ≡ Some v
     → after_front (front ++ v ∷ []) (each_line read kind (n + 1) (filled_lines rest)) ≡ after_front front (each_line read kind n (filled_lines bs))
 next_more read kind n front v line bs rest e is =
-    sym (ap (λ ls. after_front front (each_line read kind n ls)) e
-    ∙ ap (λ o. after_front front (first_then o (rule_at_line kind n) (each_line read kind (n + 1) (filled_lines rest)))) is
-    ∙ front_more front v (each_line read kind (n + 1) (filled_lines rest)))
+    piece_read read (rule_at_line kind) n front v line (filled_lines rest) is
+    ∙ sym (ap (λ ls. after_front front (each_line read kind n ls)) e)
 
 pub each_more : {V : Type 0} (read : List ℕ → Option V) (kind : RuleKind) (n : ℕ) (front : List V) (v : V) (line bs rest : List ℕ) → lines bs ≡ line ∷ lines rest → 0 < length line → read line ≡ Some v
     → after_front (front ++ v ∷ []) (each_line read kind (n + 1) (filled_lines rest)) ≡ after_front front (each_line read kind n (filled_lines bs))
@@ -113,21 +95,11 @@ pub next_bad : {V : Type 0} (read : List ℕ → Option V) (kind : RuleKind) (n 
     → after_front front (each_line read kind n (filled_lines bs)) ≡ Err (rule_at_line kind n)
 next_bad read kind n front line bs rest e is =
     ap (λ ls. after_front front (each_line read kind n ls)) e
-    ∙ ap (λ o. after_front front (first_then o (rule_at_line kind n) (each_line read kind (n + 1) (filled_lines rest)))) is
+    ∙ piece_bad read (rule_at_line kind) n front line (filled_lines rest) is
 
 pub each_bad : {V : Type 0} (read : List ℕ → Option V) (kind : RuleKind) (n : ℕ) (front : List V) (line bs rest : List ℕ) → lines bs ≡ line ∷ lines rest → 0 < length line → read line ≡ None
     → after_front front (each_line read kind n (filled_lines bs)) ≡ Err (rule_at_line kind n)
 each_bad read kind n front line bs rest e some is = next_bad read kind n front line bs rest (filled_keep line bs rest e some) is
-
-pub found_in : {V : Type 0} (o : Option V) (rule : Rule) (v : V) → ok_or o rule ≡ Ok v → o ≡ Some v
-found_in None rule v e = cc
-found_in (Some w) rule v e = cc
-
--- what a line's reader refuses the file's reader refuses
-pub bad_answer : {X Y V W : Type 0} (view : X → V) (views : Y → W) (o : Option V) (rule : Rule) (total : Result W Rule) (refusal : Refusal) → Answers view (Err refusal) (ok_or o rule) → (o ≡ None → total ≡ Err rule) → Answers views (Err refusal) total
-bad_answer view views None rule total (refusals.Rule broken) h bad = let e : rule ≡ broken = cc in bad refl ∙ ap Err e
-bad_answer view views (Some v) rule total (refusals.Rule broken) h bad = cc
-bad_answer view views o rule total refusals.OutOfMemory h bad = tt
 
 -- the test of a separator
 abbrev pub is_at : ℕ → ℕ → Bool

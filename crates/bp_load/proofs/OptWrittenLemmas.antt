@@ -11,7 +11,8 @@ use Rattle.std.proofs.lemmas.Bool.Decides.{nat_tests}
 use Rattle.bp_load.specs.Opt.{is_page_count, opt_fields, opt_line_text, opt_text, opt_of, flag_text, is_flag, is_yes, is_field, is_field_character, is_opt_line, has_texts, opt_line_of, page_of, has_count, are_of_form}
 use Rattle.bp_load.specs.OptFields.{seven}
 use Rattle.bp_core.specs.Rules.{rule_at_line}
-use Rattle.bp_load.specs.Lines.{without_mark, byte_order_mark, filled_lines, each_line, first_then, onto}
+use Rattle.bp_core.specs.InTurn.{first_then, onto}
+use Rattle.bp_load.specs.Lines.{without_mark, byte_order_mark, filled_lines, each_line}
 use Rattle.bp_load.specs.declared.opt.OptLine.{OptLine}
 use Rattle.bp_core.specs.declared.rules.RuleKind.TheVariants.{OptShape}
 use Rattle.bp_load.proofs.OptLemmas.{is_comma, opt_some}

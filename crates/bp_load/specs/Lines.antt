@@ -1,9 +1,10 @@
 -- The lines of a load file.
-use Rattle.std.specs.Prelude.{ℕ, ◌+◌, List, [], ◌∷◌, length, drop, filter, nat_eq, ◌==◌, not, if◌then◌else◌, Option, Some, None, Result, Ok, Err}
+use Rattle.std.specs.Prelude.{ℕ, List, [], ◌∷◌, length, drop, filter, nat_eq, ◌==◌, not, if◌then◌else◌, Option, Result}
 use Rattle.std.specs.List.{starts_with}
 use Rattle.std.specs.Str.Lines.{lines}
 use Rattle.bp_core.specs.declared.rules.Rule.{Rule}
 use Rattle.bp_core.specs.declared.rules.RuleKind.{RuleKind}
+use Rattle.bp_core.specs.InTurn.{read_each}
 use Rattle.bp_core.specs.Rules.{rule_at_line}
 
 -- U+FEFF in UTF-8, the mark that may stand at the head of a file (RFC 3629, section 6)
@@ -19,20 +20,8 @@ without_mark bytes = if starts_with nat_eq bytes byte_order_mark then drop 3 byt
 abbrev pub filled_lines : List ℕ → List (List ℕ)
 filled_lines bytes = filter (λ line. not (length line == 0)) (lines bytes)
 
--- a value before the others
-abbrev pub onto : {V : Type 0} → V → Result (List V) Rule → Result (List V) Rule
-onto v (Ok vs) = Ok (v ∷ vs)
-onto v (Err rule) = Err rule
-
--- a value before the others, or the rule where there is none
-abbrev pub first_then : {V : Type 0} → Option V → Rule → Result (List V) Rule → Result (List V) Rule
-first_then None rule others = Err rule
-first_then (Some v) rule others = onto v others
-
 -- what is read in each line, counted from n, or the rule with the number of the first line in
 -- which nothing is
 abbrev pub each_line :
     {V : Type 0} → (List ℕ → Option V) → RuleKind → ℕ → List (List ℕ) → Result (List V) Rule
-each_line read kind n [] = Ok []
-each_line read kind n (line ∷ lines) =
-    first_then (read line) (rule_at_line kind n) (each_line read kind (n + 1) lines)
+each_line read kind n lines = read_each read (rule_at_line kind) n lines

@@ -3,7 +3,7 @@ use Rattle.std.specs.Str.{IsUtf8}
 use Rattle.bp_core.specs.declared.rules.RuleKind.TheVariants.{DatShape}
 use Rattle.bp_load.specs.Lines.{filled_lines, each_line}
 use Rattle.bp_load.specs.Dat.{row_of}
-use Rattle.bp_load.proofs.LineLemmas.{after_front}
+use Rattle.bp_core.proofs.InTurnLemmas.{after_front}
 use Rattle.bp_load.proofs.dat.read_rows.Given as goal
 
 -- the rows so far and those of the lines that are left are those of the text; a line has a byte at least

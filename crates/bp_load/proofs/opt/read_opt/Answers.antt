@@ -5,7 +5,8 @@ use Rattle.bp_core.specs.declared.rules.RuleKind.TheVariants.{OptShape}
 use Rattle.bp_load.specs.Opt.{opt_line_of, opt_of}
 use Rattle.bp_core.specs.Rules.{rule_at_line}
 use Rattle.bp_load.specs.Lines.{each_line, filled_lines}
-use Rattle.bp_load.proofs.LineLemmas.{after_front, each_more, each_bad, found_in, bad_answer}
+use Rattle.bp_core.proofs.InTurnLemmas.{after_front, found_in, bad_answer}
+use Rattle.bp_load.proofs.LineLemmas.{each_more, each_bad}
 use Rattle.bp_load.proofs.opt.read_opt.Goals as goal
 
 pub returns-in_err-read_line : goal.returns-in_err-read_line

@@ -2,7 +2,7 @@ use Rattle.std.proofs.Common.{◌≡◌, ◌+◌, ◌≤◌, length}
 use Rattle.bp_core.specs.declared.rules.RuleKind.TheVariants.{OptShape}
 use Rattle.bp_load.specs.Lines.{filled_lines, each_line}
 use Rattle.bp_load.specs.Opt.{opt_line_of, opt_of}
-use Rattle.bp_load.proofs.LineLemmas.{after_front}
+use Rattle.bp_core.proofs.InTurnLemmas.{after_front}
 use Rattle.bp_load.proofs.opt.read_opt.Given as goal
 
 -- the pages so far and those of the lines that are left are those of the file; a line has a byte at least

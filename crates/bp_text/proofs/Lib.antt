@@ -1,0 +1,5 @@
+mod Examples
+mod FieldLemmas
+mod PageTextLemmas
+mod ReaderLemmas
+mod RecordLemmas

@@ -1,0 +1,5 @@
+pub mod Kept
+pub mod PageText
+pub mod ReadFields
+pub mod ReadRecords
+pub mod WordFiles

@@ -33,7 +33,9 @@ compare() {
     label=$1; rounds=$2; shift 2
     "$top/tivrenan" burn "$@" product.tif "$form" > printed || stop "the product failed on $1: $(cat printed)"
     ./burn_peer "$@" peer.tif "$form" || stop "the peer failed on $1"
-    tiffcmp out/product.tif peer.tif || stop "the two outputs differ on $1"
+    # tiffcmp ends with 0 where a field differs, and then compares no pixels: it must also print nothing
+    differs=$(tiffcmp out/product.tif peer.tif 2>&1 || echo "it failed")
+    [ -z "$differs" ] || stop "the two outputs differ on $1: $differs"
     ./side_by_side "$label" "$rounds" "$program" burn "$@" product.tif "$form" -- ./burn_peer "$@" peer.tif "$form"
 }
 

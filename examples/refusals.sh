@@ -33,6 +33,7 @@ furnish() {
 plainly() { "$program" "$@" > ../line; }
 on_a_full_output() { "$program" "$@" > /dev/full; }
 on_a_closed_output() { "$program" "$@" >&-; }
+with_nothing_open() { "$program" "$@" <&- >&- 2>&-; }
 with_room_for_512_bytes() { (trap '' XFSZ; ulimit -f 1; "$program" "$@" > ../line); }
 # the first write fails as on a full disk
 on_a_failing_disk() {
@@ -113,7 +114,16 @@ for program in "$built" "$top/tivrenan"; do
     check "a closed output" on_a_closed_output 7 '' "$burned" burn white.tif 0 0 8 1 b.tif plain
     check "a closed output and a broken rule" on_a_closed_output 7 '' $same burn white.tif 0 0 9 1 b.tif plain
     check "a closed output and a folder at OUT" on_a_closed_output 7 '' $same burn white.tif 0 0 8 1 folder plain
+    check "all three closed" with_nothing_open 7 '' "$burned" burn white.tif 0 0 8 1 b.tif plain
 done
+
+# what the launcher says on standard error
+check "other words explained" plainly 1 'words refused' $same blacken
+grep -q '^usage: tivrenan burn IN L T W H OUT FORM$' errors || differs "doesn't say how the words must look"
+check "a rule explained" plainly 2 'refused 13 BoxOutside 0 0 0' $same burn white.tif 0 0 9 1 b.tif plain
+grep -q '^tivrenan: rule 13, BoxOutside: The box passes an edge of the page[.]$' errors || differs "doesn't say which rule"
+check "nothing to explain" plainly 0 'burned 187' "$burned" burn white.tif 0 0 8 1 b.tif plain
+[ ! -s errors ] || differs "says something where all was done"
 
 program=$built
 check "no words" plainly 1 'words refused' $same

@@ -1,6 +1,6 @@
 #!/bin/sh
-# `burn` beside a peer on libtiff (burn_peer.c), run in turn: wall time and peak memory of the whole command, each as
-# product over peer, once both outputs hold equal pixels and fields. First from plain to plain, for pages of 8 by 1, of
+# `burn` beside a peer on libtiff (burn_peer.c), run in turn: wall time, processor time and peak memory of the whole command,
+# each as product over peer, once both outputs hold equal pixels and fields. First from plain to plain, for pages of 8 by 1, of
 # letter size and of 20,000 by 10,000 pixels; then from plain to Group 4, for the pages of pages.sh. Then the instructions
 # that the product takes for each pixel of the largest page: from plain to plain more than 3 would mean that something goes
 # by the pixel. Words: the forms to write, plain and g4 where none is given.
@@ -46,7 +46,8 @@ corner='0 0 1 1'
 [ $# -gt 0 ] || set -- plain g4
 # shellcheck disable=SC2086 # a box is four words
 for form in "$@"; do
-    printf '%-18s%-31s%-31s%s\n' "plain to $form" "  median wall time" "  least wall time" "  peak memory"
+    printf '%-18s%-29s%-29s%-29s%s\n' "plain to $form" "  median wall time" "  least wall time" \
+        "  median processor time" "  peak memory"
     case $form in
         plain)
             compare "8 by 1" 300 small.tif 1 0 6 1

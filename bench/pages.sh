@@ -16,7 +16,8 @@ here=$(CDPATH='' cd -- "$(dirname -- "$0")" && pwd)
 examples=$here/../examples
 
 for tool in groff gs ppmforge pamditherbw pbmtext pnmtile python3; do
-    command -v "$tool" > /dev/null || { echo "pages.sh: needs $tool (Debian: groff, ghostscript, netpbm, python3)" >&2; exit 1; }
+    command -v "$tool" > /dev/null ||
+        { echo "pages.sh: needs $tool (Debian: groff, ghostscript, netpbm, python3)" >&2; exit 1; }
 done
 
 mkdir -p "$1"
@@ -31,13 +32,14 @@ cp "$examples/letter.tif" letter.tif
 groff -t -Tps -P-pletter "$here/form.roff" |
     gs -q -dSAFER -dBATCH -dNOPAUSE -sDEVICE=pbmraw -r300 -g2550x3300 -dFIXEDMEDIA -sOutputFile=- - | plain_page > form.tif
 
-ppmforge -quiet -clouds -seed 7 -width 2550 -height 3300 | pamcut -width 2550 -height 3300 | ppmtopgm > "$scratch/clouds.pgm"
+ppmforge -quiet -clouds -seed 7 -width 2550 -height 3300 | pamcut -width 2550 -height 3300 |
+    ppmtopgm > "$scratch/clouds.pgm"
 pamditherbw -cluster4 "$scratch/clouds.pgm" | plain_page > halftone.tif
 pamditherbw -floyd -randomseed 7 "$scratch/clouds.pgm" | plain_page > dithered.tif
 
 python3 -c 'import random, sys
-width, height = 2550, 3300
-sys.stdout.buffer.write(b"P4 %d %d\n" % (width, height) + random.Random(7).randbytes((width + 7) // 8 * height))' > "$scratch/random.pbm"
+bits = random.Random(7).randbytes((2550 + 7) // 8 * 3300)
+sys.stdout.buffer.write(b"P4\n2550 3300\n" + bits)' > "$scratch/random.pbm"
 plain_page < "$scratch/random.pbm" > random.tif
 
 echo "This page was left blank." | pbmtext -builtin fixed | pnmenlarge 4 > "$scratch/line.pbm"

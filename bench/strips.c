@@ -33,7 +33,8 @@ static struct page read_page(const char *folder, const char *name) {
     TIFFGetFieldDefaulted(file, TIFFTAG_FILLORDER, &page.fill_order);
     page.length = TIFFRawStripSize(file, 0);
     page.strip = malloc(page.length > 0 ? page.length : 1);
-    if (!page.strip || TIFFReadRawStrip(file, 0, page.strip, page.length) != page.length) stop("cannot read the strip", path);
+    if (!page.strip || TIFFReadRawStrip(file, 0, page.strip, page.length) != page.length)
+        stop("cannot read the strip", path);
     TIFFClose(file);
     return page;
 }
@@ -41,7 +42,8 @@ static struct page read_page(const char *folder, const char *name) {
 static tmsize_t compare(const char *name, struct page one, struct page other) {
     if (one.width != other.width || one.height != other.height) stop("the sides differ", name);
     if (one.compression != other.compression) stop("the compression differs", name);
-    if (one.photometric != other.photometric || one.fill_order != other.fill_order) stop("white or the order of bits differs", name);
+    if (one.photometric != other.photometric) stop("the value of white differs", name);
+    if (one.fill_order != other.fill_order) stop("the order of bits differs", name);
     tmsize_t shorter = one.length < other.length ? one.length : other.length, at = 0;
     while (at < shorter && one.strip[at] == other.strip[at]) at++;
     if (at < shorter || one.length != other.length) {

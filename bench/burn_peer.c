@@ -1,5 +1,5 @@
-/* The peer of `burn IN L T W H OUT plain` on libtiff: reads the one strip of an uncompressed bilevel page,
- * blackens the box in its packed rows by whole bytes, and writes the page as one strip again. */
+/* The peer of `burn IN L T W H OUT FORM` on libtiff: reads the one strip of an uncompressed bilevel page, blackens the
+ * box in its packed rows by whole bytes, and writes the page as one strip again: as it is, or in Group 4. */
 #include <stdint.h>
 #include <stdio.h>
 #include <stdlib.h>
@@ -29,7 +29,9 @@ static void blacken(uint8_t *row, uint32_t left, uint32_t right) {
 }
 
 int main(int count, char **words) {
-    need(count == 7, "usage: burn_peer IN L T W H OUT");
+    need(count == 8, "usage: burn_peer IN L T W H OUT plain|g4");
+    int g4 = strcmp(words[7], "g4") == 0;
+    need(g4 || strcmp(words[7], "plain") == 0, "the form is plain or g4");
     uint32_t left = strtoul(words[2], NULL, 10), top = strtoul(words[3], NULL, 10);
     uint32_t wide = strtoul(words[4], NULL, 10), high = strtoul(words[5], NULL, 10);
 
@@ -64,7 +66,8 @@ int main(int count, char **words) {
     TIFFSetField(out, TIFFTAG_IMAGEWIDTH, width);
     TIFFSetField(out, TIFFTAG_IMAGELENGTH, height);
     TIFFSetField(out, TIFFTAG_BITSPERSAMPLE, 1);
-    TIFFSetField(out, TIFFTAG_COMPRESSION, COMPRESSION_NONE);
+    TIFFSetField(out, TIFFTAG_COMPRESSION, g4 ? COMPRESSION_CCITTFAX4 : COMPRESSION_NONE);
+    if (g4) TIFFSetField(out, TIFFTAG_GROUP4OPTIONS, 0);
     TIFFSetField(out, TIFFTAG_PHOTOMETRIC, PHOTOMETRIC_MINISWHITE);
     TIFFSetField(out, TIFFTAG_FILLORDER, FILLORDER_MSB2LSB);
     TIFFSetField(out, TIFFTAG_SAMPLESPERPIXEL, 1);

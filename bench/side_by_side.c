@@ -1,5 +1,6 @@
-/* Runs two commands in turn, as often as it is told, and prints of both the median and the least wall time and the
- * peak memory, and the ratios of the first over the second. Words: label, rounds, first command, --, second command.
+/* Runs two commands in turn, as often as it is told, and prints of both the median and the least wall time, the median
+ * processor time and the peak memory, and the ratios of the first over the second. On a busy machine the processor time
+ * tells more than the wall time. Words: label, rounds, first command, --, second command.
  * What the commands print is dropped; each must end with status 0. */
 #define _GNU_SOURCE
 #include <fcntl.h>
@@ -15,7 +16,7 @@ extern char **environ;
 
 struct side {
     char **words;
-    double *milliseconds;
+    double *wall, *processor; /* in milliseconds, of each round */
     long kilobytes;
 };
 
@@ -30,6 +31,8 @@ static double now(void) {
     return at.tv_sec * 1e3 + at.tv_nsec / 1e6;
 }
 
+static double milliseconds(struct timeval time) { return time.tv_sec * 1e3 + time.tv_usec / 1e3; }
+
 static void run(struct side *side, int round) {
     posix_spawn_file_actions_t actions;
     posix_spawn_file_actions_init(&actions);
@@ -40,7 +43,8 @@ static void run(struct side *side, int round) {
     double start = now();
     if (posix_spawn(&child, side->words[0], &actions, NULL, side->words, environ)) stop("cannot start a command");
     if (wait4(child, &status, 0, &used) != child) stop("cannot wait for a command");
-    side->milliseconds[round] = now() - start;
+    side->wall[round] = now() - start;
+    side->processor[round] = milliseconds(used.ru_utime) + milliseconds(used.ru_stime);
     if (!WIFEXITED(status) || WEXITSTATUS(status)) stop("a command failed");
     if (used.ru_maxrss > side->kilobytes) side->kilobytes = used.ru_maxrss;
     posix_spawn_file_actions_destroy(&actions);
@@ -51,21 +55,32 @@ static int by_size(const void *one, const void *other) {
     return (a > b) - (a < b);
 }
 
+static void print(const char *unit, double mine, double other) {
+    printf("%8.2f /%8.2f %s = %4.2f", mine, other, unit, mine / other);
+}
+
 int main(int count, char **words) {
     int rounds = count > 2 ? atoi(words[2]) : 0, split = 3;
     while (split < count && strcmp(words[split], "--")) split++;
     if (rounds < 1 || split == 3 || split + 1 >= count) stop("usage: LABEL ROUNDS COMMAND.. -- COMMAND..");
     words[split] = NULL;
-    struct side sides[2] = {{words + 3, NULL, 0}, {words + split + 1, NULL, 0}};
-    for (int at = 0; at < 2; at++)
-        if (!(sides[at].milliseconds = malloc(rounds * sizeof(double)))) stop("out of memory");
+    struct side sides[2] = {{.words = words + 3}, {.words = words + split + 1}};
+    for (int at = 0; at < 2; at++) {
+        sides[at].wall = malloc(rounds * sizeof(double));
+        sides[at].processor = malloc(rounds * sizeof(double));
+        if (!sides[at].wall || !sides[at].processor) stop("out of memory");
+    }
     for (int round = 0; round < rounds; round++)
         for (int at = 0; at < 2; at++) run(&sides[at], round);
-    for (int at = 0; at < 2; at++) qsort(sides[at].milliseconds, rounds, sizeof(double), by_size);
-    double mine = sides[0].milliseconds[rounds / 2], other = sides[1].milliseconds[rounds / 2];
-    double least = sides[0].milliseconds[0], other_least = sides[1].milliseconds[0];
-    printf("%-18s%9.2f /%9.2f ms = %4.2f%9.2f /%9.2f ms = %4.2f%9.1f /%9.1f MB = %4.2f\n", words[1], mine, other, mine / other,
-           least, other_least, least / other_least, sides[0].kilobytes / 1024.0, sides[1].kilobytes / 1024.0,
-           (double)sides[0].kilobytes / sides[1].kilobytes);
+    for (int at = 0; at < 2; at++) {
+        qsort(sides[at].wall, rounds, sizeof(double), by_size);
+        qsort(sides[at].processor, rounds, sizeof(double), by_size);
+    }
+    printf("%-18s", words[1]);
+    print("ms", sides[0].wall[rounds / 2], sides[1].wall[rounds / 2]);
+    print("ms", sides[0].wall[0], sides[1].wall[0]);
+    print("ms", sides[0].processor[rounds / 2], sides[1].processor[rounds / 2]);
+    print("MB", sides[0].kilobytes / 1024.0, sides[1].kilobytes / 1024.0);
+    printf("\n");
     return 0;
 }

@@ -1,7 +1,8 @@
 #!/bin/sh
 # Burns a paragraph of letter.tif, and compares what was written with the letter page by a public reader of TIFF,
 # netpbm's tifftopnm over libtiff: black in every pixel of the box, and elsewhere the pixels of the letter page.
-# Ends with a status other than 0 where they differ. Needs netpbm (Debian's netpbm).
+# Ends with a status other than 0 where they differ. Words: the form to write, plain where none is given.
+# Needs netpbm (Debian's netpbm).
 set -eu
 cd "$(dirname "$0")"
 
@@ -15,7 +16,7 @@ scratch=$(mktemp -d)
 trap 'rm -rf "$scratch"' EXIT
 
 left=320 top=1755 width=1910 height=370
-../tivrenan burn letter.tif $left $top $width $height redacted.tif plain
+../tivrenan burn letter.tif $left $top $width $height redacted.tif "${1:-plain}"
 
 tifftopnm -quiet letter.tif > "$scratch/letter.pbm"
 tifftopnm -quiet out/redacted.tif > "$scratch/redacted.pbm"

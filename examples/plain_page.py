@@ -62,4 +62,5 @@ def main():
     sys.stdout.buffer.write(plain_page(width, height, int(sys.argv[1]), strip))
 
 
-main()
+if __name__ == "__main__":
+    main()

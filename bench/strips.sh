@@ -1,0 +1,48 @@
+#!/bin/sh
+# Compares the strips of `burn` with those of a peer on libtiff (burn_peer.c), byte for byte: for the pages of pages.sh,
+# and for a table of small pages (small_pages.py) of each width about 1 to 70, 2,560 and 5,120 pixels. Both burn the last
+# pixel of each page. Ends with status 1 where a strip differs.
+# Words: the form, g4 where none is given; then a command to try in place of `burn`, which takes the words of `burn` and
+# writes the page below the folder out.
+# Needs rt on PATH where the program isn't built; of Debian gcc, libtiff-dev; and what pages.sh needs.
+set -eu
+here=$(CDPATH='' cd -- "$(dirname -- "$0")" && pwd)
+top=$here/..
+
+stop() { echo "strips.sh: $1" >&2; exit 1; }
+
+form=${1:-g4}
+if [ $# -gt 1 ]; then
+    shift
+else
+    # the launcher builds the program; these words are no command line
+    "$top/tivrenan" build > /dev/null 2>&1 || [ $? -eq 1 ] || stop "the program can't be built"
+    set -- "$top/crates/bp_cli/out/bp_cli" burn
+fi
+
+scratch=$(mktemp -d)
+trap 'rm -rf "$scratch"' EXIT
+
+echo '#include <tiffio.h>' | cc -E - > /dev/null 2>&1 || stop "needs tiffio.h (Debian: libtiff-dev)"
+cc -O2 -o "$scratch/burn_peer" "$here/burn_peer.c" -ltiff
+cc -O2 -o "$scratch/strips" "$here/strips.c" -ltiff
+
+mkdir "$scratch/pages" "$scratch/pages/out" "$scratch/pages/peer"
+cd "$scratch/pages"
+"$here/pages.sh" .
+for page in letter form halftone dithered random white; do echo "$page.tif 2549 3299"; done > pages
+echo "large.tif 19999 9999" >> pages
+"$here/small_pages.py" . > small
+
+# a list of pages: burns each by both, and compares
+compare() {
+    while read -r page left top; do
+        "$burn" "$@" "$page" "$left" "$top" 1 1 "$page" "$form" > printed || stop "$burn failed on $page: $(cat printed)"
+        "$scratch/burn_peer" "$page" "$left" "$top" 1 1 "peer/$page" "$form" || stop "the peer failed on $page"
+    done < "$list"
+    "$scratch/strips" out peer < "$list" || exit 1
+}
+
+burn=$1
+shift
+for list in pages small; do compare "$@"; done

@@ -1,42 +1,27 @@
 -- Lemmas of two matters: where they differ only in what a command withholds, they have one outcome.
-use Rattle.std.proofs.Common.{ℕ, ◌≡◌, ◌≤◌, ◌+◌, ◌*◌, ◌||◌, List, [], ◌∷◌, ◌++◌, length, Some, Result, Ok, Err, sym, ap, subst, ◌∙◌, arith, eqb, cond}
-use Rattle.std.proofs.lemmas.List.{length-append}
+use Rattle.std.proofs.Common.{ℕ, ◌≡◌, ◌≤◌, List, [], ◌∷◌, length, Some, Result, Ok, Err, sym, ap, ◌∙◌, arith, cond}
 use Rattle.bp_core.specs.declared.rules.Rule.{Rule}
 use Rattle.bp_core.specs.declared.rules.RuleKind.TheVariants as kinds
 use Rattle.bp_core.specs.Rectangle.{lies_inside}
 use Rattle.bp_core.specs.Rules.{bare_rule}
 use Rattle.bp_outside.specs.Source.{FileMap}
-use Rattle.bp_rows.specs.Image.{Image, IsPage}
-use Rattle.bp_rows.specs.Bits.{row_bytes}
-use Rattle.bp_rows.specs.Packed.{packed_rows}
+use Rattle.bp_rows.specs.Image.{Image}
 use Rattle.bp_rows.specs.Burned.{burned, AgreeOutside}
 use Rattle.bp_rows.proofs.Burning.{burned-AgreeOutside}
-use Rattle.bp_rows.proofs.Packing.{length-packed_rows}
-use Rattle.bp_rows.proofs.Pages.{strip_small}
-use Rattle.bp_tiff.specs.declared.form.Form.TheVariants.{Plain}
-use Rattle.bp_tiff.specs.Tiff.{tiff_of, head_of, fields_of}
+use Rattle.bp_tiff.specs.Tiff.{tiff_of}
 use Rattle.bp_tiff.specs.Plain.{IsPlainFile}
-use Rattle.bp_tiff.proofs.PlainFileLemmas.{length-head_of, plain_answer-file}
+use Rattle.bp_tiff.proofs.PlainFileLemmas.{length-plain_file, plain_answer-file}
 use Rattle.bp_cli.specs.declared.burn.TheConstants.{FILE_LIMIT}
 use Rattle.bp_cli.specs.Burn.{BurnLine, HasPage, BurnAlike, lacks_a_side, burn_page, burn_read, burn_answer, burn_gives, burn_outcome}
 use Rattle.bp_cli.specs.Commands.{CommandLine, Matter, burn, AlikeFor, outcome_of}
 use Rattle.bp_cli.proofs.BurnLemmas.{answer_short}
 
 -- a plain file of a page isn't too long to be read
-length-tiff_of : (p : Image) → IsPage p → length (tiff_of Plain p) ≤ FILE_LIMIT
-length-tiff_of p page =
-    let strip = packed_rows p.rows in
-    let long : length strip ≡ p.height * row_bytes p.width = length-packed_rows p.width p.height p.rows page.grid in
-    let small : p.height * row_bytes p.width ≤ 50080000 = strip_small p.width p.height page.sides in
-    let head = head_of Plain (fields_of p) (length strip) in
-    let parts : length (head ++ strip) ≡ length head + length strip = length-append head strip in
-    let first : length head ≡ 186 = length-head_of (fields_of p) (length strip) in
-    omega (arith, parts, first, long, small)
+short_enough : (bytes : List ℕ) (p : Image) → IsPlainFile bytes p → length bytes ≤ FILE_LIMIT
+short_enough bytes p plain = omega (arith, length-plain_file bytes p plain)
 
 plain_read : (b : BurnLine) (bytes : List ℕ) (p : Image) → IsPlainFile bytes p → burn_answer b (Some bytes) ≡ burn_page b p
-plain_read b bytes p plain =
-    answer_short b bytes (subst (λ bs. length bs ≤ FILE_LIMIT) (sym plain.file) (length-tiff_of p plain.page))
-    ∙ ap (burn_read b) (plain_answer-file bytes p plain)
+plain_read b bytes p plain = answer_short b bytes (short_enough bytes p plain) ∙ ap (burn_read b) (plain_answer-file bytes p plain)
 
 -- what the sides of a page and its burned page give
 burn_by : BurnLine → ℕ → ℕ → Image → Result (List ℕ) Rule

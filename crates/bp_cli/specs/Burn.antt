@@ -13,7 +13,7 @@ use Rattle.bp_outside.specs.Folder.{file}
 use Rattle.bp_rows.specs.Image.{Image}
 use Rattle.bp_rows.specs.Burned.{burned, AgreeOutside}
 use Rattle.bp_tiff.specs.declared.form.Form.{Form}
-use Rattle.bp_tiff.specs.declared.form.Form.TheVariants.{Plain}
+use Rattle.bp_tiff.specs.declared.form.Form.TheVariants.{Plain, G4}
 use Rattle.bp_tiff.specs.Tiff.{tiff_of}
 use Rattle.bp_tiff.specs.Plain.{IsPlainFile, plain_answer}
 use Rattle.bp_cli.specs.declared.burn.Burn.{Burn}
@@ -34,7 +34,10 @@ abbrev pub burn_seen : Burn → BurnLine
 burn_seen b = record { from = chars b.from.now; area = b.area; to = chars b.to.now; form = b.form }
 
 abbrev pub form_of : List ℕ → Option Form
-form_of word = if bytes_eq word (codes "plain") then Some Plain else None
+form_of word =
+    if bytes_eq word (codes "plain")
+    then Some Plain
+    else (if bytes_eq word (codes "g4") then Some G4 else None)
 
 abbrev pub box_of : List ℕ → List ℕ → List ℕ → List ℕ → Option Rect
 box_of left top width height = do

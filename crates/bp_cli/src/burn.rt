@@ -69,6 +69,8 @@ fn form_in(word: &str) -> Option<Form>
 {
     if word == "plain" {
         Some(Form::Plain)
+    } else if word == "g4" {
+        Some(Form::G4)
     } else {
         None
     }

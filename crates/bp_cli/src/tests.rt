@@ -50,6 +50,18 @@ fn file_of(alloc: Global, strip: u8) -> Result<Vec<u8>, AllocError> {
     Ok(bytes)
 }
 
+// The plain file of a black page of 8 by 3 pixels.
+fn black_rows(alloc: Global) -> Result<Vec<u8>, AllocError> {
+    let mut bytes = WHITE[..186].to_vec(alloc)?;
+    for at in [30, 114, 126] {
+        if let Some(byte) = bytes.get_mut(at) {
+            *byte = 3;
+        }
+    }
+    bytes.extend_from_slice(&[0xFF, 0xFF, 0xFF])?;
+    Ok(bytes)
+}
+
 // Which calls of the source, the folder and the out are to fail.
 #[derive(Clone, Copy)]
 struct Failing<'a> {
@@ -83,11 +95,13 @@ fn words_of(alloc: Global, line: &str) -> Result<Vec<String>, AllocError> {
     Ok(words)
 }
 
-// A source with the white page at a.tif, a black one at k.tif, and the one byte `x` at x.tif.
+// A source with the white page at a.tif, a black one at k.tif, one of three black rows at
+// r.tif, and the one byte `x` at x.tif.
 fn source_of(alloc: Global, failing: &[u64]) -> Result<MemSource, Fail> {
     let rows = vec![in alloc;
         row(alloc, "a.tif", &WHITE)?,
         row(alloc, "k.tif", &file_of(alloc, 0xFF)?)?,
+        row(alloc, "r.tif", &black_rows(alloc)?)?,
         row(alloc, "x.tif", b"x")?,
     ]?;
     let files = FileList::from_vec(rows);
@@ -142,6 +156,40 @@ fn a_box_is_burned(rt: HostRuntime) -> Result<(), Fail> {
     Ok(())
 }
 
+// What the box covers was black in each row, and memory is ample.
+#[test]
+fn rows_that_were_black_are_burned(rt: HostRuntime) -> Result<(), Fail> {
+    let alloc = rt.alloc();
+    let seen = ran(alloc, "burn r.tif 2 0 4 3 b.tif plain", &NOTHING_FAILS)?;
+    assert_eq!(rt; seen.status, 0);
+    assert_eq!(rt; seen.out.written(), b"burned 189\n".as_slice());
+    let [file] = seen.folder.files() else {
+        return Err(Fail::from("not one file"));
+    };
+    assert_eq!(rt; file.bytes.as_slice(), black_rows(alloc)?.as_slice());
+    Ok(())
+}
+
+// The strip is that of a row of 8 black pixels (ITU-T T.6): horizontal, no white, 8 black, and EOFB.
+#[test]
+fn a_box_is_burned_to_group_4(rt: HostRuntime) -> Result<(), Fail> {
+    let alloc = rt.alloc();
+    for line in ["burn a.tif 0 0 8 1 b.tif g4", "burn k.tif 2 0 3 1 b.tif g4"] {
+        let seen = ran(alloc, line, &NOTHING_FAILS)?;
+        assert_eq!(rt; seen.status, 0, "{line}");
+        assert_eq!(rt; seen.out.written(), b"burned 204\n".as_slice(), "{line}");
+        let [file] = seen.folder.files() else {
+            return Err(Fail::from("not one file"));
+        };
+        assert_eq!(rt; file.bytes.len(), 204, "{line}");
+        assert!(rt;
+            file.bytes.as_slice().ends_with(b"\x26\xA2\x80\x08\x00\x80"),
+            "{line}"
+        );
+    }
+    Ok(())
+}
+
 #[test]
 fn a_broken_rule_is_named(rt: HostRuntime) -> Result<(), Fail> {
     let alloc = rt.alloc();
@@ -189,7 +237,7 @@ fn words_that_are_no_command_line_are_refused(rt: HostRuntime) -> Result<(), Fai
         "burns a.tif 0 0 8 1 b.tif plain",
         "burn a.tif 0 0 8 1 b.tif",
         "burn a.tif 0 0 8 1 b.tif plain plain",
-        "burn a.tif 0 0 8 1 b.tif g4",
+        "burn a.tif 0 0 8 1 b.tif g4x",
         "burn a.tif 0 0 8 1 b.tif Plain",
         "burn a.tif 00 0 8 1 b.tif plain",
         "burn a.tif 0 01 8 1 b.tif plain",

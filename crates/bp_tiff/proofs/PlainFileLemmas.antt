@@ -1,6 +1,6 @@
 -- Carries the bytes of a plain file over to the page that they name, and on to the answer of a
 -- reader.
-use Rattle.std.proofs.Common.{ℕ, ◌≡◌, ◌*◌, ◌<◌, ◌≤◌, Bool, true, false, cond, ◌&&◌, List, ◌++◌, length, take, drop, Option, Some, None, Result, Ok, Err, IsTrue, IfOk, MatchResult, refl, sym, ap, subst, ◌∙◌, arith, length-append}
+use Rattle.std.proofs.Common.{ℕ, ◌≡◌, ◌+◌, ◌*◌, ◌<◌, ◌≤◌, Bool, true, false, cond, ◌&&◌, List, ◌++◌, length, take, drop, Option, Some, None, Result, Ok, Err, IsTrue, IfOk, MatchResult, refl, sym, ap, subst, ◌∙◌, arith, length-append}
 use Rattle.std.specs.Option.{option_and_then, ok_or}
 use Rattle.std.specs.Str.{bytes_eq}
 use Rattle.std.proofs.lemmas.Bool.{and_from, cond-true, cond-false, and_parts}
@@ -13,7 +13,7 @@ use Rattle.bp_rows.specs.Image.{Image, IsPage}
 use Rattle.bp_rows.specs.Limits.{sides_are_imported}
 use Rattle.bp_rows.specs.Bits.{rows_in, row_bytes}
 use Rattle.bp_rows.specs.Packed.{packed_rows}
-use Rattle.bp_rows.proofs.Pages.{imported_is_allowed}
+use Rattle.bp_rows.proofs.Pages.{imported_is_allowed, strip_small}
 use Rattle.bp_rows.proofs.Grids.{grid_of_is_grid}
 use Rattle.bp_rows.proofs.Packing.{rows_in-packed_rows, length-packed_rows}
 use Rattle.bp_tiff.specs.declared.form.Form.TheVariants.{Plain}
@@ -263,3 +263,19 @@ read_only bytes (Ok q) answered p file =
 read_only bytes (Err (refusals.Rule rule)) answered p file =
     let same : Err rule ≡ Ok p = sym answered ∙ plain_answer-file bytes p file in cc
 read_only bytes (Err refusals.OutOfMemory) answered p file = refl
+
+-- ---- how long the file of a page is
+
+length-tiff_of : (p : Image) → IsPage p → length (tiff_of Plain p) ≤ PLAIN_STRIP_AT + 50080000
+length-tiff_of p page =
+    let strip = packed_rows p.rows in
+    let long : length strip ≡ p.height * row_bytes p.width = length-packed_rows p.width p.height p.rows page.grid in
+    let small : p.height * row_bytes p.width ≤ 50080000 = strip_small p.width p.height page.sides in
+    let head = head_of Plain (fields_of p) (length strip) in
+    let parts : length (head ++ strip) ≡ length head + length strip = length-append head strip in
+    let first : length head ≡ PLAIN_STRIP_AT = length-head_of (fields_of p) (length strip) in
+    omega (arith, parts, first, long, small)
+
+-- a plain file has at most these bytes
+pub length-plain_file : (bytes : List ℕ) (p : Image) → IsPlainFile bytes p → length bytes ≤ 50080186
+length-plain_file bytes p plain = subst (λ (bs : List ℕ). length bs ≤ 50080186) (sym plain.file) (length-tiff_of p plain.page)

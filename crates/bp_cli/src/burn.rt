@@ -126,8 +126,7 @@ fn stop_of_read(refusal: ReadRefusal) -> Stop
 fn burned(alloc: Global, asked: &Burn<'_>, bytes: Vec<u8>) -> Result<Bytes, Stop>
     ensures { StopAnswers result (burn_read (burn_seen asked.now) (plain_answer bytes.items)) }
 {
-    let page = read_plain(alloc, bytes.as_slice())?;
-    drop(bytes);
+    let page = read_plain(alloc, bytes)?;
     burned_page(alloc, asked, page)
 }
 

@@ -45,7 +45,7 @@ abbrev pub ratio : ℕ → ℕ → Entry
 ratio tag at = record { tag = tag; value = values.RationalAt at }
 
 -- Sections 8 and 11, in the order of the tags. Compression 1 is none, 4 is T.6, here without
--- uncompressed mode. White is zero, the first pixel stands in the high bit, and all rows in one strip.
+-- uncompressed mode. White is zero, the first pixel stands in the high bit, all rows in one strip.
 abbrev pub entries : Form → Fields → ℕ → List Entry
 entries Plain f strip_bytes =
     long tags.IMAGE_WIDTH f.width

@@ -1,5 +1,5 @@
 -- Reading a plain page file as this product writes it.
-use Rattle.std.specs.Prelude.{ℕ, ◌≡◌, ◌+◌, Bool, ◌&&◌, Option, Some, None, Result, Ok, Err, List, take, drop, IsTrue, if◌then◌else◌}
+use Rattle.std.specs.Prelude.{◌≤◌, length, ℕ, ◌≡◌, ◌+◌, Bool, ◌&&◌, Option, Some, None, Result, Ok, Err, List, take, drop, IsTrue, if◌then◌else◌}
 use Rattle.std.specs.Int.{from_le_bytes, w16, w32}
 use Rattle.std.specs.Option.{ok_or, option_map, option_and_then}
 use Rattle.std.specs.Str.{bytes_eq}
@@ -17,7 +17,7 @@ use Rattle.bp_rows.specs.Packed.{packed_rows}
 use Rattle.bp_tiff.specs.declared.fields.Fields.{Fields}
 use Rattle.bp_tiff.specs.declared.form.Form.TheVariants.{Plain}
 use Rattle.bp_tiff.specs.declared.places.TheConstants.{WIDTH_AT, HEIGHT_AT, PLAIN_UNIT_AT, PLAIN_XRES_AT, PLAIN_YRES_AT, PLAIN_STRIP_AT}
-use Rattle.bp_tiff.specs.Tiff.{tiff_of, fields_of}
+use Rattle.bp_tiff.specs.Tiff.{head_of, tiff_of, fields_of}
 use Rattle.bp_tiff.specs.Units.{unit_of}
 
 -- the bytes are the plain file of that page, which is within the limits of an import
@@ -104,3 +104,16 @@ abbrev pub StripMakes : Fields → List ℕ → Result Image Refusal → Type 0
 StripMakes f strip (Ok p) = IsMadeOf f strip p
 StripMakes f strip (Err (refusals.Rule rule)) = (rule ≡ form_not_built) × HasNoRows f strip
 StripMakes f strip (Err refusals.OutOfMemory) = Unit {0}
+
+-- before the strip stands the head of a plain file of these fields, whose sides are those of an import
+pub record HasHead (bytes : List ℕ) (f : Fields) : Type 0 where
+  pub long : PLAIN_STRIP_AT ≤ length bytes
+  pub named : named_fields bytes ≡ Some f
+  pub imported : IsTrue (sides_are_imported f.width f.height)
+  pub head : take PLAIN_STRIP_AT bytes ≡ head_of Plain f (length (drop PLAIN_STRIP_AT bytes))
+
+-- the fields of such a head were found, or no page has these bytes as its plain file
+abbrev pub FindsHead : List ℕ → Result Fields Refusal → Type 0
+FindsHead bytes (Ok f) = HasHead bytes f
+FindsHead bytes (Err (refusals.Rule rule)) = plain_answer bytes ≡ Err rule
+FindsHead bytes (Err refusals.OutOfMemory) = Unit {0}

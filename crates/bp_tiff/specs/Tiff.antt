@@ -1,5 +1,5 @@
--- The page file that this product writes (TIFF 6.0): the least byte first, one directory, one strip,
--- and the file ends with the strip.
+-- The page file that this product writes (TIFF 6.0): the least byte first, one directory, and one
+-- strip, with which the file ends.
 use Rattle.std.specs.Prelude.{ℕ, List, ◌++◌, length, codes}
 use Rattle.std.specs.Int.{to_le_bytes, w16, w32}
 use Rattle.bp_rows.specs.declared.resolution.Res.{Res}

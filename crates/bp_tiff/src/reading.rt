@@ -1,8 +1,8 @@
 // Page files read.
-ghost use Rattle.std.specs.Prelude.{◌≡◌, ◌+◌, ◌≤◌, length, IfOk, MatchResult};
+ghost use Rattle.std.specs.Prelude.{◌≡◌, ◌+◌, ◌≤◌, length, drop, IfOk, MatchResult};
 ghost use Rattle.bp_core.specs.Answers.{Answers};
 ghost use Rattle.bp_rows.specs.Image.{Image};
-ghost use Rattle.bp_tiff.specs.Plain.{IsPlainFile, short_at, long_at, res_at, named_fields, plain_answer, form_not_built, StripMakes};
+ghost use Rattle.bp_tiff.specs.Plain.{IsPlainFile, short_at, long_at, res_at, named_fields, plain_answer, form_not_built, FindsHead, StripMakes};
 
 use crate::fields::{Fields, unit_of_code};
 use crate::form::Form;
@@ -18,25 +18,36 @@ use std::alloc::Global;
 const HEAD_BYTES: usize = PLAIN_STRIP_AT as usize;
 
 /// The page whose plain file the bytes are, as `write_tiff` writes it. Bytes that are no plain file
-/// of a page within the limits of an import break the rule FormNotBuilt.
-pub fn read_plain(alloc: Global, bytes: &[u8]) -> Result<Page, Refusal>
+/// of a page within the limits of an import break the rule FormNotBuilt. The bytes of the strip become
+/// the page's own: it takes memory for the head alone.
+pub fn read_plain(alloc: Global, bytes: Vec<u8>) -> Result<Page, Refusal>
     // What is read has the bytes as its file.
-    ensures found { IfOk result (λ p. IsPlainFile bytes.now p) }
+    ensures found { IfOk result (λ p. IsPlainFile bytes.items p) }
 
     // A page that has the bytes as its file is read, unless memory runs out.
     ensures only { (p : Image)
-        → IsPlainFile bytes.now p
+        → IsPlainFile bytes.items p
         → MatchResult result (λ q. q ≡ p) (λ e. e ≡ Refusal.OutOfMemory) }
 
     // Whatever the bytes are, this is the answer.
-    ensures exact { Answers (λ p. p) result (plain_answer bytes.now) }
+    ensures exact { Answers (λ p. p) result (plain_answer bytes.items) }
 {
     read(alloc, bytes)
 }
 
-fn read(alloc: Global, bytes: &[u8]) -> Result<Page, Refusal>
-    ensures found { IfOk result (λ p. IsPlainFile bytes.now p) }
-    ensures exact { Answers (λ p. p) result (plain_answer bytes.now) }
+fn read(alloc: Global, bytes: Vec<u8>) -> Result<Page, Refusal>
+    ensures found { IfOk result (λ p. IsPlainFile bytes.items p) }
+    ensures exact { Answers (λ p. p) result (plain_answer bytes.items) }
+{
+    match head_fields(alloc, bytes.as_slice()) {
+        Ok(fields) => page_of(&fields, without_head(bytes)),
+        Err(refusal) => Err(refusal),
+    }
+}
+
+// The fields of a plain file, by its head. Its strip isn't looked at, but for its length.
+fn head_fields(alloc: Global, bytes: &[u8]) -> Result<Fields, Refusal>
+    ensures { FindsHead bytes.now result }
 {
     if bytes.len() < HEAD_BYTES {
         return Err(Refusal::Rule(not_built()));
@@ -55,12 +66,23 @@ fn read(alloc: Global, bytes: &[u8]) -> Result<Page, Refusal>
     if wanted.as_slice() != head {
         return Err(Refusal::Rule(not_built()));
     }
-    page_of(alloc, &fields, strip)
+    Ok(fields)
+}
+
+// What stands behind the head, moved to the front.
+fn without_head(mut file: Vec<u8>) -> Vec<u8>
+    requires { PLAIN_STRIP_AT ≤ length file.items }
+    ensures { result.items ≡ drop PLAIN_STRIP_AT file.items }
+{
+    let rest = file.len() - HEAD_BYTES;
+    file.copy_within(HEAD_BYTES.., 0);
+    file.truncate(rest);
+    file
 }
 
 // The page of these fields and this strip.
-fn page_of(alloc: Global, fields: &Fields, strip: &[u8]) -> Result<Page, Refusal>
-    ensures { StripMakes fields.now strip.now result }
+fn page_of(fields: &Fields, strip: Vec<u8>) -> Result<Page, Refusal>
+    ensures { StripMakes fields.now strip.items result }
 {
     let Fields {
         width,
@@ -69,7 +91,6 @@ fn page_of(alloc: Global, fields: &Fields, strip: &[u8]) -> Result<Page, Refusal
         yres,
         unit,
     } = *fields;
-    let strip = strip.to_vec(alloc)?;
     match Page::from_strip(width, height, xres, yres, unit, strip) {
         Ok(page) => Ok(page),
         Err(_) => Err(Refusal::Rule(not_built())),

@@ -11,8 +11,8 @@ use bp_rows::Page;
 use bp_t6::code_page;
 use std::alloc::Global;
 
-/// The TIFF file of a page: the least byte first, one strip, which ends the file (TIFF 6.0, sections
-/// 2, 3, 8 and 11).
+/// The TIFF file of a page: the least byte first, and one strip, which ends the file (TIFF 6.0,
+/// sections 2, 3, 8 and 11).
 ///
 /// ```text
 /// let page = Page::white(alloc, 8, 1, res, res, Unit::Inch)?;

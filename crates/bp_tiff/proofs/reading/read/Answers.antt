@@ -1,68 +1,23 @@
-use Rattle.std.proofs.Common.{ℕ, ◌≡◌, ◌++◌, List, Some, Err, true, false, not, IsTrue, length, take, drop, arith, sym, ap, subst, ◌∙◌}
-use Rattle.std.specs.Str.{bytes_eq}
-use Rattle.std.proofs.lemmas.Bool.{false≢true, true≢false, not-false}
-use Rattle.std.proofs.lemmas.Slice.Eq.{bytes_eq-Decides}
-use Rattle.bp_rows.specs.Limits.{sides_are_imported}
-use Rattle.bp_tiff.specs.declared.form.Form.TheVariants.{Plain}
+use Rattle.std.proofs.Common.{ℕ, ◌≡◌, List, drop, subst}
 use Rattle.bp_tiff.specs.declared.places.TheConstants.{PLAIN_STRIP_AT}
-use Rattle.bp_tiff.specs.Tiff.{head_of}
-use Rattle.bp_tiff.specs.Plain.{named_fields, StripMakes}
-use Rattle.bp_tiff.proofs.PlainFileLemmas.{none_short, none_named, read_strip, read_file}
+use Rattle.bp_tiff.specs.Plain.{HasHead, StripMakes}
+use Rattle.bp_tiff.proofs.PlainFileLemmas.{read_strip, read_file}
 use Rattle.bp_tiff.proofs.reading.read.Goals as goal
-use Rattle.bp_tiff.proofs.reading.read.Goals.{then-not-import_sides-via-then-not-import_sides, then-not-import_sides-via-else-not-import_sides+then-strip-bytes_of_strip}
 
-pub returns-then-bytes-lt-HEAD_BYTES-clause-exact : goal.returns-then-bytes-lt-HEAD_BYTES-clause-exact
-returns-then-bytes-lt-HEAD_BYTES-clause-exact c =
-    none_short c.args.bytes.now (omega arith) ∙ ap Err (sym c.not_built.ensures)
+-- the page was made of what stands behind the head
+made_found : (c : goal.After-page_of) → StripMakes c.in-Ok.fields (drop PLAIN_STRIP_AT c.args.bytes.items) c.page_of.result
+made_found c = subst (λ (strip : List ℕ). StripMakes c.in-Ok.fields strip c.page_of.result) c.without_head.ensures c.page_of.ensures
 
-pub returns-then-not-import_sides-clause-exact : goal.returns-then-not-import_sides-clause-exact
-returns-then-not-import_sides-clause-exact c =
-    let named : named_fields c.args.bytes.now ≡ Some c.in-Some.fields = sym c.in-Some.ensures in
-    none_named c.args.bytes.now c.in-Some.fields named
-    (λ imported long head. elim c.then-not-import_sides.branch [
-      | then-not-import_sides-via-then-not-import_sides w ↦ false≢true (sym w.if-not-import_sides.true ∙ c.import_sides.ensures ∙ imported)
-      | then-not-import_sides-via-else-not-import_sides+then-strip-bytes_of_strip w ↦
-          w.if-strip-bytes_of_strip.true (ap length c.split_at.ensures.back ∙ long ∙ sym w.bytes_of_strip.ensures)
-    ])
-    ∙ ap Err (sym c.not_built-then-not-import_sides.ensures)
+-- the head that was found is that of the bytes
+head_found : (c : goal.After-page_of) → HasHead c.args.bytes.items c.in-Ok.fields
+head_found c = subst (λ (bytes : List ℕ). HasHead bytes c.in-Ok.fields) c.as_slice.ensures.value c.in-Ok.ensures
 
--- two lists of bytes that are equal are found equal
-found_equal : (xs ys : List ℕ) → xs ≡ ys → true ≡ not (bytes_eq xs ys) → ⊥
-found_equal xs ys same differ = true≢false (differ ∙ ap not ((bytes_eq-Decides xs ys).1 same))
+pub returns-in-Ok-clause-found : goal.returns-in-Ok-clause-found
+returns-in-Ok-clause-found c =
+    let h = head_found c in
+    read_file c.args.bytes.items c.in-Ok.fields c.page_of.result h.imported h.head (made_found c)
 
-found_same : (xs ys : List ℕ) → false ≡ not (bytes_eq xs ys) → xs ≡ ys
-found_same xs ys same = (bytes_eq-Decides xs ys).0 (not-false (bytes_eq xs ys) (sym same))
-
-pub returns-then-ne-clause-exact : goal.returns-then-ne-clause-exact
-returns-then-ne-clause-exact c =
-    let bytes = c.args.bytes.now in
-    let fields = c.in-Some.fields in
-    let named : named_fields bytes ≡ Some fields = sym c.in-Some.ensures in
-    let wanted : c.as_slice.result.now ≡ head_of Plain fields (length (drop PLAIN_STRIP_AT bytes)) =
-    c.as_slice.ensures.value ∙ c.in_ok-put_head.ensures ∙ ap (λ xs. xs ++ head_of Plain fields (length c.split_at.result.1.now)) c.in_ok-wanted.ensures.items
-    ∙ ap (λ xs. head_of Plain fields (length xs)) c.split_at.ensures.back in
-    none_named bytes fields named
-    (λ imported long head. found_equal c.as_slice.result.now c.split_at.result.0.now (wanted ∙ sym head ∙ sym c.split_at.ensures.front) c.if-ne.ensures)
-    ∙ ap Err (sym c.not_built-then-ne.ensures)
-
--- what stands before the strip, where all was found right
-head_found : (c : goal.After-drop-wanted-2) → take PLAIN_STRIP_AT c.args.bytes.now ≡ head_of Plain c.in-Some.fields (length (drop PLAIN_STRIP_AT c.args.bytes.now))
-head_found c =
-    sym c.split_at.ensures.front ∙ sym (found_same c.as_slice.result.now c.split_at.result.0.now c.if-ne.ensures)
-    ∙ c.as_slice.ensures.value ∙ c.in_ok-put_head.ensures
-    ∙ ap (λ xs. xs ++ head_of Plain c.in-Some.fields (length c.split_at.result.1.now)) c.in_ok-wanted.ensures.items
-    ∙ ap (λ xs. head_of Plain c.in-Some.fields (length xs)) c.split_at.ensures.back
-
-imported_found : (c : goal.After-drop-wanted-2) → IsTrue (sides_are_imported c.in-Some.fields.width c.in-Some.fields.height)
-imported_found c = sym c.if-not-import_sides.ensures
-
-made_found : (c : goal.After-drop-wanted-2) → StripMakes c.in-Some.fields (drop PLAIN_STRIP_AT c.args.bytes.now) c.page_of.result
-made_found c = subst (λ (strip : List ℕ). StripMakes c.in-Some.fields strip c.page_of.result) c.split_at.ensures.back c.page_of.ensures
-
-pub returns-clause-found : goal.returns-clause-found
-returns-clause-found c =
-    read_file c.args.bytes.now c.in-Some.fields c.page_of.result (imported_found c) (head_found c) (made_found c)
-
-pub returns-clause-exact : goal.returns-clause-exact
-returns-clause-exact c =
-    read_strip c.args.bytes.now c.in-Some.fields c.page_of.result (sym c.in-Some.ensures) (imported_found c) (head_found c) (made_found c)
+pub returns-in-Ok-clause-exact : goal.returns-in-Ok-clause-exact
+returns-in-Ok-clause-exact c =
+    let h = head_found c in
+    read_strip c.args.bytes.items c.in-Ok.fields c.page_of.result h.named h.imported h.head (made_found c)

@@ -37,7 +37,7 @@ impl CodeTables {
     }
 
     #[inline(always)]
-    fn run_table(&self, is_black: bool) -> &CodeTable<104>
+    pub fn run_table(&self, is_black: bool) -> &CodeTable<104>
         ensures is { result.now ≡ run_codes is_black }
         ensures short { AreShort result.now ≡ true }
     {
@@ -45,7 +45,7 @@ impl CodeTables {
     }
 
     #[inline(always)]
-    fn mode_table(&self) -> &CodeTable<9>
+    pub fn mode_table(&self) -> &CodeTable<9>
         ensures is { result.now ≡ mode_codes }
         ensures short { AreShort result.now ≡ true }
     {

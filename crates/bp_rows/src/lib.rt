@@ -11,7 +11,7 @@ mod resolution;
 mod runs;
 
 pub use bits::{bytes_of_row, bytes_of_strip};
-pub use limits::{allowed_sides, import_sides};
+pub use limits::{MAX_WIDTH, allowed_sides, import_sides};
 pub use paint::push_row;
 pub use page::{Page, StripFault};
 pub use resolution::{Res, Unit};

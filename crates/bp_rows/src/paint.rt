@@ -23,7 +23,8 @@ fn paint_row(row: &mut [u8], places: &[u32], width: u32)
     }
 }
 
-/// The packed row that the places show is added to a strip. `row` is lent for the work, and `white` is a white row.
+/// The packed row that the places show is added to a strip. `row` is lent for the work, and `white`
+/// is a white row.
 pub fn push_row(
     strip: &mut Vec<u8>,
     row: &mut Vec<u8>,

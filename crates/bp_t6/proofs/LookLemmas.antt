@@ -87,16 +87,24 @@ make_up_more codes bits start at pixels row len so is long low high =
       long = omega (arith, so.long, long, ap length piece, length-append (flat_map (make_up codes) so.ns) (code codes row));
     }
 
+-- the bits begin with the codes of a run, from one of the tables
+pub record RunEnds (table : List (List Bool)) (bits : List Bool) (n : ℕ) (rest : List Bool) : Type 0 where
+  pub run : Run
+  pub has : HasCodes run
+  pub size : pixels_of run ≡ n
+  pub codes : bits ≡ run_bits_in table run ++ rest
+
 -- a terminating code
-pub run_end : (codes : List (List Bool)) (bits : List Bool) (start at pixels row len : ℕ) → MakeUps codes bits start at pixels → next_row codes (drop at bits) ≡ Ok row → len ≡ length (code codes row) → row < 64 → (run : Run) × HasCodes run × (pixels_of run ≡ pixels + row) × (drop start bits ≡ run_bits_in codes run ++ drop (at + len) bits)
+pub run_end : (codes : List (List Bool)) (bits : List Bool) (start at pixels row len : ℕ) → MakeUps codes bits start at pixels → next_row codes (drop at bits) ≡ Ok row → len ≡ length (code codes row) → row < 64 → RunEnds codes (drop start bits) (pixels + row) (drop (at + len) bits)
 run_end codes bits start at pixels row len so is long low =
     let found = row_found codes (drop at bits) row is in
-    let rest : drop at bits ≡ code codes row ++ drop (at + len) bits = found ∙ ap (λ bs. code codes row ++ bs) (ap (λ m. drop m (drop at bits)) (sym long) ∙ drop-drop len at bits) in (
-      record { make_ups = so.ns; rest = row },
-      record { make_ups = so.are; rest = low },
-      omega (arith, so.total),
-      so.reads ∙ ap (λ bs. flat_map (make_up codes) so.ns ++ bs) rest ∙ sym (append_assoc (flat_map (make_up codes) so.ns) (code codes row) (drop (at + len) bits)),
-    )
+    let rest : drop at bits ≡ code codes row ++ drop (at + len) bits = found ∙ ap (λ bs. code codes row ++ bs) (ap (λ m. drop m (drop at bits)) (sym long) ∙ drop-drop len at bits) in
+    record {
+      run = record { make_ups = so.ns; rest = row };
+      has = record { make_ups = so.are; rest = low };
+      size = omega (arith, so.total);
+      codes = so.reads ∙ ap (λ bs. flat_map (make_up codes) so.ns ++ bs) rest ∙ sym (append_assoc (flat_map (make_up codes) so.ns) (code codes row) (drop (at + len) bits));
+    }
 
 pub row_length : (codes : List (List Bool)) (bits : List Bool) (row : ℕ) → next_row codes bits ≡ Ok row → length (code codes row) ≤ length bits
 row_length codes bits row e = omega (arith, ap length (row_found codes bits row e), length-append (code codes row) (drop (length (code codes row)) bits))

@@ -151,7 +151,11 @@ module _ (bits : List Bool) (width : ℕ) (above : List ℕ) (u : Under) where
   pub vertical_reads : (old new : List ℕ) (n at row : ℕ) (r : Result Under Stop) → get_or vertical_rows n 0 ≡ row → drop u.at bits ≡ code mode_codes row ++ drop at bits → IfOk r (λ v. v.at ≡ at)
       → ((over px : List Bool) → Shows above width over → Shows old (u.right - 1) px → IfOk r (λ v. Steps over px new u v (Vertical n))) → IfOk r (λ v. ModeReads bits width above old new u v)
   vertical_reads old new n at row (Ok v) is reads there steps = λ over px shows_over shows.
-      (Vertical n, reads ∙ ap (λ r. code mode_codes r ++ drop at bits) (sym is) ∙ ap (λ k. mode_bits u.black (Vertical n) ++ drop k bits) (sym there), steps over px shows_over shows)
+      record {
+        mode = Vertical n;
+        codes = reads ∙ ap (λ r. code mode_codes r ++ drop at bits) (sym is) ∙ ap (λ k. mode_bits u.black (Vertical n) ++ drop k bits) (sym there);
+        steps = steps over px shows_over shows;
+      }
   vertical_reads old new n at row (Err e) is reads there steps = tt
 
 -- what is said of each fault
@@ -231,13 +235,13 @@ none_read over bits first line u none right black here = record {
 pub mode_more : (over bits : List Bool) (first width : ℕ) (above old new : List ℕ) (u v : Under) → Shows above width over → ModesRead over bits first old u → ModeReads bits width above old new u v → ModesRead over bits first new v
 mode_more over bits first width above old new u v shows_over so more =
     let one = more over (pixels over start so.modes) shows_over so.shows in
-    let m = one.0 in let step = one.2 in let p = place_under u in
+    let m = one.mode in let step = one.steps in let p = place_under u in
     let E : Place → Type 0 = λ q. Moves over q m in
     let black : (end_of over start so.modes).black ≡ u.black = ap (λ (q : Place). q.black) so.there in
     record {
       modes = so.modes ++ m ∷ [];
       move = all_more over start so.modes m so.move (subst E (sym so.there) step.moves);
-      reads = so.reads ∙ ap (λ bs. codes_of over start so.modes ++ bs) one.1
+      reads = so.reads ∙ ap (λ bs. codes_of over start so.modes ++ bs) one.codes
           ∙ sym (append_assoc (codes_of over start so.modes) (mode_bits u.black m) (drop v.at bits))
           ∙ ap (λ c. (codes_of over start so.modes ++ mode_bits c m) ++ drop v.at bits) (sym black)
           ∙ ap (λ bs. bs ++ drop v.at bits) (sym (codes_more over start so.modes m));

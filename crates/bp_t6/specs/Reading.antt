@@ -17,8 +17,11 @@ use Rattle.bp_t6.specs.Coding.{IsNextFrom}
 use Rattle.bp_t6.specs.Turns.{Turns}
 
 -- the bits begin with the codes of a run of so many pixels
-abbrev pub RunReads : Bool → List Bool → ℕ → List Bool → Type 0
-RunReads black bits n rest = (run : Run) × HasCodes run × (pixels_of run ≡ n) × (bits ≡ run_bits black run ++ rest)
+pub record RunReads (black : Bool) (bits : List Bool) (n : ℕ) (rest : List Bool) : Type 0 where
+  pub run : Run
+  pub has : HasCodes run
+  pub size : pixels_of run ≡ n
+  pub codes : bits ≡ run_bits black run ++ rest
 
 -- how a code stands at the front of bits
 abbrev pub front_of : List Bool → List Bool → Front
@@ -47,23 +50,35 @@ pub record Steps (over px : List Bool) (new : List ℕ) (u v : Under) (mode : Mo
   pub there : after over (place_under u) mode ≡ place_under v
   pub shows : Shows new (v.right - 1) (px ++ painted (place_under u) (place_under v) mode)
 
--- whatever the lists show, a mode stands between the two bits that leads from one place to the other
+-- a mode stands between the two bits, and leads from one place to the other
+pub record ModeRead (bits over px : List Bool) (new : List ℕ) (u v : Under) : Type 0 where
+  pub mode : Mode
+  pub codes : drop u.at bits ≡ mode_bits u.black mode ++ drop v.at bits
+  pub steps : Steps over px new u v mode
+
+-- the same, whatever the lists show
 abbrev pub ModeReads : List Bool → ℕ → List ℕ → List ℕ → List ℕ → Under → Under → Type 0
 ModeReads bits width above old new u v =
-    (over px : List Bool) → Shows above width over → Shows old (u.right - 1) px
-    → (mode : Mode) × (drop u.at bits ≡ mode_bits u.black mode ++ drop v.at bits) × Steps over px new u v mode
+    (over px : List Bool) → Shows above width over → Shows old (u.right - 1) px →
+    ModeRead bits over px new u v
 
 -- whatever the list shows, that fault of a mode stands at the bit
-pub record ModeStops (bits : List Bool) (width : ℕ) (above : List ℕ) (u : Under) (f : ReadFault) : Type 0 where
+pub record ModeStops (bits : List Bool) (width : ℕ) (above : List ℕ) (u : Under) (f : ReadFault) :
+    Type 0 where
   pub since : u.at ≤ f.bit
-  pub fault : (over : List Bool) → Shows above width over → ModeFault over (place_under u) (drop u.at bits) f.kind (f.bit - u.at)
+  pub fault : (over : List Bool) →
+      Shows above width over →
+      ModeFault over (place_under u) (drop u.at bits) f.kind (f.bit - u.at)
 
 -- a vertical mode that does not move a0 right, or passes the width
-pub record VerticalStops (width : ℕ) (above : List ℕ) (u : Under) (n : ℕ) (f : ReadFault) : Type 0 where
+pub record VerticalStops (width : ℕ) (above : List ℕ) (u : Under) (n : ℕ) (f : ReadFault) :
+    Type 0 where
   pub kind : f.kind ≡ T6BadPlace
   pub bit : f.bit ≡ u.at
-  pub fault : (over : List Bool) → Shows above width over
-      → ((after over (place_under u) (Vertical n)).right ≤ u.right) ⊎ (length over + 1 < (after over (place_under u) (Vertical n)).right)
+  pub fault : (over : List Bool) →
+      Shows above width over →
+      ((after over (place_under u) (Vertical n)).right ≤ u.right)
+      ⊎ (length over + 1 < (after over (place_under u) (Vertical n)).right)
 
 -- a row is read from one bit to another, and the list shows it
 pub record RowIsRead (over bits : List Bool) (start next width : ℕ) (line : List ℕ) : Type 0 where

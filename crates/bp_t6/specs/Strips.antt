@@ -20,11 +20,13 @@ strip_res = record { num = 200; den = 1 }
 
 -- the page of these lines at 200 by 200 dots an inch
 abbrev pub page_of : ℕ → ℕ → List (List Bool) → Image
-page_of width height lines = record (white_image width height strip_res strip_res units.Inch) { rows = lines }
+page_of width height lines =
+    record (white_image width height strip_res strip_res units.Inch) { rows = lines }
 
 -- the answer for a row, counted from 0
 abbrev pub refusal_for : Stop → ℕ → Refusal
-refusal_for (answers.Fault f) row = refusals.Rule (record { kind = f.kind; line = 0; a = row; b = f.bit })
+refusal_for (answers.Fault f) row =
+    refusals.Rule (record { kind = f.kind; line = 0; a = row; b = f.bit })
 refusal_for answers.OutOfMemory row = refusals.OutOfMemory
 
 -- lines of these sides are read, and packed in the strip

@@ -4,10 +4,11 @@ ghost use Rattle.bp_codes.specs.Span.{span_bits};
 ghost use Rattle.bp_rows.specs.Changes.{Shows, Rises};
 ghost use Rattle.bp_t6.specs.Reading.{IfFault, RowIsRead, RowStops};
 
-use crate::tables::CodeTables;
 use crate::mode_reader::read_mode;
 use crate::reading::{Stop, Under};
+use crate::tables::CodeTables;
 use bp_codes::BitSpan;
+use bp_rows::MAX_WIDTH;
 
 /// The row whose codes begin at a bit, as its changes, and the bit after its codes.
 pub fn read_row(
@@ -18,7 +19,7 @@ pub fn read_row(
     above: &[u32],
     line: &mut Vec<u32>,
 ) -> Result<u64, Stop>
-    requires wide { width ≤ 20000 }
+    requires wide { width ≤ MAX_WIDTH }
     requires above { Rises above.now width }
     requires place { start ≤ length (span_bits span.now) }
     ensures next { IfOk result (λ next. next ≤ length (span_bits span.now)) }

@@ -1,5 +1,5 @@
 // One mode of a row read.
-ghost use Rattle.std.specs.Prelude.{◌≡◌, ◌<◌, ◌≤◌, ◌+◌, ◌-◌, ◌++◌, ℕ, Bool, List, IfOk, IfErr, length, drop, slice_index_or, not};
+ghost use Rattle.std.specs.Prelude.{◌≡◌, ◌<◌, ◌≤◌, ◌+◌, ◌-◌, ◌*◌, ◌++◌, ℕ, Bool, List, IfOk, IfErr, length, drop, slice_index_or, not};
 ghost use Rattle.bp_codes.specs.Span.{span_bits};
 ghost use Rattle.bp_codes.specs.CodeLists.{mode_codes};
 ghost use Rattle.bp_t6.specs.Modes.{code, vertical_rows, Vertical};
@@ -7,14 +7,16 @@ ghost use Rattle.bp_rows.specs.Changes.{Shows, Rises};
 ghost use Rattle.bp_t6.specs.Coding.{IsNextFrom};
 ghost use Rattle.bp_t6.specs.Reading.{IfFault, IsUnder, Steps, ModeReads, ModeStops, VerticalStops};
 
-use crate::tables::CodeTables;
+use crate::lengths::VERTICAL_REACH;
 use crate::missing::missing_kind;
 use crate::reading::{Stop, Under};
 use crate::row::{next_from, place_in};
 use crate::run_reader::{ReadFault, read_run};
+use crate::tables::CodeTables;
 use crate::turns::turn;
 use bp_codes::BitSpan;
 use bp_core::RuleKind;
+use bp_rows::MAX_WIDTH;
 
 // A row goes on at another place, in the colour that it has.
 #[inline(always)]
@@ -59,7 +61,7 @@ fn go_over(above: &[u32], width: u32, under: Under, right: u32, at: u64) -> Unde
 fn shift_of(row: usize) -> u32
     requires low { 2 ≤ row }
     requires high { row < 9 }
-    ensures small { result ≤ 6 }
+    ensures small { result ≤ 2 * VERTICAL_REACH }
     ensures row { slice_index_or vertical_rows result 0 ≡ row }
 {
     if row < 6 {
@@ -79,10 +81,10 @@ fn read_vertical(
     at: u64,
     line: &mut Vec<u32>,
 ) -> Result<Under, Stop>
-    requires wide { width ≤ 20000 }
+    requires wide { width ≤ MAX_WIDTH }
     requires above { Rises above.now width }
     requires on { under.right ≤ width }
-    requires shift { n ≤ 6 }
+    requires shift { n ≤ 2 * VERTICAL_REACH }
     requires under { IsUnder above.now line.old.items width under }
     ensures at { IfOk result (λ new. new.at ≡ at) }
     ensures under { IfOk result (λ new. IsUnder above.now line.new.items width new) }
@@ -90,9 +92,10 @@ fn read_vertical(
     ensures steps { (over px : List Bool) → Shows above.now width over
         → Shows line.old.items (under.right - 1) px
         → IfOk result (λ new. Steps over px line.new.items under new (Vertical n)) }
-    ensures fault { IfErr result (λ stop. IfFault (λ f. VerticalStops width above.now under n f) stop) }
+    ensures fault { IfErr result (λ stop.
+        IfFault (λ f. VerticalStops width above.now under n f) stop) }
 {
-    let right = (place_in(above, under.from, width) + 1 + n).saturating_sub(3);
+    let right = (place_in(above, under.from, width) + 1 + n).saturating_sub(VERTICAL_REACH);
     if right <= under.right || width + 1 < right {
         return Err(Stop::Fault(ReadFault {
             kind: RuleKind::T6BadPlace,
@@ -114,17 +117,19 @@ fn read_horizontal(
     at: u64,
     line: &mut Vec<u32>,
 ) -> Result<Under, Stop>
-    requires wide { width ≤ 20000 }
+    requires wide { width ≤ MAX_WIDTH }
     requires on { under.right ≤ width }
     requires place { at ≤ length (span_bits span.now) }
     requires three { at ≡ under.at + 3 }
-    requires code { drop under.at (span_bits span.now) ≡ code mode_codes 1 ++ drop at (span_bits span.now) }
+    requires code { let bits = span_bits span.now in
+        drop under.at bits ≡ code mode_codes 1 ++ drop at bits }
     requires under { IsUnder above.now line.old.items width under }
     ensures next { IfOk result (λ new. new.at ≤ length (span_bits span.now)) }
     ensures under { IfOk result (λ new. IsUnder above.now line.new.items width new) }
     ensures moves { IfOk result (λ new. under.right < new.right) }
     ensures read { let bits = span_bits span.now in
-        IfOk result (λ new. ModeReads bits width above.now line.old.items line.new.items under new) }
+        IfOk result (λ new.
+        ModeReads bits width above.now line.old.items line.new.items under new) }
     ensures fault { let bits = span_bits span.now in
         IfErr result (λ stop. IfFault (λ f. ModeStops bits width above.now under f) stop) }
 {
@@ -161,7 +166,7 @@ pub fn read_mode(
     under: Under,
     line: &mut Vec<u32>,
 ) -> Result<Under, Stop>
-    requires wide { width ≤ 20000 }
+    requires wide { width ≤ MAX_WIDTH }
     requires above { Rises above.now width }
     requires on { under.right ≤ width }
     requires place { under.at ≤ length (span_bits span.now) }
@@ -170,7 +175,8 @@ pub fn read_mode(
     ensures under { IfOk result (λ new. IsUnder above.now line.new.items width new) }
     ensures moves { IfOk result (λ new. under.right < new.right) }
     ensures read { let bits = span_bits span.now in
-        IfOk result (λ new. ModeReads bits width above.now line.old.items line.new.items under new) }
+        IfOk result (λ new.
+        ModeReads bits width above.now line.old.items line.new.items under new) }
     ensures fault { let bits = span_bits span.now in
         IfErr result (λ stop. IfFault (λ f. ModeStops bits width above.now under f) stop) }
 {

@@ -3,8 +3,8 @@ use crate::run_reader::ReadFault;
 use std::alloc::AllocError;
 use std::convert::From;
 
-/// Where a row under way stands: the first place right of a0, whether a0 is black, the position of b1 among the
-/// changes of the row above, and the bit of the next code.
+/// Where a row under way stands: the first place right of a0, whether a0 is black, the position of
+/// b1 among the changes of the row above, and the bit of the next code.
 #[derive(Clone, Copy)]
 pub struct Under {
     pub right: u32,

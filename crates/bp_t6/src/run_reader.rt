@@ -4,9 +4,11 @@ ghost use Rattle.bp_codes.specs.Span.{span_bits};
 ghost use Rattle.bp_t6.specs.Reading.{RunReads};
 ghost use Rattle.bp_t6.specs.Faults.{RunFault, row_pixels};
 
+use crate::lengths::{BEFORE_MAKE_UPS, MAKE_UP_STEP, TERMINATING_CODES};
 use crate::tables::CodeTables;
 use bp_codes::{BitSpan, NoCode};
 use bp_core::RuleKind;
+use bp_rows::MAX_WIDTH;
 
 /// How many pixels a run has, and the bit after its codes.
 #[derive(Clone, Copy)]
@@ -32,7 +34,7 @@ pub fn read_run(
     room: u32,
 ) -> Result<RunRead, ReadFault>
     requires place { start ≤ length (span_bits span.now) }
-    requires small { room ≤ 20000 }
+    requires small { room ≤ MAX_WIDTH }
     ensures found { let bits = span_bits span.now in
         IfOk result (λ r. RunReads black (drop start bits) r.pixels (drop r.next bits)) }
     ensures room { IfOk result (λ r. r.pixels ≤ room) }
@@ -69,7 +71,7 @@ pub fn read_run(
         }
         pixels += more;
         at += u64::from(codes.code_of(row).len);
-        if row < 64 {
+        if row < TERMINATING_CODES {
             return Ok(RunRead { pixels, next: at });
         }
     }
@@ -81,9 +83,9 @@ fn pixels_of_row(row: usize) -> u32
     requires { row < 104 }
     ensures { result ≡ row_pixels row }
 {
-    if row < 64 {
+    if row < TERMINATING_CODES {
         row as u32
     } else {
-        64 * (row as u32 - 63)
+        MAKE_UP_STEP * (row - BEFORE_MAKE_UPS) as u32
     }
 }

@@ -10,13 +10,13 @@ ghost use Rattle.bp_t6.specs.Faults.{StripFault};
 ghost use Rattle.bp_core.specs.declared.rules.RuleKind.{RuleKind};
 ghost use Rattle.bp_t6.specs.Strips.{StripIsRead, StripStops, IsRefused, OrNoMemory, refusal_for, fault_rule, page_of};
 
-use crate::tables::CodeTables;
 use crate::laws::reading_law;
 use crate::line_reader::read_row;
 use crate::reading::Stop;
+use crate::tables::CodeTables;
 use bp_codes::{BitSpan, Fill};
 use bp_core::{Refusal, Rule};
-use bp_rows::{Page, Res, Unit, allowed_sides, bytes_of_row, push_row};
+use bp_rows::{MAX_WIDTH, Page, Res, Unit, allowed_sides, bytes_of_row, push_row};
 use std::alloc::Global;
 use std::mem;
 
@@ -38,7 +38,7 @@ fn refusal_of(stop: Stop, row: u32) -> Refusal
 
 // So many rows as a packed strip.
 fn read_rows(alloc: Global, span: &BitSpan, width: u32, rows: u32) -> Result<Vec<u8>, Refusal>
-    requires wide { width ≤ 20000 }
+    requires wide { width ≤ MAX_WIDTH }
     ensures read { IfOk result (λ strip. StripIsRead (span_bits span.now) width rows strip.items) }
     ensures refused { IfErr result (λ refusal. StripStops (span_bits span.now) width rows refusal) }
 {
@@ -60,8 +60,8 @@ fn read_rows(alloc: Global, span: &BitSpan, width: u32, rows: u32) -> Result<Vec
     Ok(strip)
 }
 
-/// The page whose rows a strip has, at 200 by 200 dots an inch. Refused are sides that no page has, and the first
-/// fault of the strip.
+/// The page whose rows a strip has, at 200 by 200 dots an inch. Refused are sides that no page has,
+/// and the first fault of the strip.
 pub fn read_strip(
     alloc: Global,
     bytes: &[u8],
@@ -73,9 +73,11 @@ pub fn read_strip(
     ensures page { IfOk result (λ p. p ≡ page_of width rows p.rows) }
     ensures sides { IfOk result (λ _. IsTrue (sides_are_allowed width rows)) }
     ensures read { IfOk result (λ p. StripReads (bits_of fill bytes.now) width rows p.rows) }
-    ensures refused { IfErr result (λ refusal. IsRefused (bits_of fill bytes.now) width rows refusal) }
+    ensures refused { IfErr result (λ refusal.
+        IsRefused (bits_of fill bytes.now) width rows refusal) }
 
-    // Sides that no page has, lines that are read, and a fault of the strip are each answered exactly.
+    // Sides that no page has, lines that are read, and a fault of the strip are each answered
+    // exactly.
     ensures limit { sides_are_allowed width rows ≡ false
         → result ≡ Err (refusals.Rule (page_limit_rule width rows)) }
     ensures lines { (lines : List (List Bool)) → IsTrue (sides_are_allowed width rows)

@@ -41,12 +41,13 @@ returns-then-row-eq0-clause-read c = λ over px shows_over shows.
     let is = sym (c.in-Ok.ensures.found ∙ ap (λ cs. next_row cs (drop u.at bits)) c.mode_table.ensures.is) in
     let len = c.from.ensures ∙ code_length c.mode_table-2.result.now row c.code_of.result c.code_of.ensures ∙ ap (λ cs. length (code cs row)) c.mode_table-2.ensures.is in
     let place = c.go_on.ensures.right ∙ ap (λ k. k + 1) c.place_in-right.ensures in
-    let next = c.requires.under.from c.requires.on in (
-      Pass,
-      mode_found bits u.at row c.from.result is len ∙ ap (λ r. code mode_codes r ++ drop (u.at + c.from.result) bits) c.if-row-eq0.true ∙ ap (λ k. code mode_codes 0 ++ drop k bits) (sym c.go_on.ensures.at),
-      pass_steps c.args.above.now c.args.width over u shows_over next c.args.line.now.items c.go_on.result px c.requires.under.turns c.requires.under.colour shows place c.go_on.ensures.black
-          (omega (arith, place, next.ahead, up c.args.above.now c.args.width u.from c.requires.above)) (omega (arith, place, c.requires.above.within (u.from + 1))),
-    )
+    let next = c.requires.under.from c.requires.on in
+    record {
+      mode = Pass;
+      codes = mode_found bits u.at row c.from.result is len ∙ ap (λ r. code mode_codes r ++ drop (u.at + c.from.result) bits) c.if-row-eq0.true ∙ ap (λ k. code mode_codes 0 ++ drop k bits) (sym c.go_on.ensures.at);
+      steps = pass_steps c.args.above.now c.args.width over u shows_over next c.args.line.now.items c.go_on.result px c.requires.under.turns c.requires.under.colour shows place c.go_on.ensures.black
+          (omega (arith, place, next.ahead, up c.args.above.now c.args.width u.from c.requires.above)) (omega (arith, place, c.requires.above.within (u.from + 1)));
+    }
 
 pub read_horizontal-requires-clause-place : goal.read_horizontal-requires-clause-place
 read_horizontal-requires-clause-place c =

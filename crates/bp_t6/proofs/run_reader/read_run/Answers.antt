@@ -34,27 +34,32 @@ overflow_add-at c =
     let whole : length bits ≡ length c.args.span.now.bytes.now * 8 = length-bits_of c.args.span.now.fill c.args.span.now.bytes.now in
     omega (arith, len, row_length (run_codes c.args.black) (drop c.codes.at bits) c.in-Ok.row is, length-drop c.codes.at bits, whole, c.args.span.now.short, c.codes.invariant.within)
 
-pub returns-then-row-lt64-clause-next : goal.returns-then-row-lt64-clause-next
-returns-then-row-lt64-clause-next c =
+pub returns-then-row-lt-TERMINATING_CODES-clause-next : goal.returns-then-row-lt-TERMINATING_CODES-clause-next
+returns-then-row-lt-TERMINATING_CODES-clause-next c =
     let bits = span_bits c.args.span.now in
     let is = sym (c.in-Ok.ensures.found ∙ ap (λ cs. next_row cs (drop c.codes.at bits)) c.run_table-codes.ensures.is) in
     let len = c.from-at.ensures ∙ code_length c.run_table-codes.result.now c.in-Ok.row c.code_of.result c.code_of.ensures ∙ ap (λ cs. length (code cs c.in-Ok.row)) c.run_table-codes.ensures.is in
     omega (arith, len, row_length (run_codes c.args.black) (drop c.codes.at bits) c.in-Ok.row is, length-drop c.codes.at bits, c.codes.invariant.within)
 
-pub returns-then-row-lt64-clause-found : goal.returns-then-row-lt64-clause-found
-returns-then-row-lt64-clause-found c =
+pub returns-then-row-lt-TERMINATING_CODES-clause-found : goal.returns-then-row-lt-TERMINATING_CODES-clause-found
+returns-then-row-lt-TERMINATING_CODES-clause-found c =
     let bits = span_bits c.args.span.now in
     let is = sym (c.in-Ok.ensures.found ∙ ap (λ cs. next_row cs (drop c.codes.at bits)) c.run_table-codes.ensures.is) in
     let len = c.from-at.ensures ∙ code_length c.run_table-codes.result.now c.in-Ok.row c.code_of.result c.code_of.ensures ∙ ap (λ cs. length (code cs c.in-Ok.row)) c.run_table-codes.ensures.is in
-    let end = run_end (run_codes c.args.black) bits c.args.start c.codes.at c.codes.pixels c.in-Ok.row c.from-at.result c.codes.invariant.made is len c.if-row-lt64.true in
-    (end.0, end.1, end.2 ∙ ap (λ n. c.codes.pixels + n) (sym (c.pixels_of_row-more.ensures ∙ few_pixels c.in-Ok.row c.if-row-lt64.true)), end.3)
+    let end = run_end (run_codes c.args.black) bits c.args.start c.codes.at c.codes.pixels c.in-Ok.row c.from-at.result c.codes.invariant.made is len c.if-row-lt-TERMINATING_CODES.true in
+    record {
+      run = end.run;
+      has = end.has;
+      size = end.size ∙ ap (λ n. c.codes.pixels + n) (sym (c.pixels_of_row-more.ensures ∙ few_pixels c.in-Ok.row c.if-row-lt-TERMINATING_CODES.true));
+      codes = end.codes;
+    }
 
 pub codes-preserved : goal.codes-preserved
 codes-preserved c =
     let bits = span_bits c.args.span.now in
     let is = sym (c.in-Ok.ensures.found ∙ ap (λ cs. next_row cs (drop c.codes.at bits)) c.run_table-codes.ensures.is) in
     let len = c.from-at.ensures ∙ code_length c.run_table-codes.result.now c.in-Ok.row c.code_of.result c.code_of.ensures ∙ ap (λ cs. length (code cs c.in-Ok.row)) c.run_table-codes.ensures.is in
-    let many : 64 ≤ c.in-Ok.row = c.if-row-lt64.false in
+    let many : 64 ≤ c.in-Ok.row = c.if-row-lt-TERMINATING_CODES.false in
     record {
       made = subst (λ (n : ℕ). MakeUps (run_codes c.args.black) bits c.args.start (c.codes.at + c.from-at.result) (c.codes.pixels + n)) (sym (c.pixels_of_row-more.ensures ∙ many_pixels c.in-Ok.row many))
           (make_up_more (run_codes c.args.black) bits c.args.start c.codes.at c.codes.pixels c.in-Ok.row c.from-at.result c.codes.invariant.made is len many c.in-Ok.ensures.row);

@@ -3,7 +3,7 @@ use Rattle.std.proofs.Common.{ℕ, zero, suc, ◌+◌, ◌-◌, ◌<◌, ◌≤�
 use Rattle.std.proofs.lemmas.Bool.{cases_lt}
 use Rattle.std.proofs.lemmas.List.{get_or_past}
 use Rattle.bp_rows.specs.Changes.{differs, place_at, odd, Rises, Shows}
-use Rattle.bp_rows.proofs.ShownLemmas.{odd_one, odd_two, twice, up}
+use Rattle.bp_rows.proofs.ShownLemmas.{odd_one, twice, up}
 use Rattle.bp_t6.specs.Places.{Place, leaves, least, a1, b1}
 use Rattle.bp_t6.specs.Coding.{IsNext, IsNextFrom}
 use Rattle.bp_t6.proofs.LeastLemmas.{prev, pix, is_least, least-end, hit}

@@ -6,6 +6,7 @@ mod FindLemmas
 pub mod Grids
 pub mod Packing
 pub mod Pages
+pub mod PaintLemmas
 pub mod PixelLemmas
 pub mod Places
 pub mod RowSetLemmas

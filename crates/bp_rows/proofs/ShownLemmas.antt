@@ -2,7 +2,7 @@
 use Rattle.std.proofs.Common.{ℕ, zero, suc, ◌+◌, ◌<◌, ◌≤◌, ◌≡◌, Bool, true, false, not, List, [], ◌∷◌, ◌++◌, length, get_or, drop, replicate, refl, ap, sym, ◌∙◌, subst, arith, inl, inr, add-zero}
 use Rattle.std.proofs.lemmas.Bool.{cases_Bool, cases_lt, cond-true, cond-false}
 use Rattle.std.proofs.lemmas.List.{get_or_past, get_or_default, drop_more, length-replicate}
-use Rattle.bp_rows.specs.Changes.{differs, changes_from, changes_of, place_at, odd, Shows}
+use Rattle.bp_rows.specs.Changes.{differs, changes_from, changes_of, place_at, odd, Rises, Shows}
 
 pub same_pixel : (x y : Bool) → differs x y ≡ false → y ≡ x
 same_pixel true true e = refl
@@ -183,3 +183,22 @@ shows_white width =
 pub shows_row : (row : List Bool) (places : List ℕ) (width : ℕ) → length row ≡ width → places ≡ changes_of row → Shows places width row
 shows_row row places width long is =
     subst (λ (ps : List ℕ). Shows ps width row) (sym is) (subst (λ (n : ℕ). Shows (changes_of row) n row) long (shows_changes row))
+
+-- ---- positions
+
+pub odd_one : (n : ℕ) → odd (n + 1) ≡ not (odd n)
+odd_one n = let e : n + 1 ≡ suc n = omega arith in ap odd e
+
+pub twice : (b : Bool) → not (not b) ≡ b
+twice true = refl
+twice false = refl
+
+pub odd_two : (n : ℕ) → odd (n + 2) ≡ odd n
+odd_two n = let e : n + 2 ≡ suc (suc n) = omega arith in ap odd e ∙ twice (odd n)
+
+pub up : (places : List ℕ) (width k : ℕ) → Rises places width → place_at places width k ≤ place_at places width (k + 1)
+up places width k rises =
+    elim (cases_lt (place_at places width k) width) [
+      | inl less ↦ omega (arith, rises.rising k less)
+      | inr more ↦ (let at : place_at places width k ≡ width = omega (arith, rises.within k) in omega (arith, rises.end k at))
+    ]

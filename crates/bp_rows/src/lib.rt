@@ -6,11 +6,13 @@ mod changes;
 pub mod laws;
 mod limits;
 mod page;
+mod paint;
 mod resolution;
 mod runs;
 
-pub use bits::bytes_of_strip;
-pub use limits::{allowed_sides, import_sides};
+pub use bits::{bytes_of_row, bytes_of_strip};
+pub use limits::{MAX_WIDTH, allowed_sides, import_sides};
+pub use paint::push_row;
 pub use page::{Page, StripFault};
 pub use resolution::{Res, Unit};
 pub use runs::Runs;

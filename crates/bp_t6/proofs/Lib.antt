@@ -7,7 +7,14 @@ pub mod FinishLemmas
 pub mod GatherLemmas
 pub mod LawLemmas
 pub mod LeastLemmas
+pub mod LookLemmas
+pub mod MissingLemmas
+pub mod OneFaultLemmas
 pub mod OneReadingLemmas
+pub mod OneStopLemmas
 pub mod PlaceLemmas
 pub mod RowLemmas
 pub mod RunCodeLemmas
+pub mod StepLemmas
+pub mod StripLemmas
+pub mod TurnLemmas

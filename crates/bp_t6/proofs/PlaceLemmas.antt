@@ -3,19 +3,10 @@ use Rattle.std.proofs.Common.{ℕ, zero, suc, ◌+◌, ◌-◌, ◌<◌, ◌≤�
 use Rattle.std.proofs.lemmas.Bool.{cases_lt}
 use Rattle.std.proofs.lemmas.List.{get_or_past}
 use Rattle.bp_rows.specs.Changes.{differs, place_at, odd, Rises, Shows}
+use Rattle.bp_rows.proofs.ShownLemmas.{odd_one, twice, up}
 use Rattle.bp_t6.specs.Places.{Place, leaves, least, a1, b1}
 use Rattle.bp_t6.specs.Coding.{IsNext, IsNextFrom}
 use Rattle.bp_t6.proofs.LeastLemmas.{prev, pix, is_least, least-end, hit}
-
-pub odd_one : (n : ℕ) → odd (n + 1) ≡ not (odd n)
-odd_one n = let e : n + 1 ≡ suc n = omega arith in ap odd e
-
-twice : (b : Bool) → not (not b) ≡ b
-twice true = refl
-twice false = refl
-
-pub odd_two : (n : ℕ) → odd (n + 2) ≡ odd n
-odd_two n = let e : n + 2 ≡ suc (suc n) = omega arith in ap odd e ∙ twice (odd n)
 
 same_differs : (x y : Bool) → x ≡ y → differs x y ≡ false
 same_differs true true e = refl
@@ -155,13 +146,6 @@ from_small places width (suc (suc k)) right black next on =
     ]
 
 -- the next change is not left of the one before
-pub up : (places : List ℕ) (width k : ℕ) → Rises places width → place_at places width k ≤ place_at places width (k + 1)
-up places width k rises =
-    elim (cases_lt (place_at places width k) width) [
-      | inl less ↦ omega (arith, rises.rising k less)
-      | inr more ↦ (let at : place_at places width k ≡ width = omega (arith, rises.within k) in omega (arith, rises.end k at))
-    ]
-
 -- the positions after each mode
 pub next-pass : (places : List ℕ) (width k right to : ℕ) → IsNext places width k right → right ≤ to → to ≤ place_at places width k → IsNext places width k to
 next-pass places width k right to next more until = record { behind = λ j e. let h = next.behind j e in omega arith; ahead = until }

@@ -4,4 +4,7 @@ pub mod Gathered
 pub mod Modes
 pub mod Places
 pub mod Read
+pub mod Reading
+pub mod Strips
+pub mod Turns
 pub mod Written

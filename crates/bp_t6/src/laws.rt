@@ -1,12 +1,14 @@
 //! The laws of strips. The functions do nothing: the contract of each is the law.
-ghost use Rattle.std.specs.Prelude.{◌≡◌, ◌<◌, ◌≤◌, ◌+◌, ◌*◌, ◌^◌, ◌↔◌, Bool, List, length};
+ghost use Rattle.std.specs.Prelude.{◌≡◌, ◌<◌, ◌≤◌, ◌+◌, ◌*◌, ◌^◌, ◌↔◌, ℕ, Bool, List, length};
+ghost use Rattle.bp_core.specs.declared.rules.RuleKind.{RuleKind};
 ghost use Rattle.bp_codes.specs.declared.span.Fill.TheVariants.{High};
 ghost use Rattle.bp_codes.specs.Bits.{bits_of};
 ghost use Rattle.bp_rows.specs.Image.{Image, IsPage};
 ghost use Rattle.bp_t6.specs.Written.{strip_of};
+ghost use Rattle.bp_t6.specs.Faults.{StripFault};
 ghost use Rattle.bp_t6.specs.Read.{StripReads};
 
-use bp_codes::laws::{black_laws, mode_laws, white_laws};
+use bp_codes::laws::{black_laws, mode_laws, mode_place_laws, white_laws};
 
 /// The strip of a page is read as the page's rows, and as no others.
 pub fn strip_law()
@@ -25,3 +27,25 @@ pub fn strip_size()
         IsPage p → length (strip_of p) ≤ 8 * (p.width + 1) * p.height + 4 }
     ensures fits { (p : Image) → IsPage p → length (strip_of p) < 2 ^ 32 }
 {}
+
+/// A strip is read as the same lines or as none, has no fault where it is read, and at most one.
+pub fn reading_law()
+    ensures read { (bits : List Bool) (width height : ℕ) (first second : List (List Bool)) →
+        StripReads bits width height first →
+        StripReads bits width height second →
+        first ≡ second }
+    ensures none { (bits : List Bool) (width height : ℕ) (lines : List (List Bool)) →
+        (kind : RuleKind) (row at : ℕ) →
+        StripReads bits width height lines →
+        StripFault bits width height kind row at →
+        ⊥ }
+    ensures one { (bits : List Bool) (width height : ℕ) (k l : RuleKind) (r s a b : ℕ) →
+        StripFault bits width height k r a →
+        StripFault bits width height l s b →
+        (k ≡ l) × (r ≡ s) × (a ≡ b) }
+{
+    white_laws();
+    black_laws();
+    mode_laws();
+    mode_place_laws();
+}

@@ -13,3 +13,10 @@ pub const VERTICAL_REACH: u32 = 3;
 
 /// The most bits of a code.
 pub const LONGEST_CODE: u8 = 13;
+
+/// How many terminating codes a colour has, for runs of 0 to 63 pixels: the first rows of a run
+/// table (ITU-T T.6, table 2).
+pub const TERMINATING_CODES: usize = MAKE_UP_STEP as usize;
+
+/// Make-up code n stands at this row plus n of a run table, behind the terminating codes.
+pub const BEFORE_MAKE_UPS: usize = TERMINATING_CODES - 1;

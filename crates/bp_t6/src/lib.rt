@@ -9,11 +9,19 @@
 mod bit_writer;
 pub mod laws;
 mod lengths;
+mod line_reader;
+mod missing;
+mod mode_reader;
 mod page;
+mod reading;
 mod row;
+mod run_reader;
+mod strip_reader;
 mod tables;
 #[cfg(test)]
 mod tests;
+mod turns;
 mod writer;
 
 pub use page::code_page;
+pub use strip_reader::read_strip;

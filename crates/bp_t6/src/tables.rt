@@ -6,15 +6,12 @@ ghost use Rattle.bp_t6.specs.Gathered.{AreShort};
 ghost use Rattle.bp_t6.specs.Written.{run_of};
 
 use crate::bit_writer::BitWriter;
-use crate::lengths::{MAKE_UP_STEP, MAKE_UPS};
+use crate::lengths::{BEFORE_MAKE_UPS, MAKE_UP_STEP, MAKE_UPS};
 use bp_codes::{Code, CodeTable, black, modes, white};
 use std::alloc::AllocError;
 
 /// The run of the longest make-up code, in pixels.
 const LONGEST_MAKE_UP: u32 = MAKE_UP_STEP * MAKE_UPS;
-
-/// Make-up code n stands at this row plus n of a run table, behind the 64 terminating codes.
-const BEFORE_MAKE_UPS: usize = MAKE_UP_STEP as usize - 1;
 
 /// The three tables.
 #[derive(Drop)]
@@ -37,7 +34,7 @@ impl CodeTables {
     }
 
     #[inline(always)]
-    fn run_table(&self, is_black: bool) -> &CodeTable<104>
+    pub fn run_table(&self, is_black: bool) -> &CodeTable<104>
         ensures is { result.now ≡ run_codes is_black }
         ensures short { AreShort result.now ≡ true }
     {
@@ -45,7 +42,7 @@ impl CodeTables {
     }
 
     #[inline(always)]
-    fn mode_table(&self) -> &CodeTable<9>
+    pub fn mode_table(&self) -> &CodeTable<9>
         ensures is { result.now ≡ mode_codes }
         ensures short { AreShort result.now ≡ true }
     {

@@ -1,6 +1,7 @@
-// Strips of small pages, written out.
-use crate::code_page;
-use bp_core::Rect;
+// Strips of small pages, written out; strips that are refused.
+use crate::{code_page, read_strip};
+use bp_codes::Fill;
+use bp_core::{Rect, Refusal, Rule, RuleKind};
 use bp_rows::{Page, Res, Unit};
 use std::test::Fail;
 
@@ -96,5 +97,101 @@ fn small_pages_have_these_strips(rt: HostRuntime) -> Result<(), Fail> {
             case.from
         );
     }
+    Ok(())
+}
+
+// A strip of so many rows of 8 pixels, and the rule that it breaks with row and bit.
+struct Refused {
+    strip: &'static [u8],
+    rows: u32,
+    kind: RuleKind,
+    row: u64,
+    bit: u64,
+}
+
+static REFUSED: [Refused; 7] = [
+    // one white row, and the end of the block where the second is due
+    Refused {
+        strip: &[0x80, 0x08, 0x00, 0x80],
+        rows: 2,
+        kind: RuleKind::T6EarlyEnd,
+        row: 1,
+        bit: 1,
+    },
+    // an extension
+    Refused {
+        strip: &[0x03, 0xC0],
+        rows: 1,
+        kind: RuleKind::T6Extension,
+        row: 0,
+        bit: 0,
+    },
+    Refused {
+        strip: &[],
+        rows: 1,
+        kind: RuleKind::T6ShortData,
+        row: 0,
+        bit: 0,
+    },
+    // eight zeros begin a longer code, sixteen begin none
+    Refused {
+        strip: &[0x00],
+        rows: 1,
+        kind: RuleKind::T6ShortData,
+        row: 0,
+        bit: 0,
+    },
+    Refused {
+        strip: &[0x00, 0x00],
+        rows: 1,
+        kind: RuleKind::T6BadCode,
+        row: 0,
+        bit: 0,
+    },
+    // VR1 passes the width
+    Refused {
+        strip: &[0x60],
+        rows: 1,
+        kind: RuleKind::T6BadPlace,
+        row: 0,
+        bit: 0,
+    },
+    // horizontal, white 16: the run passes the width
+    Refused {
+        strip: &[0x35, 0x00],
+        rows: 1,
+        kind: RuleKind::T6BadPlace,
+        row: 0,
+        bit: 3,
+    },
+];
+
+#[test]
+fn strips_are_refused_at_the_bit(rt: HostRuntime) {
+    for case in &REFUSED {
+        assert!(rt; case.strip.len() < 16);
+        let want = Rule {
+            kind: case.kind,
+            line: 0,
+            a: case.row,
+            b: case.bit,
+        };
+        match read_strip(rt.alloc(), case.strip, Fill::High, 8, case.rows) {
+            Ok(_) => assert!(rt; false, "read"),
+            Err(refusal) => assert_eq!(rt; refusal, Refusal::Rule(want)),
+        }
+    }
+}
+
+// Each byte from its low bit up, and sides that no page has.
+#[test]
+fn strips_are_read_from_the_low_bit_too(rt: HostRuntime) -> Result<(), Fail> {
+    let white = read_strip(rt.alloc(), &[0x01], Fill::Low, 8, 1)?;
+    assert_eq!(rt; white.strip(), [0x00].as_slice());
+    let wide = match read_strip(rt.alloc(), &[0x80], Fill::High, 20_001, 1) {
+        Ok(_) => Refusal::OutOfMemory,
+        Err(refusal) => refusal,
+    };
+    assert_eq!(rt; wide, Refusal::Rule(Rule::page_limit(20_001, 1)));
     Ok(())
 }

@@ -8,6 +8,7 @@ ghost use Rattle.bp_t6.specs.Written.{row_code};
 use crate::bit_writer::BitWriter;
 use crate::row::code_row;
 use crate::tables::{CodeTables, put_end_of_block};
+use bp_rows::MAX_WIDTH;
 use std::alloc::{AllocError, Global};
 use std::mem;
 
@@ -39,7 +40,7 @@ impl StripWriter {
     /// Adds the line whose changing elements are lent. The list comes back with those of the line
     /// before.
     pub fn add(&mut self, line: &mut Vec<u32>) -> Result<(), AllocError>
-        requires wide { self.old.width ≤ 20000 }
+        requires wide { self.old.width ≤ MAX_WIDTH }
         requires line { Rises line.old.items self.old.width }
         requires above { Rises self.old.above.items self.old.width }
         ensures width { self.new.width ≡ self.old.width }

@@ -1,0 +1,91 @@
+// A run read.
+ghost use Rattle.std.specs.Prelude.{◌≡◌, ◌<◌, ◌≤◌, ◌-◌, IfOk, IfErr, length, drop};
+ghost use Rattle.bp_codes.specs.Span.{span_bits};
+ghost use Rattle.bp_t6.specs.Reading.{RunReads};
+ghost use Rattle.bp_t6.specs.Faults.{RunFault, row_pixels};
+
+use crate::lengths::{BEFORE_MAKE_UPS, MAKE_UP_STEP, TERMINATING_CODES};
+use crate::tables::CodeTables;
+use bp_codes::{BitSpan, NoCode};
+use bp_core::RuleKind;
+use bp_rows::MAX_WIDTH;
+
+/// How many pixels a run has, and the bit after its codes.
+#[derive(Clone, Copy)]
+pub struct RunRead {
+    pub pixels: u32,
+    pub next: u64,
+}
+
+/// The rule that is broken, and the bit.
+#[derive(Clone, Copy)]
+pub struct ReadFault {
+    pub kind: RuleKind,
+    pub bit: u64,
+}
+
+/// The run whose codes begin at a place, of at most so many pixels.
+#[inline(always)]
+pub fn read_run(
+    tables: &CodeTables,
+    span: &BitSpan,
+    start: u64,
+    black: bool,
+    room: u32,
+) -> Result<RunRead, ReadFault>
+    requires place { start ≤ length (span_bits span.now) }
+    requires small { room ≤ MAX_WIDTH }
+    ensures found { let bits = span_bits span.now in
+        IfOk result (λ r. RunReads black (drop start bits) r.pixels (drop r.next bits)) }
+    ensures room { IfOk result (λ r. r.pixels ≤ room) }
+    ensures next { IfOk result (λ r. r.next ≤ length (span_bits span.now)) }
+    ensures since { IfErr result (λ f. start ≤ f.bit) }
+    ensures fault { let bits = span_bits span.now in
+        IfErr result (λ f. RunFault black room (drop start bits) f.kind (f.bit - start)) }
+{
+    let codes = tables.run_table(black);
+    let mut pixels = 0u32;
+    let mut at = start;
+    'codes: loop {
+        let row = match codes.next_code(span, at) {
+            Ok(row) => row,
+            Err(NoCode::Ends) => {
+                return Err(ReadFault {
+                    kind: RuleKind::T6ShortData,
+                    bit: at,
+                });
+            }
+            Err(NoCode::Strange) => {
+                return Err(ReadFault {
+                    kind: RuleKind::T6BadCode,
+                    bit: at,
+                });
+            }
+        };
+        let more = pixels_of_row(row);
+        if more > room - pixels {
+            return Err(ReadFault {
+                kind: RuleKind::T6BadPlace,
+                bit: at,
+            });
+        }
+        pixels += more;
+        at += u64::from(codes.code_of(row).len);
+        if row < TERMINATING_CODES {
+            return Ok(RunRead { pixels, next: at });
+        }
+    }
+}
+
+// How many pixels a row of a run table stands for.
+#[inline(always)]
+fn pixels_of_row(row: usize) -> u32
+    requires { row < 104 }
+    ensures { result ≡ row_pixels row }
+{
+    if row < TERMINATING_CODES {
+        row as u32
+    } else {
+        MAKE_UP_STEP * (row - BEFORE_MAKE_UPS) as u32
+    }
+}

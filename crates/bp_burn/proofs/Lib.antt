@@ -1,0 +1,8 @@
+mod AsciiLemmas
+mod BandLemmas
+mod BoxPartLemmas
+mod CopyLemmas
+mod FigureLemmas
+pub mod InkLemmas
+mod SlipLemmas
+mod TextLemmas

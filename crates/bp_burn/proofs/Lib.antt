@@ -2,6 +2,7 @@ mod AsciiLemmas
 mod BandLemmas
 mod BoxPartLemmas
 mod CopyLemmas
+mod Examples
 mod FigureLemmas
 pub mod InkLemmas
 mod SlipLemmas

@@ -15,3 +15,6 @@ pub use band::produced;
 pub use burning::{burn, burn_row};
 pub use glyph_rows::{glyph, has_glyphs};
 pub use slips::slip_page;
+
+#[cfg(test)]
+mod tests;

@@ -7,7 +7,7 @@ cd "$(dirname "$0")/.."
 
 # crate, file of specs, name: of each import; the types of the code, which stand under `declared`, are no definitions
 cited() {
-    find crates -path '*/src/*' -name '*.rt' -exec cat {} + | awk '
+    find crates -path '*/src/*' -name '*.rt' ! -path '*/out/*' -exec cat {} + | awk '
         /^[ \t]*ghost use Rattle\.bp_[a-z0-9_]*\.specs\./ && !/\.specs\.declared\./ { import = ""; reading = 1 }
         reading { import = import $0 }
         reading && /;/ {
@@ -54,7 +54,7 @@ named > "$scratch/named"
         for file in $(echo "$files" | tr , ' '); do
             case $file in specs/*) ;; *) file=specs/$file ;; esac
             # a definition begins a line of its file with its name, after words such as abbrev, data and pub
-            if grep -q -E "^([a-z]+ )*$name( |\$)" "crates/$crate/$file" 2> /dev/null; then found=yes; fi
+            if grep -q -E "^ *([a-z]+ )*$name( |\$)" "crates/$crate/$file" 2> /dev/null; then found=yes; fi
         done
         [ -n "$found" ] || echo "DEFINITIONS.md names $name, which doesn't stand in $files of crates/$crate"
     done < "$scratch/named"

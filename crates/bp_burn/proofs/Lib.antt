@@ -1,0 +1,9 @@
+mod AsciiLemmas
+mod BandLemmas
+mod BoxPartLemmas
+mod CopyLemmas
+mod Examples
+mod FigureLemmas
+pub mod InkLemmas
+mod SlipLemmas
+mod TextLemmas

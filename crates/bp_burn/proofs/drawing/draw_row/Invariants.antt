@@ -1,0 +1,11 @@
+use Rattle.std.proofs.Common.{◌≡◌, ◌+◌}
+use Rattle.bp_burn.specs.Figures.{row_figure}
+use Rattle.bp_burn.specs.Ink.{inked}
+use Rattle.bp_burn.proofs.FigureLemmas.{third}
+use Rattle.bp_burn.proofs.InkLemmas.{before}
+use Rattle.bp_burn.proofs.drawing.draw_row.Given as goal
+
+-- the first bits are drawn
+abbrev pub invariant-loop-place : goal.invariant-loop-place
+invariant-loop-place l =
+    l.page ≡ inked l.initial.page (before (λ r c. third l.at (c + l.hidden)) (row_figure l.row l.top l.at l.hidden) l.place)

@@ -1,0 +1,25 @@
+-- Ink on pages: figures as truth values of a row and a column, both counted from 0.
+use Rattle.std.specs.Prelude.{ℕ, ◌+◌, ◌==◌, ◌&&◌, ◌||◌, ◌++◌, Bool, false, List, nat_lt, replicate}
+use Rattle.bp_core.specs.declared.rectangle.Rect.{Rect}
+use Rattle.bp_rows.specs.Burned.{covers}
+use Rattle.bp_rows.specs.Image.{Image, grid_of, pixel}
+
+-- the page with the pixels of a figure black, and every other pixel as it was
+abbrev pub inked : Image → (ℕ → ℕ → Bool) → Image
+inked p figure =
+    record p { rows = grid_of p.width p.height (λ r c. figure r c || pixel p r c) }
+
+-- what of the boxes lies in a row
+abbrev pub in_row : ℕ → List Rect → ℕ → ℕ → Bool
+in_row row boxes r c = (r == row) && covers boxes r c
+
+-- what of the boxes lies in the first rows of a page, which are so many
+abbrev pub above : ℕ → List Rect → ℕ → ℕ → Bool
+above rows boxes r c = nat_lt r rows && covers boxes r c
+
+-- the page with so many white rows more
+abbrev pub with_white_rows : Image → ℕ → Image
+with_white_rows p more = record p {
+  height = p.height + more;
+  rows = p.rows ++ replicate more (replicate p.width false);
+}

@@ -1,0 +1,4 @@
+pub mod Band
+pub mod Drawn
+pub mod Figures
+pub mod Ink

@@ -1,0 +1,60 @@
+// The sheet that stands for a withheld document.
+ghost use Rattle.std.specs.Prelude.{◌≡◌, IfOk, IsTrue};
+ghost use Rattle.bp_burn.specs.Band.{slip_of, slip_text};
+ghost use Rattle.bp_burn.specs.Drawn.{has_glyphs};
+
+use crate::band::{BAND_ROWS, draw_band};
+use crate::drawing::draw_text;
+use bp_codes::glyphs;
+use bp_core::{Basis, OutOfMemory, Text};
+use bp_rows::{Page, Res, Unit};
+use std::alloc::Global;
+
+// A letter page at 200 dots to the inch, and where its text begins, in pixels.
+const SLIP_WIDTH: u32 = 1700;
+
+const SLIP_HEIGHT: u32 = 2200;
+
+const SLIP_DOTS: u32 = 200;
+
+const SLIP_TOP: u32 = 1000;
+
+const SLIP_LEFT: u32 = 200;
+
+/// The sheet that stands for a document withheld on this ground, with the band of a page that goes
+/// out.
+pub fn slip_page(
+    alloc: Global,
+    basis: Basis,
+    label: &Text,
+    designation: &Text,
+) -> Result<Page, OutOfMemory>
+    requires label { IsTrue (has_glyphs label.now) }
+    requires designation { IsTrue (has_glyphs designation.now) }
+    ensures { IfOk result (λ page. page ≡ slip_of basis label.now designation.now) }
+{
+    let dots = Res {
+        num: SLIP_DOTS,
+        den: 1,
+    };
+    let height = SLIP_HEIGHT + BAND_ROWS;
+    let Ok(mut page) = Page::white(alloc, SLIP_WIDTH, height, dots, dots, Unit::Inch) else {
+        return Err(OutOfMemory);
+    };
+    let text = slip_text(basis).as_bytes();
+    draw_text(&mut page, &glyphs(), text, SLIP_TOP, SLIP_LEFT, 0);
+    draw_band(&mut page, SLIP_HEIGHT, label, designation);
+    Ok(page)
+}
+
+// What a slip sheet says.
+fn slip_text(basis: Basis) -> &'static str
+    ensures { result.now ≡ slip_text basis }
+{
+    match basis {
+        Basis::Ac => "DOCUMENT WITHHELD - AC",
+        Basis::Wp => "DOCUMENT WITHHELD - WP",
+        Basis::Pi => "DOCUMENT WITHHELD - PI",
+        Basis::Ts => "DOCUMENT WITHHELD - TS",
+    }
+}

@@ -8,7 +8,7 @@ use Rattle.bp_core.specs.Rules.{bare_rule}
 use Rattle.bp_outside.specs.Folder.{file}
 use Rattle.bp_rows.specs.declared.resolution.Unit.TheVariants as units
 use Rattle.bp_rows.specs.Image.{Image}
-use Rattle.bp_tiff.specs.declared.form.Form.TheVariants.{Plain}
+use Rattle.bp_tiff.specs.declared.form.Form.TheVariants.{Plain, G4}
 use Rattle.bp_tiff.specs.Tiff.{tiff_of}
 use Rattle.bp_tiff.specs.Plain.{form_not_built}
 use Rattle.bp_cli.specs.declared.stops.Stop.TheVariants as stops
@@ -43,16 +43,27 @@ bad_words = (refl, refl, refl)
 box : ℕ → ℕ → ℕ → ℕ → BurnLine
 box l t w h = record { from = codes "a.tif"; area = record { left = l; top = t; width = w; height = h }; to = codes "b.tif"; form = Plain }
 
+line_of_form : List ℕ → List ℕ → List (List ℕ)
+line_of_form left form =
+    codes "burn" ∷ codes "a.tif" ∷ left ∷ codes "0" ∷ codes "8" ∷ codes "1" ∷ codes "b.tif" ∷ form ∷ []
+
 line : List ℕ → List (List ℕ)
-line left =
-    codes "burn" ∷ codes "a.tif" ∷ left ∷ codes "0" ∷ codes "8" ∷ codes "1" ∷ codes "b.tif" ∷ codes "plain" ∷ []
+line left = line_of_form left (codes "plain")
 
 worked_line : command_of (line (codes "0")) ≡ Some (burn (box 0 0 8 1))
-unfolding box line chars
+unfolding box line line_of_form chars
 worked_line = refl
 
+g4_line : command_of (line_of_form (codes "0") (codes "g4")) ≡ Some (burn (record (box 0 0 8 1) { form = G4 }))
+unfolding box line_of_form chars
+g4_line = refl
+
+no_form : command_of (line_of_form (codes "0") (codes "g3")) ≡ None
+unfolding line_of_form
+no_form = refl
+
 no_left : command_of (line (codes "x")) ≡ None
-unfolding line
+unfolding line line_of_form
 no_left = refl
 
 burn_alone : command_of (codes "burn" ∷ []) ≡ None
@@ -78,6 +89,10 @@ page black =
 burned_whole : burn_answer (box 0 0 8 1) (Some (tiff_of Plain (page false))) ≡ Ok (tiff_of Plain (page true))
 unfolding box page
 burned_whole = refl
+
+burned_to_g4 : burn_answer (record (box 0 0 8 1) { form = G4 }) (Some (tiff_of Plain (page false))) ≡ Ok (tiff_of G4 (page true))
+unfolding box page
+burned_to_g4 = refl
 
 outside : burn_answer (box 1 0 8 1) (Some (tiff_of Plain (page false))) ≡ Err (bare_rule kinds.BoxOutside)
 unfolding box page

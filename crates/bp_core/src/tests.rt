@@ -12,3 +12,20 @@ fn copies_hold_what_was_copied(rt: HostRuntime) -> Result<(), Fail> {
     assert_eq!(rt; numbers.clone()?.as_slice(), [1, 2, 3].as_slice());
     Ok(())
 }
+
+// The greatest numbers that a rule may name.
+#[test]
+fn a_rule_with_the_greatest_values_is_printed(rt: HostRuntime) -> Result<(), Fail> {
+    let rule = Rule {
+        kind: RuleKind::KeptRowBad,
+        line: u32::MAX,
+        a: u64::MAX,
+        b: 4_294_967_296,
+    };
+    let text = format!(in rt.alloc(); "{rule}")?;
+    assert_eq!(rt;
+        text.as_str(),
+        "90 KeptRowBad 4294967295 18446744073709551615 4294967296"
+    );
+    Ok(())
+}

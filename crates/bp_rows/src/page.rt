@@ -277,6 +277,15 @@ mod tests {
     use super::*;
     use std::test::Fail;
 
+    // 20,000 by 10,032 pixels are the most of any page.
+    #[test]
+    fn the_largest_page_is_made(rt: HostRuntime) -> Result<(), Fail> {
+        let dots = Res { num: 300, den: 1 };
+        let page = Page::white(rt.alloc(), 20_000, 10_032, dots, dots, Unit::Inch)?;
+        assert_eq!(rt; page.strip().len(), 25_080_000);
+        Ok(())
+    }
+
     #[test]
     fn white_is_made_with_its_sides(rt: HostRuntime) -> Result<(), Fail> {
         let across = Res { num: 200, den: 1 };

@@ -35,6 +35,15 @@ fn reads_records(rt: HostRuntime) -> Result<(), Fail> {
 }
 
 #[test]
+fn a_table_without_rows_is_written(rt: HostRuntime) -> Result<(), Fail> {
+    let dat = read_dat(rt.alloc(), "þAþ".as_bytes())?;
+    assert!(rt; dat.writable());
+    let written = write_dat(rt.alloc(), &dat)?;
+    assert_eq!(rt; written.as_slice(), "þAþ\r\n".as_bytes());
+    Ok(())
+}
+
+#[test]
 fn refuses_bad_files(rt: HostRuntime) {
     let cases: [(&[u8], RuleKind, u32); 19] = [
         (b"", RuleKind::DatShape, 1),

@@ -12,7 +12,7 @@ mod runs;
 
 pub use bits::{bytes_of_row, bytes_of_strip};
 pub use limits::{MAX_WIDTH, allowed_sides, import_sides};
-pub use paint::push_row;
 pub use page::{Page, StripFault};
+pub use paint::push_row;
 pub use resolution::{Res, Unit};
 pub use runs::Runs;

@@ -17,7 +17,11 @@ fn paint_row(row: &mut [u8], places: &[u32], width: u32)
 {
     let mut k = 0;
     while k < places.len() {
-        let to = if k + 1 < places.len() { places[k + 1] } else { width };
+        let to = if k + 1 < places.len() {
+            places[k + 1]
+        } else {
+            width
+        };
         blacken(row, places[k] as usize, to as usize);
         k += 2;
     }

@@ -1,9 +1,9 @@
-//! ITU-T T.6 (Group 4): the strip of a page, in one facsimile block.
+//! ITU-T T.6 (Group 4): the strip of a page, in one facsimile block, both ways.
 //!
 //! `code_page` gives the strip of a page; its contract cites `strip_of` of specs/Written.antt, the
-//! coding procedure of T.6. What any strip is read as stands in specs/Read.antt and
-//! specs/Faults.antt, and `laws` says that the strip of a page is read as the page's rows and as no
-//! others.
+//! coding procedure of T.6. `read_strip` gives the page of a strip, or the first place where it breaks
+//! a rule: `StripReads` of specs/Read.antt and `StripFault` of specs/Faults.antt. `laws` says that the
+//! strip of a page is read as the page's rows and as no others.
 #![tactic(auto)]
 
 mod bit_writer;

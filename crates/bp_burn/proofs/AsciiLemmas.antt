@@ -1,5 +1,5 @@
--- What the glyph table says of the characters of a text that it has: they are their own bytes; and of glyphs: they have seven
--- rows.
+-- What the glyph table says of the characters of a text that it has: they are their own bytes; and
+-- of glyphs: they have seven rows.
 use Rattle.std.proofs.Common.{ℕ, ◌≡◌, ◌<◌, ◌≤◌, ◌==◌, true, nat_lt, nat_le, Option, Some, None, List, [], ◌∷◌, ◌++◌, length, get_or, refl, ap, ◌∙◌, arith, inl, inr, encode_utf8_all}
 use Rattle.std.specs.List.{list_all, slice_get}
 use Rattle.std.specs.Option.{is_some, option_and_then, unwrap_or}

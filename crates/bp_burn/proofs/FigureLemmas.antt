@@ -1,4 +1,5 @@
--- The bits, rows and glyphs of a text as parts of the whole: each pixel of the page belongs to one of them.
+-- The bits, rows and glyphs of a text as parts of the whole: each pixel of the page belongs to one
+-- of them.
 use Rattle.std.proofs.Common.{ℕ, ◌≡◌, ◌+◌, ◌-◌, ◌*◌, ◌/◌, ◌<◌, ◌≤◌, ◌==◌, ◌&&◌, Bool, true, false, nat_le, nat_lt, min, List, [], ◌∷◌, length, refl, sym, ap, ◌∙◌, arith, inl, inr}
 use Rattle.std.specs.Prelude.{slice_index_or}
 use Rattle.std.proofs.lemmas.Bool.{and_parts, cases_lt, eqb-true, ltb-true}

@@ -32,7 +32,7 @@ pub fn draw_text(
 )
     requires page { IsPage page.old }
     requires table { table.now ≡ glyph_rows }
-    requires down { top + 21 ≤ page.old.height }
+    requires down { top + ROWS * SCALE ≤ page.old.height }
     ensures { page.new ≡ inked page.old (is_drawn text.now top left hidden) }
 {
     for place in 0..text.len() {
@@ -53,7 +53,7 @@ pub fn hidden_columns(characters: usize) -> u128
 // Draws the rows of a glyph.
 fn draw_glyph(page: &mut Page, rows: &[u8; 7], top: u32, at: u128, hidden: u128)
     requires page { IsPage page.old }
-    requires down { top + 21 ≤ page.old.height }
+    requires down { top + ROWS * SCALE ≤ page.old.height }
     requires across { at < 2 ^ 100 }
     ensures { page.new ≡ inked page.old (glyph_figure rows.now top at hidden) }
 {

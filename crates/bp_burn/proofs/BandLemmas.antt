@@ -5,7 +5,7 @@ use Rattle.std.proofs.lemmas.Bool.{and_from, and_parts, cases_lt, leb-true, le-l
 use Rattle.std.proofs.lemmas.List.{get_or_append_left, get_or-append_right, get_or-replicate, get_or_past}
 use Rattle.std.proofs.Math.Nat.{add-zero, mul-add}
 use Rattle.bp_core.specs.declared.rectangle.Rect.{Rect}
-use Rattle.bp_rows.proofs.Grids.{cell-grid_of, grid_by_cells, grid_of_is_grid}
+use Rattle.bp_rows.proofs.GridLemmas.{cell-grid_of, grid_by_cells, grid_of_is_grid}
 use Rattle.bp_rows.specs.Burned.{burned, covers}
 use Rattle.bp_rows.specs.Image.{Image, IsGrid, IsPage, grid_of, pixel}
 use Rattle.bp_rows.specs.Limits.{sides_are_allowed, sides_are_imported}

@@ -2,7 +2,7 @@
 use Rattle.std.proofs.Common.{ℕ, ◌≡◌, ◌<◌, Bool, true, false, List, ◌+◌, ◌==◌, ◌&&◌, ◌||◌, nat_lt, refl, sym, ap, ◌∙◌, arith}
 use Rattle.std.proofs.lemmas.Bool.Decides.{nat_tests}
 use Rattle.bp_rows.specs.Image.{Image, IsGrid, IsPage, pixel}
-use Rattle.bp_rows.proofs.Grids.{cell-grid_of, grid_of_is_grid, same_grids, grid_by_cells}
+use Rattle.bp_rows.proofs.GridLemmas.{cell-grid_of, grid_of_is_grid, same_grids, grid_by_cells}
 use Rattle.bp_burn.specs.Ink.{inked}
 
 abbrev pub Figure : Type 0

@@ -4,7 +4,7 @@ use Rattle.std.specs.Prelude.{slice_index_or}
 use Rattle.std.proofs.lemmas.List.{replicate-append-replicate}
 use Rattle.bp_core.specs.Characters.{space}
 use Rattle.bp_core.specs.declared.review.Basis.{Basis}
-use Rattle.bp_rows.proofs.Grids.{white_is_grid}
+use Rattle.bp_rows.proofs.GridLemmas.{white_is_grid}
 use Rattle.bp_rows.specs.Image.{Image, IsPage, white_image}
 use Rattle.bp_rows.specs.declared.resolution.Unit.TheVariants.{Inch}
 use Rattle.bp_burn.specs.Band.{band_texts, slip_of, slip_resolution, slip_text}

@@ -7,7 +7,7 @@ use Rattle.bp_core.specs.Rules.{bare_rule}
 use Rattle.bp_outside.specs.Source.{FileMap}
 use Rattle.bp_rows.specs.Image.{Image}
 use Rattle.bp_rows.specs.Burned.{burned, AgreeOutside}
-use Rattle.bp_rows.proofs.Burning.{burned-AgreeOutside}
+use Rattle.bp_rows.proofs.BurnedLemmas.{burned-AgreeOutside}
 use Rattle.bp_tiff.specs.Tiff.{tiff_of}
 use Rattle.bp_tiff.specs.Plain.{IsPlainFile}
 use Rattle.bp_tiff.proofs.PlainFileLemmas.{length-plain_file, plain_answer-file}

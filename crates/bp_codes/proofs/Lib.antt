@@ -1,10 +1,10 @@
-pub mod BitLists
+pub mod BitListLemmas
 mod Examples
-pub mod Front
+pub mod FrontLemmas
 mod GlyphExamples
-pub mod Kept
-pub mod PrefixFree
-pub mod Print
-pub mod Reading
-pub mod Rows
-pub mod Trie
+pub mod KeptLemmas
+pub mod PrefixFreeLemmas
+pub mod PrintLemmas
+pub mod ReadingLemmas
+pub mod RowLemmas
+pub mod TrieLemmas

@@ -4,7 +4,7 @@ use Rattle.std.proofs.lemmas.Bool.Decides.{nat_tests}
 use Rattle.bp_core.specs.declared.rectangle.Rect.{Rect}
 use Rattle.bp_rows.specs.Image.{Image, IsPage}
 use Rattle.bp_rows.specs.Burned.{burned, covers, row_part}
-use Rattle.bp_rows.proofs.Burning.{burned-nil, burned-burned, burned-covers}
+use Rattle.bp_rows.proofs.BurnedLemmas.{burned-nil, burned-burned, burned-covers}
 
 -- the first rows of a box
 abbrev pub first_rows : Rect → ℕ → Rect

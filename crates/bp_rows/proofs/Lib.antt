@@ -1,14 +1,14 @@
 mod BoxLemmas
-pub mod Burning
+pub mod BurnedLemmas
 pub mod EdgeLemmas
 mod Examples
 mod FindLemmas
-pub mod Grids
-pub mod Packing
-pub mod Pages
+pub mod GridLemmas
+pub mod PackedLemmas
+pub mod PageLemmas
 pub mod PaintLemmas
 pub mod PixelLemmas
-pub mod Places
+pub mod ByteLemmas
 pub mod RowSetLemmas
 pub mod RunLemmas
 pub mod ShownLemmas

@@ -7,8 +7,8 @@ use Rattle.std.proofs.lemmas.Nat.Bits.{bit_at-zero}
 use Rattle.bp_rows.specs.Image.{IsGrid}
 use Rattle.bp_rows.specs.Bits.{row_bytes, black_at, place, rows_in, Blackens, AreBytes, HasBlankEnds}
 use Rattle.bp_rows.specs.Packed.{packed_row, packed_rows}
-use Rattle.bp_rows.proofs.Grids.{cell, grid_by_cells}
-use Rattle.bp_rows.proofs.Packing.{packed_rows-rows_in}
+use Rattle.bp_rows.proofs.GridLemmas.{cell, grid_by_cells}
+use Rattle.bp_rows.proofs.PackedLemmas.{packed_rows-rows_in}
 use Rattle.bp_rows.specs.Changes.{place_at, odd, Rises, Shows}
 use Rattle.bp_rows.proofs.ShownLemmas.{odd_one, odd_two, up}
 

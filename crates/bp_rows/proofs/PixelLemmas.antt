@@ -6,7 +6,7 @@ use Rattle.std.proofs.lemmas.List.{replicate-append-replicate, get_or-drop, drop
 use Rattle.bp_rows.specs.Bits.{row_bytes}
 use Rattle.bp_rows.specs.Image.{Image, IsGrid, row_of}
 use Rattle.bp_rows.specs.Packed.{digit_at, packed_byte, packed_row, packed_rows}
-use Rattle.bp_rows.proofs.Packing.{length-packed_row}
+use Rattle.bp_rows.proofs.PackedLemmas.{length-packed_row}
 use Rattle.bp_rows.specs.Words.{is_one, byte_pixels, pixels_in}
 
 abbrev number : (ℕ → ℕ) → ℕ

@@ -6,8 +6,8 @@ use Rattle.std.proofs.lemmas.List.{length-replicate}
 use Rattle.std.proofs.lemmas.List.Sums.{sum_by-cons}
 use Rattle.bp_codes.specs.CodeLists.{mode_codes}
 use Rattle.bp_rows.specs.Image.{Image, IsPage}
-use Rattle.bp_rows.proofs.Packing.{length-packed_row}
-use Rattle.bp_rows.proofs.Pages.{sides_bound}
+use Rattle.bp_rows.proofs.PackedLemmas.{length-packed_row}
+use Rattle.bp_rows.proofs.PageLemmas.{sides_bound}
 use Rattle.bp_t6.specs.Places.{Place, start}
 use Rattle.bp_t6.specs.Modes.{Run, pixels_of, Mode, Pass, Horizontal, Vertical, AreMakeUps, HasCodes, code, run_codes, run_bits, mode_bits, vertical_rows, after, codes_of, end_of, Moves, AllMove}
 use Rattle.bp_t6.specs.Written.{chosen_modes, row_code, lines_code, white_line, strip_bits, strip_of}

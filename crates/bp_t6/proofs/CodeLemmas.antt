@@ -4,7 +4,7 @@ use Rattle.std.proofs.lemmas.Bool.{and_parts, leb-true}
 use Rattle.bp_codes.specs.declared.code.Code.{Code}
 use Rattle.bp_codes.specs.Bits.{number_of, code_bits, code_of_bits, low_bits}
 use Rattle.bp_codes.specs.CodeLists.{white_codes, black_codes, mode_codes}
-use Rattle.bp_codes.proofs.BitLists.{number_of-below}
+use Rattle.bp_codes.proofs.BitListLemmas.{number_of-below}
 use Rattle.bp_t6.specs.Modes.{code, run_codes}
 use Rattle.bp_t6.specs.Gathered.{AreShort}
 use Rattle.bp_t6.proofs.GatherLemmas.{low_bits-append}

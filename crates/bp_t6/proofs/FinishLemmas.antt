@@ -7,7 +7,7 @@ use Rattle.std.proofs.lemmas.Nat.{pow_pos, shl_whole, shl_below}
 use Rattle.std.proofs.lemmas.Nat.Bits.{bit_at-zero}
 use Rattle.bp_codes.specs.declared.span.Fill.TheVariants.{High}
 use Rattle.bp_codes.specs.Bits.{byte_bits, bits_of, low_bits, number_of}
-use Rattle.bp_codes.proofs.BitLists.{number-high, length-bits_of}
+use Rattle.bp_codes.proofs.BitListLemmas.{number-high, length-bits_of}
 use Rattle.bp_rows.specs.Bits.{row_bytes}
 use Rattle.bp_rows.specs.Packed.{digit_at, packed_byte, packed_row}
 use Rattle.bp_t6.specs.Gathered.{gathered, IsGathered}

@@ -11,8 +11,8 @@ use Rattle.bp_rows.specs.declared.resolution.Unit.TheVariants as units
 use Rattle.bp_rows.specs.Image.{Image, IsPage}
 use Rattle.bp_rows.specs.Bits.{rows_in}
 use Rattle.bp_rows.specs.Packed.{packed_rows}
-use Rattle.bp_rows.proofs.Pages.{sides_bound}
-use Rattle.bp_rows.proofs.Packing.{rows_in-packed_rows}
+use Rattle.bp_rows.proofs.PageLemmas.{sides_bound}
+use Rattle.bp_rows.proofs.PackedLemmas.{rows_in-packed_rows}
 use Rattle.bp_t6.specs.Written.{strip_of as t6_strip}
 use Rattle.bp_t6.specs.Read.{StripReads}
 use Rattle.bp_tiff.specs.declared.form.Form.{Form}

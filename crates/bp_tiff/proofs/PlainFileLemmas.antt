@@ -13,9 +13,9 @@ use Rattle.bp_rows.specs.Image.{Image, IsPage}
 use Rattle.bp_rows.specs.Limits.{sides_are_imported}
 use Rattle.bp_rows.specs.Bits.{rows_in, row_bytes}
 use Rattle.bp_rows.specs.Packed.{packed_rows}
-use Rattle.bp_rows.proofs.Pages.{imported_is_allowed, strip_small}
-use Rattle.bp_rows.proofs.Grids.{grid_of_is_grid}
-use Rattle.bp_rows.proofs.Packing.{rows_in-packed_rows, length-packed_rows}
+use Rattle.bp_rows.proofs.PageLemmas.{imported_is_allowed, strip_small}
+use Rattle.bp_rows.proofs.GridLemmas.{grid_of_is_grid}
+use Rattle.bp_rows.proofs.PackedLemmas.{rows_in-packed_rows, length-packed_rows}
 use Rattle.bp_tiff.specs.declared.form.Form.TheVariants.{Plain}
 use Rattle.bp_tiff.specs.declared.fields.Fields.{Fields}
 use Rattle.bp_tiff.specs.declared.places.TheConstants.{PLAIN_STRIP_AT}

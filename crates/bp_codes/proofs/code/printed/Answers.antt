@@ -1,5 +1,5 @@
 use Rattle.std.proofs.Common.{arith, ap, ◌∙◌, ◌≤◌, length}
-use Rattle.bp_codes.proofs.Print.{next_one, next_zero, small_so_far}
+use Rattle.bp_codes.proofs.PrintLemmas.{next_one, next_zero, small_so_far}
 use Rattle.bp_codes.proofs.code.printed.Goals as goal
 use Rattle.bp_codes.proofs.code.printed.Goals.{then-byte-eq49, else-byte-eq49}
 

@@ -1,6 +1,6 @@
 use Rattle.std.proofs.Common.{refl}
 use Rattle.bp_codes.specs.CodeLists.{black_codes}
-use Rattle.bp_codes.proofs.PrefixFree.{prefix_free, reads_back, cut_means_ends}
+use Rattle.bp_codes.proofs.PrefixFreeLemmas.{prefix_free, reads_back, cut_means_ends}
 use Rattle.bp_codes.proofs.laws.black_laws.Goals as goal
 
 pub returns-clause-prefix_free : goal.returns-clause-prefix_free

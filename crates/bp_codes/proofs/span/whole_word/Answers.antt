@@ -1,6 +1,6 @@
 use Rattle.std.proofs.Common.{◌+◌, arith, sym, ◌∙◌, get_or}
 use Rattle.bp_codes.specs.declared.span.Fill.TheVariants.{High}
-use Rattle.bp_codes.proofs.BitLists.{number-high, word_is}
+use Rattle.bp_codes.proofs.BitListLemmas.{number-high, word_is}
 use Rattle.bp_codes.proofs.span.whole_word.Goals as goal
 
 pub returns : goal.returns

@@ -1,6 +1,6 @@
 use Rattle.bp_codes.specs.CodeLists.{black_codes}
 use Rattle.std.proofs.Common.{refl}
-use Rattle.bp_codes.proofs.Rows.{◌◂◌, black_table, black_shown}
+use Rattle.bp_codes.proofs.RowLemmas.{◌◂◌, black_table, black_shown}
 use Rattle.bp_codes.proofs.tables.black.Goals as goal
 
 pub invariant_of-result : goal.invariant_of-result

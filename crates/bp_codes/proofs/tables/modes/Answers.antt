@@ -1,6 +1,6 @@
 use Rattle.std.proofs.Common.{refl}
 use Rattle.bp_codes.specs.CodeLists.{mode_codes}
-use Rattle.bp_codes.proofs.Rows.{◌◂◌, modes_table, modes_shown}
+use Rattle.bp_codes.proofs.RowLemmas.{◌◂◌, modes_table, modes_shown}
 use Rattle.bp_codes.proofs.tables.modes.Goals as goal
 
 pub invariant_of-result : goal.invariant_of-result

@@ -1,6 +1,6 @@
 use Rattle.bp_codes.specs.CodeLists.{white_codes}
 use Rattle.std.proofs.Common.{refl}
-use Rattle.bp_codes.proofs.Rows.{◌◂◌, white_table, white_shown}
+use Rattle.bp_codes.proofs.RowLemmas.{◌◂◌, white_table, white_shown}
 use Rattle.bp_codes.proofs.tables.white.Goals as goal
 
 pub invariant_of-result : goal.invariant_of-result

@@ -1,5 +1,5 @@
 use Rattle.std.proofs.Common.{◌+◌, ◌*◌, ◌<◌, length, arith}
-use Rattle.bp_rows.proofs.Places.{whole_byte, blackens_more}
+use Rattle.bp_rows.proofs.ByteLemmas.{whole_byte, blackens_more}
 use Rattle.bp_rows.proofs.bits.blacken_bytes.Goals as goal
 
 pub loop-i-preserved : goal.loop-i-preserved

@@ -1,4 +1,4 @@
-use Rattle.bp_rows.proofs.Places.{mask_blackens}
+use Rattle.bp_rows.proofs.ByteLemmas.{mask_blackens}
 use Rattle.bp_rows.proofs.bits.blacken_in_byte.Goals as goal
 
 pub returns : goal.returns

@@ -1,5 +1,5 @@
 use Rattle.std.proofs.Common.{◌-◌, arith}
-use Rattle.bp_rows.proofs.Places.{one_shl, mask_bit, pow_ordered}
+use Rattle.bp_rows.proofs.ByteLemmas.{one_shl, mask_bit, pow_ordered}
 use Rattle.bp_rows.proofs.bits.byte_mask.Goals as goal
 
 pub returns : goal.returns

@@ -1,5 +1,5 @@
 use Rattle.std.proofs.Common.{arith, sym}
-use Rattle.bp_rows.proofs.Packing.{blank_ends_more, clear_end, unused_bits, byte_shl}
+use Rattle.bp_rows.proofs.PackedLemmas.{blank_ends_more, clear_end, unused_bits, byte_shl}
 use Rattle.bp_rows.proofs.bits.has_blank_ends.Goals as goal
 
 pub loop-r-preserved : goal.loop-r-preserved

@@ -1,7 +1,7 @@
 use Rattle.std.proofs.Common.{◌/◌, cond, eqb, ap, sym, ◌∙◌}
 use Rattle.std.specs.Prelude.{slice_set}
 use Rattle.bp_rows.specs.Bits.{black_at}
-use Rattle.bp_rows.proofs.Places.{set_bit, clear_bit}
+use Rattle.bp_rows.proofs.ByteLemmas.{set_bit, clear_bit}
 use Rattle.bp_rows.proofs.bits.set_pixel_at.Goals as goal
 use Rattle.bp_rows.proofs.bits.set_pixel_at.Goals.{then-black, else-black}
 

@@ -2,7 +2,7 @@ use Rattle.std.proofs.Common.{◌≡◌, ◌+◌, ◌++◌, length, drop, refl, 
 use Rattle.bp_codes.specs.Span.{span_bits}
 use Rattle.bp_codes.specs.NextCode.{next_row}
 use Rattle.bp_codes.specs.CodeLists.{mode_codes}
-use Rattle.bp_codes.proofs.BitLists.{length-bits_of}
+use Rattle.bp_codes.proofs.BitListLemmas.{length-bits_of}
 use Rattle.bp_t6.specs.Modes.{code, Pass}
 use Rattle.bp_t6.proofs.CodeLemmas.{code_length}
 use Rattle.bp_rows.proofs.ShownLemmas.{up}

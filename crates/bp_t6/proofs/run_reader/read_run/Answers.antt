@@ -1,7 +1,7 @@
 use Rattle.std.proofs.Common.{arith, ℕ, ◌≡◌, ◌≤◌, ◌+◌, ◌*◌, Err, length, drop, sym, ap, ◌∙◌, subst, length-drop}
 use Rattle.bp_codes.specs.NextCode.{next_row}
 use Rattle.bp_codes.specs.Span.{span_bits}
-use Rattle.bp_codes.proofs.BitLists.{length-bits_of}
+use Rattle.bp_codes.proofs.BitListLemmas.{length-bits_of}
 use Rattle.bp_t6.specs.Modes.{run_codes, code}
 use Rattle.bp_t6.proofs.CodeLemmas.{code_length}
 use Rattle.bp_t6.proofs.LookLemmas.{MakeUps, make_up_more, run_end, row_length, run_missing, run_passes, few_pixels, many_pixels}

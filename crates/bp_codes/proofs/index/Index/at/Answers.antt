@@ -1,4 +1,4 @@
-use Rattle.bp_codes.proofs.Kept.{white_place, black_place, modes_place, at_white, at_black, at_modes}
+use Rattle.bp_codes.proofs.KeptLemmas.{white_place, black_place, modes_place, at_white, at_black, at_modes}
 use Rattle.bp_codes.proofs.index.Index.at.Goals as goal
 
 pub bounds-place : goal.bounds-place

@@ -1,5 +1,5 @@
 use Rattle.std.proofs.Common.{arith}
-use Rattle.bp_codes.proofs.BitLists.{length-bits_of, bit_when_high, bit_when_low}
+use Rattle.bp_codes.proofs.BitListLemmas.{length-bits_of, bit_when_high, bit_when_low}
 use Rattle.bp_codes.proofs.span.BitSpan.bit.Goals as goal
 
 pub bounds-self-at : goal.bounds-self-at

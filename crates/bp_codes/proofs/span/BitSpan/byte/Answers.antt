@@ -1,6 +1,6 @@
 use Rattle.std.proofs.Common.{◌≡◌, ◌∙◌, get_or, sym, ap, unwrap_or, arith}
 use Rattle.bp_codes.specs.declared.reversed.TheConstants.{REVERSED}
-use Rattle.bp_codes.proofs.BitLists.{byte_when_high, byte_when_low}
+use Rattle.bp_codes.proofs.BitListLemmas.{byte_when_high, byte_when_low}
 use Rattle.bp_codes.proofs.span.BitSpan.byte.Goals as goal
 
 pub returns-in-High : goal.returns-in-High

@@ -1,5 +1,5 @@
 use Rattle.std.proofs.Common.{sym}
-use Rattle.bp_codes.proofs.BitLists.{length-bits_of}
+use Rattle.bp_codes.proofs.BitListLemmas.{length-bits_of}
 use Rattle.bp_codes.proofs.span.BitSpan.len.Goals as goal
 
 pub returns : goal.returns

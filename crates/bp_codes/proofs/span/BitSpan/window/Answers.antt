@@ -1,5 +1,5 @@
 use Rattle.std.proofs.Common.{◌^◌, ◌/◌, ◌-◌, ap, ◌∙◌}
-use Rattle.bp_codes.proofs.BitLists.{window_of}
+use Rattle.bp_codes.proofs.BitListLemmas.{window_of}
 use Rattle.bp_codes.proofs.span.BitSpan.window.Goals as goal
 
 pub returns : goal.returns

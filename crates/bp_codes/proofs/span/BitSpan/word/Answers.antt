@@ -1,5 +1,5 @@
 use Rattle.std.proofs.Common.{◌∙◌}
-use Rattle.bp_codes.proofs.BitLists.{word_is, word_when_high}
+use Rattle.bp_codes.proofs.BitListLemmas.{word_is, word_when_high}
 use Rattle.bp_codes.proofs.span.BitSpan.word.Goals as goal
 
 pub returns-in-High : goal.returns-in-High

@@ -4,7 +4,7 @@ use Rattle.bp_codes.specs.Bits.{number_of, code_bits}
 use Rattle.bp_codes.specs.Span.{span_bits}
 use Rattle.bp_codes.specs.NextCode.{next_row}
 use Rattle.bp_codes.specs.Fronts.{fronts}
-use Rattle.bp_codes.proofs.Reading.{answered, place_is, place_below, place_small, next_row-below, says_ends, says_strange, says_row, row_below}
+use Rattle.bp_codes.proofs.ReadingLemmas.{answered, place_is, place_below, place_small, next_row-below, says_ends, says_strange, says_row, row_below}
 use Rattle.bp_codes.proofs.tables.CodeTable.next_code.Goals as goal
 
 pub overflow_add-count : goal.overflow_add-count

@@ -3,7 +3,7 @@ use Rattle.std.proofs.lemmas.List.{with_items_is}
 use Rattle.bp_rows.specs.Image.{Image}
 use Rattle.bp_rows.specs.Bits.{IsKept, image_in, Blackens, place}
 use Rattle.bp_rows.specs.Burned.{burned, row_part}
-use Rattle.bp_rows.proofs.Pages.{Fills, kept_blackened, image_in-blackened}
+use Rattle.bp_rows.proofs.PageLemmas.{Fills, kept_blackened, image_in-blackened}
 use Rattle.bp_rows.proofs.page.Page.blacken.Goals as goal
 
 -- the bytes that were written, and what stands in them

@@ -1,8 +1,8 @@
 use Rattle.std.proofs.Common.{arith, ℕ, ◌≡◌, ◌*◌, List, Bool, Ok, length, ap, sym, subst, refl, ◌∙◌}
 use Rattle.bp_rows.specs.Image.{Image}
 use Rattle.bp_rows.specs.Bits.{HasBlankEnds, AreBytes, row_bytes}
-use Rattle.bp_rows.proofs.Packing.{length-packed_rows, blank_ends-packed_rows, packed_rows-rows_in}
-use Rattle.bp_rows.proofs.Pages.{rows_of_strip, is_page}
+use Rattle.bp_rows.proofs.PackedLemmas.{length-packed_rows, blank_ends-packed_rows, packed_rows-rows_in}
+use Rattle.bp_rows.proofs.PageLemmas.{rows_of_strip, is_page}
 use Rattle.bp_rows.proofs.page.Page.from_strip.Goals as goal
 
 pub returns-then-len-bytes_of_strip-clause-only : goal.returns-then-len-bytes_of_strip-clause-only

@@ -1,7 +1,7 @@
 use Rattle.std.proofs.Common.{◌<◌, ap, sym, ◌∙◌, subst}
 use Rattle.bp_rows.specs.Image.{Image, pixel}
 use Rattle.bp_rows.specs.Bits.{black_at}
-use Rattle.bp_rows.proofs.Pages.{pixel-image_in}
+use Rattle.bp_rows.proofs.PageLemmas.{pixel-image_in}
 use Rattle.bp_rows.proofs.page.Page.get.Goals as goal
 
 pub returns : goal.returns

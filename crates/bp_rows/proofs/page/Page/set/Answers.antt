@@ -2,7 +2,7 @@ use Rattle.std.proofs.Common.{◌<◌, cond, eqb, length, ap, sym, ◌∙◌, su
 use Rattle.std.proofs.lemmas.List.{with_items_is}
 use Rattle.bp_rows.specs.Image.{Image, with_pixel}
 use Rattle.bp_rows.specs.Bits.{IsKept, image_in, black_at, place}
-use Rattle.bp_rows.proofs.Pages.{Sets, kept_set, image_in-set}
+use Rattle.bp_rows.proofs.PageLemmas.{Sets, kept_set, image_in-set}
 use Rattle.bp_rows.proofs.page.Page.set.Goals as goal
 
 -- the bytes that were written, and what stands in them

@@ -1,6 +1,6 @@
 use Rattle.std.proofs.Common.{◌≡◌, ◌*◌, replicate, ap, sym, ◌∙◌}
 use Rattle.bp_rows.specs.Bits.{row_bytes}
-use Rattle.bp_rows.proofs.Pages.{image_in-zeros}
+use Rattle.bp_rows.proofs.PageLemmas.{image_in-zeros}
 use Rattle.bp_rows.proofs.page.Page.white.Goals as goal
 
 zeros : (c : goal.In_ok-strip) → c.in_ok-strip.strip.items ≡ replicate (c.args.height * row_bytes c.args.width) 0

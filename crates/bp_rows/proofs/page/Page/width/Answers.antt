@@ -1,6 +1,6 @@
 use Rattle.std.proofs.Common.{subst}
 use Rattle.bp_rows.specs.Image.{Image, IsPage}
-use Rattle.bp_rows.proofs.Pages.{is_page}
+use Rattle.bp_rows.proofs.PageLemmas.{is_page}
 use Rattle.bp_rows.proofs.page.Page.width.Goals as goal
 
 pub returns-clause-page : goal.returns-clause-page

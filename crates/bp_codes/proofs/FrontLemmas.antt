@@ -4,7 +4,7 @@ use Rattle.std.proofs.lemmas.Bool.{and_parts, leb-true}
 use Rattle.std.specs.List.{enumerate_from, position_from, list_any, list_all}
 use Rattle.bp_codes.specs.declared.code.NoCode.TheVariants.{Ends, Strange}
 use Rattle.bp_codes.specs.NextCode.{same_bit, begins, is_cut, row_at, no_code, next_row, row_or}
-use Rattle.bp_codes.proofs.Trie.{Branch, narrowed, narrow, row_among, cut_among, front}
+use Rattle.bp_codes.proofs.TrieLemmas.{Branch, narrowed, narrow, row_among, cut_among, front}
 
 -- ---- one bit more
 

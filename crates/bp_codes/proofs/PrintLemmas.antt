@@ -4,7 +4,7 @@ use Rattle.std.proofs.Math.Nat.{pow-le-pow_right}
 use Rattle.std.proofs.lemmas.List.{take_more, map-append, length-map, length-take-le}
 use Rattle.bp_codes.specs.Bits.{number_of}
 use Rattle.bp_codes.specs.CodeLists.{bits_in_print}
-use Rattle.bp_codes.proofs.BitLists.{number_of-append, number_of-below}
+use Rattle.bp_codes.proofs.BitListLemmas.{number_of-append, number_of-below}
 
 last_digit : (b : Bool) (n : ℕ) → n * 2 ^ 1 + number_of (b ∷ []) ≡ n * 2 + (if b then 1 else 0)
 last_digit true n = omega arith

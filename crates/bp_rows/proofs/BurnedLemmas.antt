@@ -5,7 +5,7 @@ use Rattle.bp_rows.specs.Image.{Image, IsGrid, pixel, grid_of}
 use Rattle.bp_rows.specs.declared.resolution.Res.{Res}
 use Rattle.bp_rows.specs.declared.resolution.Unit.{Unit as LengthUnit}
 use Rattle.bp_rows.specs.Burned.{AgreeOutside, burned, covers}
-use Rattle.bp_rows.proofs.Grids.{cell-grid_of, grid_of_is_grid, same_grids, grid_by_cells}
+use Rattle.bp_rows.proofs.GridLemmas.{cell-grid_of, grid_of_is_grid, same_grids, grid_by_cells}
 
 abbrev with_rows : Image → List (List Bool) → Image
 with_rows p rows = record p { rows = rows }

@@ -13,9 +13,9 @@ use Rattle.bp_codes.specs.Fronts.{fronts}
 use Rattle.bp_codes.specs.Bits.{number_of}
 use Rattle.bp_codes.specs.Index.{entry_number, index_place, IsIndexOf}
 use Rattle.bp_codes.specs.CodeLists.{white_codes, black_codes, mode_codes}
-use Rattle.bp_codes.proofs.BitLists.{number_of-below}
-use Rattle.bp_codes.proofs.Trie.{Branch, narrow, front, level, levels, white_written, black_written, modes_written}
-use Rattle.bp_codes.proofs.Front.{front-narrow, front-whole}
+use Rattle.bp_codes.proofs.BitListLemmas.{number_of-below}
+use Rattle.bp_codes.proofs.TrieLemmas.{Branch, narrow, front, level, levels, white_written, black_written, modes_written}
+use Rattle.bp_codes.proofs.FrontLemmas.{front-narrow, front-whole}
 
 length-level : (n : ℕ) (branches : List Branch) → length (level n branches) ≡ 2 ^ n
 length-level zero branches = refl

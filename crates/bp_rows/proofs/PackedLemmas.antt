@@ -11,7 +11,7 @@ use Rattle.std.proofs.Math.Nat.{mod-eq_of_lt}
 use Rattle.bp_rows.specs.Image.{IsGrid}
 use Rattle.bp_rows.specs.Bits.{row_bytes, black_at, place, rows_in, HasBlankEnds}
 use Rattle.bp_rows.specs.Packed.{digit_at, packed_byte, packed_row, packed_rows}
-use Rattle.bp_rows.proofs.Grids.{cell, grid_by_cells}
+use Rattle.bp_rows.proofs.GridLemmas.{cell, grid_by_cells}
 
 -- ---- a byte and its eight bits
 

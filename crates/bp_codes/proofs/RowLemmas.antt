@@ -7,7 +7,7 @@ use Rattle.bp_codes.specs.CodeLists.{white_codes, black_codes, mode_codes}
 use Rattle.bp_codes.specs.Fronts.{fronts}
 use Rattle.bp_codes.specs.Index.{IsIndexOf}
 use Rattle.bp_codes.specs.Tables.{IsTable}
-use Rattle.bp_codes.proofs.Kept.{white_kept, black_kept, modes_kept, length-white, length-black, length-modes}
+use Rattle.bp_codes.proofs.KeptLemmas.{white_kept, black_kept, modes_kept, length-white, length-black, length-modes}
 
 -- two lists of codes are the same where their first codes and what is left are
 infixr 25 ◌◂◌

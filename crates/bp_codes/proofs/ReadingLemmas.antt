@@ -9,8 +9,8 @@ use Rattle.bp_codes.specs.declared.code.NoCode.TheVariants.{Ends, Strange}
 use Rattle.bp_codes.specs.Bits.{number_of}
 use Rattle.bp_codes.specs.Index.{entry_number, IsIndexOf}
 use Rattle.bp_codes.specs.NextCode.{begins, row_at, no_code, next_row, row_or}
-use Rattle.bp_codes.proofs.BitLists.{number_of-below}
-use Rattle.bp_codes.proofs.Front.{next_row-take}
+use Rattle.bp_codes.proofs.BitListLemmas.{number_of-below}
+use Rattle.bp_codes.proofs.FrontLemmas.{next_row-take}
 
 -- the entry at the place of the first bits, as many as are read, is what stands at the front of all
 pub entry_is : (codes : List (List Bool)) (longest : ℕ) (index : List ℕ) (bits : List Bool) (count : ℕ) → IsIndexOf codes longest index → list_all (λ code. nat_le (length code) longest) codes ≡ true → count ≡ min longest (length bits) → get_or index (2 ^ count + number_of (take count bits)) 0 ≡ entry_number (next_row codes bits)

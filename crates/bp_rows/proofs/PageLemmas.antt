@@ -13,9 +13,9 @@ use Rattle.bp_rows.specs.Limits.{sides_are_allowed, sides_are_imported}
 use Rattle.bp_rows.specs.Bits.{row_bytes, black_at, place, rows_in, Blackens, AreBytes, IsKept, image_in}
 use Rattle.bp_rows.specs.Burned.{burned, covers, row_part}
 use Rattle.bp_rows.specs.Packed.{packed_rows}
-use Rattle.bp_rows.proofs.Grids.{cell-grid_of, grid_of_is_grid, same_grids, grid_by_cells, with_cell, with_cell_is_grid, cell-with_cell, white_is_grid, cell-white}
-use Rattle.bp_rows.proofs.Packing.{place_one, row_covers, packed_rows-rows_in, rows_in-packed_rows, rows_apart}
-use Rattle.bp_rows.proofs.Places.{between}
+use Rattle.bp_rows.proofs.GridLemmas.{cell-grid_of, grid_of_is_grid, same_grids, grid_by_cells, with_cell, with_cell_is_grid, cell-with_cell, white_is_grid, cell-white}
+use Rattle.bp_rows.proofs.PackedLemmas.{place_one, row_covers, packed_rows-rows_in, rows_in-packed_rows, rows_apart}
+use Rattle.bp_rows.proofs.ByteLemmas.{between}
 
 not_both_parts : (w row col r c : ℕ) → (place w r c ≡ place w row col → ⊥) → (r ≡ row) ⊎ (r ≡ row → ⊥) → (eqb r row && eqb c col) ≡ false
 not_both_parts w row col r c apart (inl same) =

@@ -1,6 +1,6 @@
 -- Lemmas of a run: every promise, from how its work ended and what was printed. No command is named but in the law of
 -- two matters.
-use Rattle.std.proofs.Common.{ℕ, ◌≡◌, ◌≢◌, Bool, true, false, List, [], ◌∷◌, Option, Some, None, Ok, Err, refl, sym, ap, subst, ◌∙◌, arith, inl, inr, ◌⊎◌}
+use Rattle.std.proofs.Common.{ℕ, ◌≡◌, Bool, true, false, List, [], ◌∷◌, Option, Some, None, Ok, Err, refl, sym, ap, subst, ◌∙◌, arith, inl, inr, ◌⊎◌}
 use Rattle.std.specs.Prelude.{IfSome}
 use Rattle.bp_core.specs.declared.rules.Rule.{Rule}
 use Rattle.bp_outside.specs.Counts.{Rose}
@@ -14,7 +14,7 @@ use Rattle.bp_cli.specs.Endings as outcomes
 use Rattle.bp_cli.specs.Endings.{Outcome, Ending, World, status_of, text_of, refused_line, failed_folder, with_files, AddsPart}
 use Rattle.bp_cli.specs.Commands.{CommandLine, Matter, IsOutcome, outcome_of, AlikeFor, Works}
 use Rattle.bp_cli.specs.Printing.{Prints, whole, cut, lacking, instead}
-use Rattle.bp_cli.specs.Runs.{Outside, Asks, SourceFailed, FolderFailed, NoneFailed, AreSure, Ended, RanShort, WasCut, Gives, IsAmong, outcome_status, Runs}
+use Rattle.bp_cli.specs.Runs.{Outside, Asks, SourceFailed, FolderFailed, NoneFailed, Ended, RanShort, WasCut, Gives, IsAmong, outcome_status, Runs}
 use Rattle.bp_cli.proofs.StatusLemmas.{rose_at, whole_of, out_rose, out_sure, among_three, among_two, status_known, is_done, is_words_refused, is_broken, is_source_fault, is_folder_fault, lacking_part, cut_part}
 use Rattle.bp_cli.proofs.AlikeLemmas.{outcome_alike}
 

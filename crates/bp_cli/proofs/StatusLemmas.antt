@@ -1,5 +1,5 @@
 -- Lemmas of statuses: which ending gives which status, and what each status says was printed.
-use Rattle.std.proofs.Common.{ℕ, ◌≡◌, ◌≢◌, Bool, true, false, eqb, List, [], ◌∷◌, Ok, Err, refl, sym, ap, subst, ◌∙◌, arith, inl, inr, ◌⊎◌}
+use Rattle.std.proofs.Common.{ℕ, ◌≡◌, ◌≢◌, eqb, List, [], ◌∷◌, Ok, Err, refl, sym, ap, subst, ◌∙◌, arith, inl, inr, ◌⊎◌}
 use Rattle.std.proofs.lemmas.Bool.{eq-eqb, or_left, or_right}
 use Rattle.bp_core.specs.declared.rules.Rule.{Rule}
 use Rattle.bp_outside.specs.Counts.{risen, Rose}

@@ -1,6 +1,5 @@
 -- Which stop each refusal of a call becomes.
-use Rattle.std.specs.Prelude.{◌≡◌, ℕ, List, Vec, String, drop, Result, Ok, Err}
-use Rattle.std.specs.declared.alloc.Global.{Global}
+use Rattle.std.specs.Prelude.{◌≡◌, Result, Ok, Err}
 use Rattle.bp_core.specs.declared.rules.Rule.{Rule}
 use Rattle.bp_core.specs.declared.rules.RuleKind.TheVariants as kinds
 use Rattle.bp_core.specs.Rules.{bare_rule}

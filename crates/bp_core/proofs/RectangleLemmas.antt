@@ -2,7 +2,7 @@
 use Rattle.std.proofs.Common.{◌≡◌, ◌↔◌, ◌+◌, ◌<◌, ◌≤◌, ℕ, Bool, true, false, ◌&&◌, IsTrue, max, min, sym, ◌∙◌, arith}
 use Rattle.std.proofs.lemmas.Bool.Decides.{nat_tests}
 use Rattle.bp_core.specs.declared.rectangle.Rect.{Rect}
-use Rattle.bp_core.specs.Rectangle.{HasPixel, Touches, spans_meet, touches}
+use Rattle.bp_core.specs.Rectangle.{Touches, spans_meet, touches}
 
 -- the first place of both spans
 meeting : (a n b m : ℕ) → spans_meet a n b m ≡ true → (max a b < a + n) × (max a b < b + m) × (a ≤ max a b) × (b ≤ max a b)

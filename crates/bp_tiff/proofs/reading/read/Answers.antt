@@ -1,4 +1,4 @@
-use Rattle.std.proofs.Common.{ℕ, ◌≡◌, List, drop, subst}
+use Rattle.std.proofs.Common.{ℕ, List, drop, subst}
 use Rattle.bp_tiff.specs.declared.places.TheConstants.{PLAIN_STRIP_AT}
 use Rattle.bp_tiff.specs.Plain.{HasHead, StripMakes}
 use Rattle.bp_tiff.proofs.PlainFileLemmas.{read_strip, read_file}

@@ -4,12 +4,17 @@
 //     bp_bench codes white|black index|scan TIMES
 //     bp_bench dat ROWS TIMES
 //     bp_bench opt LINES TIMES
+//     bp_bench words ROWS TIMES
+//     bp_bench kept WORDS BOXES TIMES
+//     bp_bench produced BOXES TIMES
 #![tactic(auto)]
 
 mod codes;
 mod dat;
 mod opt;
+mod pages;
 mod sums;
+mod words;
 
 use anyhow::{Result, bail};
 use std::alloc::Global;
@@ -31,6 +36,9 @@ fn run(alloc: Global, words: &[String]) -> Result<u64> {
         "codes" => codes::run(alloc, operands),
         "dat" => dat::run(alloc, operands),
         "opt" => opt::run(alloc, operands),
+        "words" => words::read(alloc, operands),
+        "kept" => words::keep(alloc, operands),
+        "produced" => pages::run(alloc, operands),
         other => bail!("no job {other}"),
     }
 }

@@ -1,0 +1,29 @@
+#!/bin/sh
+# Refuses each allocation of `burn` in turn, the first, the second and so on, by the kit's runner of programs that aren't
+# proved yet, until a run takes fewer. Each run must end with 0, and a page of the defined length, or with 6: that memory
+# ran out is never told as bad words, a broken rule or a fault. Ends with a status other than 0 where one doesn't.
+# Words: the form to write, `plain` where none is given. Needs rt; each run takes some seconds.
+set -eu
+cd "$(dirname "$0")/../crates/bp_cli"
+form=${1:-plain}
+case $form in
+    plain) length=187 ;;
+    g4) length=204 ;;
+    *) echo "allocations.sh: the form is plain or g4" >&2; exit 1 ;;
+esac
+
+at=1
+while :; do
+    said=$(rt try --fail-alloc "$at" -- burn a.tif 0 0 8 1 b.tif "$form" 2>&1) || :
+    status=$(printf '%s\n' "$said" | sed -n 's/^run=ended status=\([0-9]*\) .*/\1/p')
+    case $status in
+        6) echo "allocation $at refused: 6" ;;
+        0)
+            printf '%s\n' "$said" | grep -q "^burned $length\$" || { echo "$said"; exit 1; }
+            echo "allocation $at refused: 0, burned $length"
+            break
+            ;;
+        *) printf 'allocation %s refused: status %s\n%s\n' "$at" "$status" "$said"; exit 1 ;;
+    esac
+    at=$((at + 1))
+done

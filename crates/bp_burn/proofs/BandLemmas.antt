@@ -125,8 +125,11 @@ no_more_rows p =
     ap (λ rows. record p { height = p.height + 0; rows = rows }) (append-nil p.rows)
     ∙ ap (λ h. record p { height = h }) (add-zero p.height)
 
+-- what of the boxes lies in any row of the page is burned
+pub boxes_inked : (p : Image) (boxes : List Rect) → inked p (above p.height boxes) ≡ burned p boxes
+boxes_inked p boxes =
+    inked-alike p (above p.height boxes) (covers boxes) (λ r c down across. above_inside p.height boxes r c down)
+
 -- burned on a copy of the page
 pub burned_made : (p : Image) (boxes : List Rect) → inked (with_white_rows p 0) (above p.height boxes) ≡ burned p boxes
-burned_made p boxes =
-    ap (λ page. inked page (above p.height boxes)) (no_more_rows p)
-    ∙ inked-alike p (above p.height boxes) (covers boxes) (λ r c down across. above_inside p.height boxes r c down)
+burned_made p boxes = ap (λ page. inked page (above p.height boxes)) (no_more_rows p) ∙ boxes_inked p boxes

@@ -47,6 +47,15 @@ pub fn burn(alloc: Global, page: &Page, boxes: &RectList) -> Result<Page, OutOfM
     Ok(out)
 }
 
+/// Makes the pixels of a page black that some box has, and no other. A box may pass the edges of the
+/// page. It takes no memory.
+pub fn burn_in_place(page: &mut Page, boxes: &[Rect])
+    ensures { page.new ≡ burned page.old boxes.now }
+{
+    let height = page.height();
+    burn_boxes(page, boxes, height);
+}
+
 /// Makes the pixels of the first rows of a page, which are so many, black that some box has.
 pub fn burn_boxes(page: &mut Page, boxes: &[Rect], rows: u32)
     requires { rows ≤ page.old.height }

@@ -11,6 +11,7 @@ ghost use Rattle.bp_cli.specs.Stops.{StopAnswers, read_stop};
 
 use crate::stops::Stop;
 use crate::words::{number_in, word_at};
+use bp_burn::burn_in_place;
 use bp_core::{Bytes, OutOfMemory, Rect, Rule, RuleKind};
 use bp_outside::{Folder, ReadRefusal, Source, put_file};
 use bp_rows::Page;
@@ -139,7 +140,7 @@ fn burned_page(alloc: Global, asked: &Burn<'_>, mut page: Page) -> Result<Bytes,
     if !asked.area.inside(page.width(), page.height()) {
         return Err(Stop::Broken(Rule::bare(RuleKind::BoxOutside)));
     }
-    page.blacken_box(&asked.area);
+    burn_in_place(&mut page, &[asked.area]);
     Ok(write_tiff(alloc, asked.form, &page)?)
 }
 

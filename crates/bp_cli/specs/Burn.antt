@@ -49,7 +49,9 @@ box_of left top width height = do
 
 abbrev pub line_with : List (List ℕ) → Rect → Form → BurnLine
 line_with words area form =
-    record { from = chars (word_of words 1); area = area; to = chars (word_of words 6); form = form }
+    let from = chars (word_of words 1) in
+    let to = chars (word_of words 6) in
+    record { from = from; area = area; to = to; form = form }
 
 -- the eight words
 abbrev pub burn_of : List (List ℕ) → Option BurnLine

@@ -87,14 +87,16 @@ pub record AddsPart (folder : FolderView) (files : List FileRow) (after : Folder
 -- Below, Comes says which outcomes the command may come to.
 
 -- the files of the outcome were added, and nothing else changed
-pub record AddsFiles (Comes : Outcome → Type 0) (before : World) (line : List ℕ) (after : World) : Type 0 where
+pub record AddsFiles (Comes : Outcome → Type 0) (before : World) (line : List ℕ)
+    (after : World) : Type 0 where
   pub files : List FileRow
   pub outcome : Comes (done line files)
   pub source : after.source ≡ before.source
   pub folder : after.folder ≡ with_files before.folder files
 
 -- the outcome was this rule, and nothing changed but the count that the rule comes from
-pub record MeetsRule (Comes : Outcome → Type 0) (before : World) (rule : Rule) (after : World) : Type 0 where
+pub record MeetsRule (Comes : Outcome → Type 0) (before : World) (rule : Rule)
+    (after : World) : Type 0 where
   pub outcome : Comes (refused rule)
   pub source : after.source ≡ after_kind before.source rule.kind
   pub folder : after.folder ≡ before.folder
@@ -124,7 +126,8 @@ pub data LacksMemory (Comes : Outcome → Type 0) (before after : World) : Type 
 
 -- what the steps before the first file leave in the source: what is made there gives an outcome
 abbrev pub Makes :
-    {V : Type 0} → (Outcome → Type 0) → (V → Outcome) → SourceView → Result V Stop → SourceView → Type 0
+    {V : Type 0} → (Outcome → Type 0) → (V → Outcome)
+    → SourceView → Result V Stop → SourceView → Type 0
 Makes Comes gives source (Ok made) source' = Comes (gives made) × (source' ≡ source)
 Makes Comes gives source (Err (stops.Broken rule)) source' =
     Comes (refused rule) × (source' ≡ after_kind source rule.kind)

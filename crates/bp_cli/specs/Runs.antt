@@ -24,7 +24,8 @@ outside s f o = record { world = world s f; out = o }
 -- ---- words of the promises
 
 -- the words are this command, and the outside tells this matter
-pub record Asks (command : Option CommandLine) (before : Outside) (c : CommandLine) (matter : Matter) : Type 0 where
+pub record Asks (command : Option CommandLine) (before : Outside)
+    (c : CommandLine) (matter : Matter) : Type 0 where
   pub words : command ≡ Some c
   pub told : before.world.source.files ≡ Some matter.files
 
@@ -50,7 +51,8 @@ pub record AreSure (before : Outside) : Type 0 where
   pub out : before.out.sure ≡ true
 
 -- the work ended so, and its text was printed whole
-pub record Ended (command : Option CommandLine) (before after : Outside) (ending : Ending) : Type 0 where
+pub record Ended (command : Option CommandLine) (before after : Outside)
+    (ending : Ending) : Type 0 where
   pub worked : Works command before.world ending after.world
   pub printed : after.out ≡ with_written before.out (text_of ending)
 
@@ -93,7 +95,8 @@ IsAmong n ns = IsTrue (list_any (λ m. m == n) ns)
 
 abbrev pub all_statuses : List ℕ
 all_statuses =
-    DONE ∷ WORDS_REFUSED ∷ RULE_BROKEN ∷ SOURCE_FAULT ∷ FOLDER_FAULT ∷ OUT_OF_MEMORY ∷ OUT_FAULT ∷ []
+    DONE ∷ WORDS_REFUSED ∷ RULE_BROKEN ∷ SOURCE_FAULT ∷ FOLDER_FAULT
+    ∷ OUT_OF_MEMORY ∷ OUT_FAULT ∷ []
 
 -- ---- the promises
 

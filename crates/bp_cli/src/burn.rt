@@ -104,7 +104,8 @@ fn burned_file<S: Source>(alloc: Global, asked: &Burn<'_>, source: &mut S) -> Re
     ensures { (folder : FolderView)
         → let line = burn_seen asked.now in
         let before = world (S.shows source.old) folder in
-        Makes (IsOutcome (burn line) before) (burn_done line) before.source result (S.shows source.new) }
+        let source' = S.shows source.new in
+        Makes (IsOutcome (burn line) before) (burn_done line) before.source result source' }
 {
     match source.read(alloc, asked.from, FILE_LIMIT) {
         Ok(bytes) => burned(alloc, asked, bytes),

@@ -13,8 +13,10 @@ bit number k = bit_at number k == 1
 -- the bits of a byte in turn: under High from the bit of value 128 down, under Low from the bit of value 1 up
 -- (TIFF 6.0, section 8, FillOrder 1 and 2)
 abbrev pub byte_bits : Fill → ℕ → List Bool
-byte_bits High b = bit b 7 ∷ bit b 6 ∷ bit b 5 ∷ bit b 4 ∷ bit b 3 ∷ bit b 2 ∷ bit b 1 ∷ bit b 0 ∷ []
-byte_bits Low b = bit b 0 ∷ bit b 1 ∷ bit b 2 ∷ bit b 3 ∷ bit b 4 ∷ bit b 5 ∷ bit b 6 ∷ bit b 7 ∷ []
+byte_bits High b =
+    bit b 7 ∷ bit b 6 ∷ bit b 5 ∷ bit b 4 ∷ bit b 3 ∷ bit b 2 ∷ bit b 1 ∷ bit b 0 ∷ []
+byte_bits Low b =
+    bit b 0 ∷ bit b 1 ∷ bit b 2 ∷ bit b 3 ∷ bit b 4 ∷ bit b 5 ∷ bit b 6 ∷ bit b 7 ∷ []
 
 -- the bits of bytes in turn
 abbrev pub bits_of : Fill → List ℕ → List Bool
@@ -41,4 +43,7 @@ code_bits code = low_bits code.len code.bits
 -- the number that the bits of four bytes from a place on are, with zeros past the last byte
 abbrev pub word_at : Fill → List ℕ → ℕ → ℕ
 word_at fill bytes first =
-    number_of (bits_of fill (slice_index bytes first ∷ slice_index bytes (first + 1) ∷ slice_index bytes (first + 2) ∷ slice_index bytes (first + 3) ∷ []))
+    number_of
+    (bits_of fill
+    (slice_index bytes first ∷ slice_index bytes (first + 1)
+    ∷ slice_index bytes (first + 2) ∷ slice_index bytes (first + 3) ∷ []))

@@ -18,4 +18,6 @@ index_place bits = 2 ^ length bits + number_of bits
 -- the index has the front of each list of at most so many bits
 abbrev pub IsIndexOf : List (List Bool) → ℕ → List ℕ → Type 0
 IsIndexOf codes longest index =
-    (bits : List Bool) → length bits ≤ longest → slice_index index (index_place bits) ≡ entry_number (next_row codes bits)
+    (bits : List Bool)
+    → length bits ≤ longest
+    → slice_index index (index_place bits) ≡ entry_number (next_row codes bits)

@@ -75,7 +75,8 @@ impl BitSpan<'_> {
 
     // A byte with its first bit highest; 0 past the last one.
     fn byte(&self, place: usize) -> u32
-        ensures { result ≡ number_of (byte_bits self.now.fill (slice_index self.now.bytes.now place)) }
+        ensures { let byte = slice_index self.now.bytes.now place in
+            result ≡ number_of (byte_bits self.now.fill byte) }
     {
         let byte = self.bytes.get(place).copied().unwrap_or(0);
         match self.fill {

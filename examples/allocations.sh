@@ -1,6 +1,6 @@
 #!/bin/sh
 # Refuses each allocation of `burn` in turn, the first, the second and so on, by the kit's runner of programs that aren't
-# proved yet, until a run takes fewer. Each run must end with 0, and a page of the defined length, or with 6: that memory
+# proved yet, until a run takes fewer. Each run must end with 0 and the line of the whole file, or with 6: that memory
 # ran out is never told as bad words, a broken rule or a fault. Ends with a status other than 0 where one doesn't.
 # Words: the form to write, `plain` where none is given. Needs rt; each run takes some seconds.
 set -eu

@@ -4,7 +4,7 @@ ghost use Rattle.bp_core.specs.declared.rules.RuleKind.{RuleKind};
 ghost use Rattle.bp_codes.specs.declared.span.Fill.TheVariants.{High};
 ghost use Rattle.bp_codes.specs.Bits.{bits_of};
 ghost use Rattle.bp_rows.specs.Image.{Image, IsPage};
-ghost use Rattle.bp_t6.specs.Written.{strip_of};
+ghost use Rattle.bp_t6.specs.Written.{row_code, strip_of};
 ghost use Rattle.bp_t6.specs.Faults.{StripFault};
 ghost use Rattle.bp_t6.specs.Read.{StripReads};
 
@@ -21,8 +21,11 @@ pub fn strip_law()
     mode_laws();
 }
 
-/// The strip of a page is not longer than this, and its length fits 32 bits.
+/// The code of a line has at most 64 bits for each pixel and 64 more; the strip of a page is not
+/// longer than this, and its length fits 32 bits.
 pub fn strip_size()
+    ensures row { (above line : List Bool) →
+        length above ≡ length line → length (row_code above line) ≤ 64 * (length line + 1) }
     ensures short { (p : Image) →
         IsPage p → length (strip_of p) ≤ 8 * (p.width + 1) * p.height + 4 }
     ensures fits { (p : Image) → IsPage p → length (strip_of p) < 2 ^ 32 }

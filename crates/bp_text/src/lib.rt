@@ -2,7 +2,7 @@
 //!
 //! `read_words` reads a file of words; `kept` drops the words that a box touches; `page_text`
 //! writes the text of a page from the words that are left. Their contracts cite `words_of`,
-//! `kept_of` and `text_of`.
+//! `kept_of` and `page_text_of`.
 #![tactic(auto)]
 
 mod keeping;

@@ -1,4 +1,4 @@
-// The fields of a page file by their tags (TIFF 6.0, section 8), and the types of their values
+// The fields of a page file by their tags (TIFF 6.0, section 8; T6Options section 11), and the types of their values
 // (section 2).
 
 /// The columns.

@@ -10,7 +10,7 @@ use Rattle.bp_tiff.specs.Tiff.{tiff_of}
 use Rattle.bp_tiff.specs.Units.{unit_of}
 use Rattle.bp_tiff.specs.Plain.{plain_page}
 
-abbrev two_hundred : Res
+abbrev pub two_hundred : Res
 two_hundred = record { num = 200; den = 1 }
 
 -- a black page of 8 by 1 pixels at 200 to the inch
@@ -26,7 +26,7 @@ worked = record {
 
 -- ---- its plain file
 
-abbrev plain_file : List ℕ
+abbrev pub plain_file : List ℕ
 plain_file =
     0x49 ∷ 0x49 ∷ 0x2A ∷ 0x00 ∷ 0x08 ∷ 0x00 ∷ 0x00 ∷ 0x00  -- the header
     ∷ 0x0D ∷ 0x00  -- thirteen entries
@@ -57,7 +57,7 @@ read_back = refl
 
 -- ---- its file of the form G4
 
-abbrev g4_file : List ℕ
+abbrev pub g4_file : List ℕ
 g4_file =
     0x49 ∷ 0x49 ∷ 0x2A ∷ 0x00 ∷ 0x08 ∷ 0x00 ∷ 0x00 ∷ 0x00  -- the header
     ∷ 0x0E ∷ 0x00  -- fourteen entries

@@ -20,7 +20,9 @@ use Rattle.bp_tiff.specs.declared.form.Form.TheVariants.{Plain, G4}
 use Rattle.bp_tiff.specs.declared.fields.Fields.{Fields}
 use Rattle.bp_tiff.specs.declared.places.TheConstants.{WIDTH_AT, HEIGHT_AT, PLAIN_UNIT_AT, PLAIN_XRES_AT, PLAIN_YRES_AT, G4_UNIT_AT, G4_XRES_AT, G4_YRES_AT}
 use Rattle.bp_tiff.specs.Places.{strip_at}
-use Rattle.bp_tiff.specs.Plain.{short_at, long_at, res_at}
+use Rattle.bp_tiff.specs.declared.numbers.ByteOrder.TheVariants.{Little}
+use Rattle.bp_tiff.specs.Numbers.{short_at, long_at}
+use Rattle.bp_tiff.specs.Plain.{res_at}
 use Rattle.bp_tiff.specs.Tiff.{tiff_of, head_of, strip_of, fields_of}
 use Rattle.bp_tiff.specs.Units.{unit_code, unit_of}
 
@@ -31,10 +33,10 @@ abbrev pub file : Form → Fields → ℕ → List ℕ → List ℕ
 file form f n strip = head_of form f n ++ strip
 
 -- numbers of 32 and of 16 bits, as they are read back
-abbrev long_again : ℕ → ℕ
+abbrev pub long_again : ℕ → ℕ
 long_again n = from_le_bytes w32 (to_le_bytes w32 n)
 
-abbrev short_again : ℕ → ℕ
+abbrev pub short_again : ℕ → ℕ
 short_again n = from_le_bytes w16 (to_le_bytes w16 n)
 
 -- those of the fields
@@ -47,7 +49,7 @@ fields_from w h xn xd yn yd u = record {
   unit = u;
 }
 
-number : (n : ℕ) → n < 2 ^ 32 → long_again n ≡ n
+pub number : (n : ℕ) → n < 2 ^ 32 → long_again n ≡ n
 number n small = from_le_bytes-to_le_bytes_4 n small
 
 -- where the fields of a form stand that have no place in common with the other
@@ -66,8 +68,8 @@ yres_at G4 = G4_YRES_AT
 -- the fields that bytes name at the places of a form
 abbrev fields_with_unit : Form → List ℕ → LengthUnit → Fields
 fields_with_unit form bytes u = record {
-  width = long_at bytes WIDTH_AT;
-  height = long_at bytes HEIGHT_AT;
+  width = long_at Little bytes WIDTH_AT;
+  height = long_at Little bytes HEIGHT_AT;
   xres = res_at bytes (xres_at form);
   yres = res_at bytes (yres_at form);
   unit = u;
@@ -75,15 +77,15 @@ fields_with_unit form bytes u = record {
 
 abbrev pub fields_named : Form → List ℕ → Option Fields
 fields_named form bytes =
-    option_map (fields_with_unit form bytes) (unit_of (short_at bytes (unit_at form)))
+    option_map (fields_with_unit form bytes) (unit_of (short_at Little bytes (unit_at form)))
 
 unit_in_file :
     (form : Form) (f : Fields) (n : ℕ) (strip : List ℕ)
-    → short_at (file form f n strip) (unit_at form) ≡ short_again (unit_code f.unit)
+    → short_at Little (file form f n strip) (unit_at form) ≡ short_again (unit_code f.unit)
 unit_in_file Plain f n strip = refl
 unit_in_file G4 f n strip = refl
 
-unit_again : (u : LengthUnit) → unit_of (short_again (unit_code u)) ≡ Some u
+pub unit_again : (u : LengthUnit) → unit_of (short_again (unit_code u)) ≡ Some u
 unit_again units.None = refl
 unit_again units.Inch = refl
 unit_again units.Centimetre = refl

@@ -1,5 +1,12 @@
+pub mod Directory
 pub mod Entries
+pub mod Layout
+pub mod Numbers
+pub mod Pixels
 pub mod Places
 pub mod Plain
+pub mod Read
+pub mod Rules
 pub mod Tiff
 pub mod Units
+pub mod Values

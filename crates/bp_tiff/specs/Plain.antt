@@ -1,6 +1,5 @@
 -- Reading a plain page file as this product writes it.
 use Rattle.std.specs.Prelude.{◌≤◌, length, ℕ, ◌≡◌, ◌+◌, Bool, ◌&&◌, Option, Some, None, Result, Ok, Err, List, take, drop, IsTrue, if◌then◌else◌}
-use Rattle.std.specs.Int.{from_le_bytes, w16, w32}
 use Rattle.std.specs.Option.{ok_or, option_map, option_and_then}
 use Rattle.std.specs.Str.{bytes_eq}
 use Rattle.bp_core.specs.declared.refusals.Refusal.{Refusal}
@@ -17,6 +16,8 @@ use Rattle.bp_rows.specs.Packed.{packed_rows}
 use Rattle.bp_tiff.specs.declared.fields.Fields.{Fields}
 use Rattle.bp_tiff.specs.declared.form.Form.TheVariants.{Plain}
 use Rattle.bp_tiff.specs.declared.places.TheConstants.{WIDTH_AT, HEIGHT_AT, PLAIN_UNIT_AT, PLAIN_XRES_AT, PLAIN_YRES_AT, PLAIN_STRIP_AT}
+use Rattle.bp_tiff.specs.declared.numbers.ByteOrder.TheVariants.{Little}
+use Rattle.bp_tiff.specs.Numbers.{short_at, long_at}
 use Rattle.bp_tiff.specs.Tiff.{head_of, tiff_of, fields_of}
 use Rattle.bp_tiff.specs.Units.{unit_of}
 
@@ -28,21 +29,15 @@ pub record IsPlainFile (bytes : List ℕ) (p : Image) : Type 0 where
 
 -- ---- the page that bytes name
 
--- the numbers that stand at a place
-abbrev pub short_at : List ℕ → ℕ → ℕ
-short_at bytes at = from_le_bytes w16 (take 2 (drop at bytes))
-
-abbrev pub long_at : List ℕ → ℕ → ℕ
-long_at bytes at = from_le_bytes w32 (take 4 (drop at bytes))
-
+-- the resolution that stands at a place
 abbrev pub res_at : List ℕ → ℕ → Res
-res_at bytes at = record { num = long_at bytes at; den = long_at bytes (at + 4) }
+res_at bytes at = record { num = long_at Little bytes at; den = long_at Little bytes (at + 4) }
 
 -- what bytes say where the fields of a plain file stand, but for the unit
 abbrev pub fields_with : List ℕ → LengthUnit → Fields
 fields_with bytes u = record {
-  width = long_at bytes WIDTH_AT;
-  height = long_at bytes HEIGHT_AT;
+  width = long_at Little bytes WIDTH_AT;
+  height = long_at Little bytes HEIGHT_AT;
   xres = res_at bytes PLAIN_XRES_AT;
   yres = res_at bytes PLAIN_YRES_AT;
   unit = u;
@@ -50,7 +45,7 @@ fields_with bytes u = record {
 
 -- and the unit, where they have the code of one
 abbrev pub named_fields : List ℕ → Option Fields
-named_fields bytes = option_map (fields_with bytes) (unit_of (short_at bytes PLAIN_UNIT_AT))
+named_fields bytes = option_map (fields_with bytes) (unit_of (short_at Little bytes PLAIN_UNIT_AT))
 
 -- the page of these fields, with the rows in the bytes from the strip's place on
 abbrev pub page_with : List ℕ → Fields → Image
@@ -105,7 +100,7 @@ StripMakes f strip (Ok p) = IsMadeOf f strip p
 StripMakes f strip (Err (refusals.Rule rule)) = (rule ≡ form_not_built) × HasNoRows f strip
 StripMakes f strip (Err refusals.OutOfMemory) = Unit {0}
 
--- before the strip stands the head of a plain file of these fields, whose sides are those of an import
+-- before the strip stands the head of a plain file of these fields, with sides of an import
 pub record HasHead (bytes : List ℕ) (f : Fields) : Type 0 where
   pub long : PLAIN_STRIP_AT ≤ length bytes
   pub named : named_fields bytes ≡ Some f

@@ -9,7 +9,7 @@ use Rattle.bp_t6.specs.Written.{strip_of as t6_strip}
 use Rattle.bp_tiff.specs.declared.fields.Fields.{Fields}
 use Rattle.bp_tiff.specs.declared.form.Form.{Form}
 use Rattle.bp_tiff.specs.declared.form.Form.TheVariants.{Plain, G4}
-use Rattle.bp_tiff.specs.declared.places.TheConstants.{DIRECTORY_AT}
+use Rattle.bp_tiff.specs.declared.places.TheConstants.{DIRECTORY_AT, MAGIC}
 use Rattle.bp_tiff.specs.Entries.{entries, directory}
 
 -- what a file says of its page beside the pixels
@@ -24,7 +24,7 @@ fields_of p = record {
 
 -- section 2, Image File Header: the byte order, 42, and where the directory begins
 abbrev pub header : List ℕ
-header = codes "II" ++ to_le_bytes w16 42 ++ to_le_bytes w32 DIRECTORY_AT
+header = codes "II" ++ to_le_bytes w16 MAGIC ++ to_le_bytes w32 DIRECTORY_AT
 
 -- section 2, RATIONAL: numerator and denominator
 abbrev pub rational : Res → List ℕ

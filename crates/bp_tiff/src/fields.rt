@@ -40,7 +40,7 @@ pub fn code_of_unit(unit: Unit) -> u16
 }
 
 /// The unit of that code.
-pub fn unit_of_code(code: u16) -> Option<Unit>
+pub fn unit_of_code(code: u32) -> Option<Unit>
     ensures { result ≡ unit_of code }
 {
     match code {

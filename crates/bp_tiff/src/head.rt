@@ -7,7 +7,7 @@ ghost use Rattle.bp_tiff.specs.Tiff.{header, rational, head_of};
 use crate::entries::{Entry, Value, g4_entries, plain_entries};
 use crate::fields::Fields;
 use crate::form::Form;
-use crate::places::DIRECTORY_AT;
+use crate::places::{DIRECTORY_AT, MAGIC};
 use crate::tags::{LONG, RATIONAL, SHORT};
 use bp_core::OutOfMemory;
 use bp_rows::Res;
@@ -31,7 +31,7 @@ fn put_header(out: &mut Vec<u8>) -> Result<(), OutOfMemory>
     ensures { OnOk result (out.new.items ≡ out.old.items ++ header) }
 {
     out.extend_from_slice(b"II")?;
-    out.extend_from_slice(&42u16.to_le_bytes())?;
+    out.extend_from_slice(&MAGIC.to_le_bytes())?;
     out.extend_from_slice(&DIRECTORY_AT.to_le_bytes())?;
     Ok(())
 }

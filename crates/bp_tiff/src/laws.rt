@@ -1,10 +1,12 @@
 // Laws of the definitions, each the contract of a function.
-ghost use Rattle.std.specs.Prelude.{◌≡◌};
+ghost use Rattle.std.specs.Prelude.{◌≡◌, ◌↔◌, ℕ, List, Result};
+ghost use Rattle.bp_core.specs.declared.rules.Rule.{Rule};
 ghost use Rattle.bp_rows.specs.Image.{Image, IsPage};
 ghost use Rattle.bp_tiff.specs.declared.form.Form.{Form};
+ghost use Rattle.bp_tiff.specs.Read.{TiffReads, TiffAnswers};
 ghost use Rattle.bp_tiff.specs.Tiff.{tiff_of};
 
-use bp_t6::laws::strip_law;
+use bp_t6::laws::{reading_law, strip_law, strip_size};
 
 /// No two pages share a file, and no page has one file in both forms.
 pub fn one_page_a_file()
@@ -18,4 +20,24 @@ pub fn one_page_a_file()
         → first ≡ second }
 {
     strip_law();
+}
+
+/// No file has two answers: no two pages, no two rules that it breaks first, and not one of each.
+pub fn one_answer()
+    ensures { (bytes : List ℕ) (first second : Result Image Rule)
+        → TiffAnswers bytes first
+        → TiffAnswers bytes second
+        → first ≡ second }
+{
+    reading_law();
+}
+
+/// What is written of a page, in either form, is read as that page and as no other.
+pub fn written_is_read()
+    ensures { (form : Form) (p q : Image)
+        → IsPage p
+        → TiffReads (tiff_of form p) q ↔ (q ≡ p) }
+{
+    strip_law();
+    strip_size();
 }

@@ -4,7 +4,14 @@ ghost use Rattle.bp_tiff.specs.Places.{strip_at};
 
 use crate::form::Form;
 
-/// The directory.
+/// How many bytes the header has.
+pub const HEADER_BYTES: usize = 8;
+/// The number in the header that tells a TIFF file.
+pub const MAGIC: u16 = 42;
+/// How many bytes an entry has.
+pub const ENTRY_BYTES: usize = 12;
+
+/// The directory of a file that is written.
 pub const DIRECTORY_AT: u32 = 8;
 
 /// The value of ImageWidth, the first entry.

@@ -2,11 +2,12 @@
 ghost use Rattle.std.specs.Prelude.{◌≡◌, ◌+◌, ◌≤◌, length, drop, IfOk, MatchResult};
 ghost use Rattle.bp_core.specs.Answers.{Answers};
 ghost use Rattle.bp_rows.specs.Image.{Image};
-ghost use Rattle.bp_tiff.specs.Plain.{IsPlainFile, short_at, long_at, res_at, named_fields, plain_answer, form_not_built, FindsHead, StripMakes};
+ghost use Rattle.bp_tiff.specs.Plain.{IsPlainFile, res_at, named_fields, plain_answer, form_not_built, FindsHead, StripMakes};
 
 use crate::fields::{Fields, unit_of_code};
 use crate::form::Form;
 use crate::head::put_head;
+use crate::numbers::{ByteOrder, long, short};
 use crate::places::{
     HEIGHT_AT, PLAIN_STRIP_AT, PLAIN_UNIT_AT, PLAIN_XRES_AT, PLAIN_YRES_AT, WIDTH_AT,
 };
@@ -18,8 +19,8 @@ use std::alloc::Global;
 const HEAD_BYTES: usize = PLAIN_STRIP_AT as usize;
 
 /// The page whose plain file the bytes are, as `write_tiff` writes it. Bytes that are no plain file
-/// of a page within the limits of an import break the rule FormNotBuilt. The bytes of the strip become
-/// the page's own: it takes memory for the head alone.
+/// of a page within the limits of an import break the rule FormNotBuilt. The bytes of the strip
+/// become the page's own: it takes memory for the head alone.
 pub fn read_plain(alloc: Global, bytes: Vec<u8>) -> Result<Page, Refusal>
     // What is read has the bytes as its file.
     ensures found { IfOk result (λ p. IsPlainFile bytes.items p) }
@@ -108,28 +109,14 @@ fn fields_in(bytes: &[u8]) -> Option<Fields>
     requires { PLAIN_STRIP_AT ≤ length bytes.now }
     ensures { result ≡ named_fields bytes.now }
 {
-    let unit = unit_of_code(read_short(bytes, PLAIN_UNIT_AT as usize))?;
+    let unit = unit_of_code(u32::from(short(bytes, ByteOrder::Little, PLAIN_UNIT_AT as usize)))?;
     Some(Fields {
-        width: read_long(bytes, WIDTH_AT as usize),
-        height: read_long(bytes, HEIGHT_AT as usize),
+        width: long(bytes, ByteOrder::Little, WIDTH_AT as usize),
+        height: long(bytes, ByteOrder::Little, HEIGHT_AT as usize),
         xres: read_res(bytes, PLAIN_XRES_AT as usize),
         yres: read_res(bytes, PLAIN_YRES_AT as usize),
         unit,
     })
-}
-
-fn read_short(bytes: &[u8], at: usize) -> u16
-    requires { at + 2 ≤ length bytes.now }
-    ensures { result ≡ short_at bytes.now at }
-{
-    u16::from_le_bytes([bytes[at], bytes[at + 1]])
-}
-
-fn read_long(bytes: &[u8], at: usize) -> u32
-    requires { at + 4 ≤ length bytes.now }
-    ensures { result ≡ long_at bytes.now at }
-{
-    u32::from_le_bytes([bytes[at], bytes[at + 1], bytes[at + 2], bytes[at + 3]])
 }
 
 fn read_res(bytes: &[u8], at: usize) -> Res
@@ -137,7 +124,7 @@ fn read_res(bytes: &[u8], at: usize) -> Res
     ensures { result ≡ res_at bytes.now at }
 {
     Res {
-        num: read_long(bytes, at),
-        den: read_long(bytes, at + 4),
+        num: long(bytes, ByteOrder::Little, at),
+        den: long(bytes, ByteOrder::Little, at + 4),
     }
 }

@@ -1,5 +1,5 @@
-// The fields of a page file by their tags (TIFF 6.0, section 8; T6Options section 11), and the types of their values
-// (section 2).
+// The fields of a page file by their tags (TIFF 6.0, section 8; T6Options section 11), and the types
+// of their values (section 2).
 
 /// The columns.
 pub const IMAGE_WIDTH: u16 = 256;
@@ -15,6 +15,8 @@ pub const PHOTOMETRIC: u16 = 262;
 pub const FILL_ORDER: u16 = 266;
 /// Where each strip begins.
 pub const STRIP_OFFSETS: u16 = 273;
+/// Where the first row and column stand.
+pub const ORIENTATION: u16 = 274;
 /// Samples for each pixel.
 pub const SAMPLES_PER_PIXEL: u16 = 277;
 /// Rows of each strip but the last.
@@ -29,6 +31,9 @@ pub const Y_RESOLUTION: u16 = 283;
 pub const T6_OPTIONS: u16 = 293;
 /// The unit of length.
 pub const RESOLUTION_UNIT: u16 = 296;
+
+/// RowsPerStrip where nothing is said of it: all rows in one strip.
+pub const ALL_ROWS: u32 = 4_294_967_295;
 
 /// The type of a number of 16 bits.
 pub const SHORT: u16 = 3;

@@ -1,5 +1,6 @@
 // Page files against bytes that are written out from TIFF 6.0 and ITU-T T.6.
 use super::*;
+use bp_codes::Fill;
 use bp_core::{Refusal, Rule, RuleKind};
 use bp_rows::{Page, Res, Unit};
 use std::alloc::{AllocError, Global};
@@ -134,14 +135,19 @@ fn page(alloc: Global, case: &Case) -> Result<Page, Refusal> {
     Ok(page)
 }
 
-// The worked plain file with other bytes at some places, and another strip.
-fn file(alloc: Global, changes: &[(usize, u8)], strip: &[u8]) -> Result<Vec<u8>, AllocError> {
-    let mut bytes = PLAIN[..186].to_vec(alloc)?;
+fn changed(alloc: Global, bytes: &[u8], changes: &[(usize, u8)]) -> Result<Vec<u8>, AllocError> {
+    let mut bytes = bytes.to_vec(alloc)?;
     for (at, byte) in changes {
         if *at < bytes.len() {
             bytes[*at] = *byte;
         }
     }
+    Ok(bytes)
+}
+
+// The worked plain file with other bytes at some places, and another strip.
+fn file(alloc: Global, changes: &[(usize, u8)], strip: &[u8]) -> Result<Vec<u8>, AllocError> {
+    let mut bytes = changed(alloc, &PLAIN[..186], changes)?;
     bytes.extend_from_slice(strip)?;
     Ok(bytes)
 }
@@ -241,5 +247,93 @@ fn other_sides_and_strips_are_refused(rt: HostRuntime) -> Result<(), Fail> {
     }
     assert!(rt; is_refused(rt.alloc(), b"x")?);
     assert!(rt; is_refused(rt.alloc(), &G4)?);
+    Ok(())
+}
+
+// ---- files of strangers
+
+// A black page of 8 by 3: the highest byte first, the first bit low, 0 is black, three strips, no
+// resolution.
+const STRANGE: [u8; 140] = [
+    0x4D, 0x4D, 0x00, 0x2A, 0x00, 0x00, 0x00, 0x08, 0x00, 0x08, // header, count of entries
+    0x01, 0x00, 0x00, 0x03, 0x00, 0x00, 0x00, 0x01, 0x00, 0x08, 0x00, 0x00, // ImageWidth
+    0x01, 0x01, 0x00, 0x03, 0x00, 0x00, 0x00, 0x01, 0x00, 0x03, 0x00, 0x00, // ImageLength
+    0x01, 0x03, 0x00, 0x03, 0x00, 0x00, 0x00, 0x01, 0x00, 0x04, 0x00, 0x00, // Compression
+    0x01, 0x06, 0x00, 0x03, 0x00, 0x00, 0x00, 0x01, 0x00, 0x01, 0x00, 0x00, // Photometric
+    0x01, 0x0A, 0x00, 0x03, 0x00, 0x00, 0x00, 0x01, 0x00, 0x02, 0x00, 0x00, // FillOrder
+    0x01, 0x11, 0x00, 0x04, 0x00, 0x00, 0x00, 0x03, 0x00, 0x00, 0x00, 0x6E, // StripOffsets
+    0x01, 0x16, 0x00, 0x03, 0x00, 0x00, 0x00, 0x01, 0x00, 0x01, 0x00, 0x00, // RowsPerStrip
+    0x01, 0x17, 0x00, 0x03, 0x00, 0x00, 0x00, 0x03, 0x00, 0x00, 0x00, 0x7A, // StripByteCounts
+    0x00, 0x00, 0x00, 0x00, // no next directory
+    0x00, 0x00, 0x00, 0x80, 0x00, 0x00, 0x00, 0x84, 0x00, 0x00, 0x00, 0x88, // three offsets
+    0x00, 0x04, 0x00, 0x04, 0x00, 0x04, // three lengths
+    0x01, 0x10, 0x00, 0x01, 0x01, 0x10, 0x00, 0x01, 0x01, 0x10, 0x00, 0x01, // three strips
+];
+
+fn is_strange(layout: &Layout) -> bool {
+    let Layout {
+        sides,
+        coding,
+        strips,
+        scale,
+        ..
+    } = layout;
+    sides.width == 8
+        && sides.height == 3
+        && coding.is_t6
+        && coding.zero_is_black
+        && coding.fill == Fill::Low
+        && strips.rows == 1
+        && strips.count == 3
+        && scale.xres == TWO_HUNDRED
+        && scale.yres == TWO_HUNDRED
+        && scale.unit == Unit::Inch
+}
+
+#[test]
+fn a_strangers_directory_is_read(rt: HostRuntime) {
+    match read_layout(&STRANGE) {
+        Ok(layout) => assert!(rt; is_strange(&layout)),
+        Err(_) => assert!(rt; false),
+    }
+}
+
+// The rule that the bytes break, with its values.
+fn breaks(bytes: &[u8], kind: RuleKind, a: u64, b: u64) -> bool {
+    let rule = Rule {
+        a,
+        b,
+        ..Rule::bare(kind)
+    };
+    match read_layout(bytes) {
+        Ok(_) => false,
+        Err(broken) => broken == rule,
+    }
+}
+
+// Other bytes in the G4 file, the rule that it then breaks, and the rule's values.
+const DAMAGES: [(&[(usize, u8)], RuleKind, u64, u64); 11] = [
+    (&[(0, 0)], RuleKind::TiffHead, 0, 0),
+    (&[(178, 1)], RuleKind::TiffManyPages, 0, 0),
+    (&[(18, 0)], RuleKind::PageLimit, 0, 1),
+    (&[(18, 0x21), (19, 0x4E)], RuleKind::PageLimit, 20_001, 1),
+    (&[(36, 1)], RuleKind::TiffType, 258, 0),
+    (&[(98, 2)], RuleKind::TiffType, 277, 0),
+    (&[(66, 2)], RuleKind::TiffMeaning, 262, 0),
+    (&[(114, 0)], RuleKind::TiffMeaning, 278, 0),
+    (&[(126, 7)], RuleKind::TiffBounds, 273, 0),
+    (&[(54, 5), (55, 0x80)], RuleKind::TiffCompression, 32_773, 0),
+    (&[(10, 0xFF), (11, 0)], RuleKind::TiffMissing, 256, 0),
+];
+
+#[test]
+fn a_damaged_directory_is_refused(rt: HostRuntime) -> Result<(), Fail> {
+    for (changes, kind, a, b) in &DAMAGES {
+        let bytes = changed(rt.alloc(), &G4, changes)?;
+        assert!(rt; breaks(bytes.as_slice(), *kind, *a, *b));
+    }
+    let other = changed(rt.alloc(), &STRANGE, &[(43, 5)])?;
+    assert!(rt; breaks(other.as_slice(), RuleKind::TiffCompression, 5, 0));
+    assert!(rt; breaks(&STRANGE[..40], RuleKind::TiffBounds, 0, 0));
     Ok(())
 }

@@ -16,6 +16,9 @@ use Rattle.bp_cli.specs.Words.{number_of, is_bad_word}
 use Rattle.bp_cli.specs.Burn.{BurnLine, burn_answer, burn_gives}
 use Rattle.bp_cli.specs.Commands.{burn, command_of}
 use Rattle.bp_cli.specs.Endings.{done, status_of, text_of}
+use Rattle.bp_cli.specs.Runs.{all_statuses}
+use Rattle.bp_cli.specs.declared.burn.TheConstants.{FILE_LIMIT}
+use Rattle.bp_cli.specs.declared.statuses.TheConstants.{OUT_FAULT}
 
 -- ---- words
 
@@ -122,3 +125,20 @@ outside_line = refl
 
 fault_line : (text_of (Err stops.SourceFault) ≡ codes "source fault\n") × (status_of (Err stops.SourceFault) ≡ 3)
 fault_line = (refl, refl)
+
+-- ---- the numbers of the program
+
+seven_statuses : all_statuses ≡ 0 ∷ 1 ∷ 2 ∷ 3 ∷ 4 ∷ 6 ∷ 7 ∷ []
+seven_statuses = refl
+
+done_status : status_of (Ok []) ≡ 0
+done_status = refl
+
+other_statuses : (status_of (Err stops.WordsRefused) ≡ 1) × (status_of (Err (stops.Broken (bare_rule kinds.BoxShape))) ≡ 2)
+other_statuses = (refl, refl)
+
+last_statuses : (status_of (Err stops.FolderFault) ≡ 4) × (status_of (Err stops.OutOfMemory) ≡ 6) × (OUT_FAULT ≡ 7)
+last_statuses = (refl, refl, refl)
+
+longest_file : FILE_LIMIT ≡ 134217728
+longest_file = refl

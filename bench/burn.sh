@@ -3,7 +3,8 @@
 # command, each as product over peer, once both outputs hold equal pixels and fields. First from plain to plain, for pages
 # of 8 by 1, of letter size and of 20,000 by 10,000 pixels; then from plain to Group 4, for the pages of pages.sh. Then the
 # instructions that the product takes for each pixel of the largest page: from plain to plain more than 3 would mean that
-# something goes by the pixel. Words: the forms to write, plain and g4 where none is given.
+# something goes by the pixel. Words: the forms to write, plain and g4 where none is given. On a disk both wait for its
+# writes, which hides most of a small page's time: TMPDIR=/dev/shm has the files in memory.
 # Needs rt on PATH where the program isn't built; of Debian gcc, libtiff-dev, libtiff-tools, valgrind; and what pages.sh
 # needs.
 set -eu

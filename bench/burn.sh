@@ -3,8 +3,8 @@
 # command, each as product over peer, once both outputs hold equal pixels and fields. First from plain to plain, for pages
 # of 8 by 1, of letter size and of 20,000 by 10,000 pixels; then from plain to Group 4, for the pages of pages.sh. Then the
 # instructions that the product takes for each pixel of the largest page: from plain to plain more than 3 would mean that
-# something goes by the pixel. Words: the forms to write, plain and g4 where none is given. On a disk both wait for its
-# writes, which hides most of a small page's time: TMPDIR=/dev/shm has the files in memory.
+# something goes by the pixel. Words: the forms to write, plain and g4 where none is given.
+# Each run writes a new file.
 # Needs rt on PATH where the program isn't built; of Debian gcc, libtiff-dev, libtiff-tools, valgrind; and what pages.sh
 # needs.
 set -eu
@@ -37,7 +37,8 @@ compare() {
     # tiffcmp ends with 0 where a field differs, and then compares no pixels: it must also print nothing
     differs=$(tiffcmp out/product.tif peer.tif 2>&1 || echo "it failed")
     [ -z "$differs" ] || stop "the two outputs differ on $1: $differs"
-    ./side_by_side "$label" "$rounds" "$program" burn "$@" product.tif "$form" -- ./burn_peer "$@" peer.tif "$form"
+    ./side_by_side "$label" "$rounds" out/product.tif peer.tif \
+        "$program" burn "$@" product.tif "$form" -- ./burn_peer "$@" peer.tif "$form"
 }
 
 paragraph='320 1755 1910 370'

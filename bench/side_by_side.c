@@ -1,6 +1,8 @@
 /* Runs two commands in turn, as often as it is told, and prints of both the median and the least wall time, the median
  * processor time and the peak memory, and the ratios of the first over the second. On a busy machine the processor time
- * tells more than the wall time. Words: label, rounds, first command, --, second command.
+ * tells more than the wall time. Words: label, rounds, the file that each command writes, first command, --, second
+ * command. Such a file is removed before its command starts, outside the time: to write over a file whose bytes are still
+ * on their way to the disk means to wait for them, and a new file is what the command makes in its daily use.
  * What the commands print is dropped; each must end with status 0. */
 #define _GNU_SOURCE
 #include <fcntl.h>
@@ -11,11 +13,12 @@
 #include <sys/resource.h>
 #include <sys/wait.h>
 #include <time.h>
+#include <unistd.h>
 
 extern char **environ;
 
 struct side {
-    char **words;
+    char **words, *output;
     double *wall, *processor; /* in milliseconds, of each round */
     long kilobytes;
 };
@@ -40,6 +43,7 @@ static void run(struct side *side, int round) {
     pid_t child;
     int status;
     struct rusage used;
+    unlink(side->output);
     double start = now();
     if (posix_spawn(&child, side->words[0], &actions, NULL, side->words, environ)) stop("cannot start a command");
     if (wait4(child, &status, 0, &used) != child) stop("cannot wait for a command");
@@ -60,11 +64,11 @@ static void print(const char *unit, double mine, double other) {
 }
 
 int main(int count, char **words) {
-    int rounds = count > 2 ? atoi(words[2]) : 0, split = 3;
+    int rounds = count > 2 ? atoi(words[2]) : 0, split = 5;
     while (split < count && strcmp(words[split], "--")) split++;
-    if (rounds < 1 || split == 3 || split + 1 >= count) stop("usage: LABEL ROUNDS COMMAND.. -- COMMAND..");
+    if (rounds < 1 || split == 5 || split + 1 >= count) stop("usage: LABEL ROUNDS OUTPUT OUTPUT COMMAND.. -- COMMAND..");
     words[split] = NULL;
-    struct side sides[2] = {{.words = words + 3}, {.words = words + split + 1}};
+    struct side sides[2] = {{words + 5, words[3]}, {words + split + 1, words[4]}};
     for (int at = 0; at < 2; at++) {
         sides[at].wall = malloc(rounds * sizeof(double));
         sides[at].processor = malloc(rounds * sizeof(double));

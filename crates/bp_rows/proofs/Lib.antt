@@ -1,5 +1,6 @@
 mod BoxLemmas
 pub mod BurnedLemmas
+pub mod ClearingLemmas
 pub mod EdgeLemmas
 mod Examples
 mod FindLemmas

@@ -4,14 +4,15 @@ ghost use Rattle.bp_core.specs.Rules.{page_limit_rule};
 ghost use Rattle.bp_rows.specs.Limits.{sides_are_allowed};
 ghost use Rattle.bp_core.specs.Rectangle.{LiesInside};
 ghost use Rattle.bp_rows.specs.Image.{IsPage, IsGrid, pixel, row_of, with_pixel, with_row, white_image};
-ghost use Rattle.bp_rows.specs.Bits.{row_bytes};
+ghost use Rattle.bp_rows.specs.Bits.{row_bytes, image_in};
 ghost use Rattle.bp_rows.specs.Changes.{changes_of};
 ghost use Rattle.bp_rows.specs.Burned.{burned, row_part};
 ghost use Rattle.bp_rows.specs.Packed.{packed_row, packed_rows};
 ghost use Rattle.bp_rows.specs.Runs.{painted_runs, IsRuns};
 
 use crate::bits::{
-    blacken, bytes_of_row, bytes_of_strip, has_blank_ends, pixel_at, place_of, set_pixel_at,
+    blacken, bytes_of_row, bytes_of_strip, clear_ends, has_blank_ends, pixel_at, place_of,
+    set_pixel_at,
 };
 use crate::changes::{drop_end, find_changes};
 use crate::limits::{MAX_WIDTH, allowed_sides};
@@ -131,6 +132,32 @@ impl Page {
             unit,
             strip,
         })
+    }
+
+    /// The page whose rows are packed in these bytes; the unused bits at the end of each row may be
+    /// anything. It takes no memory.
+    pub fn of_packed(
+        width: u32,
+        height: u32,
+        xres: Res,
+        yres: Res,
+        unit: Unit,
+        mut strip: Vec<u8>,
+    ) -> Page
+        requires sides { IsTrue (sides_are_allowed width height) }
+        requires long { length strip.items ≡ height * row_bytes width }
+        ensures value { result ≡ image_in width height xres yres unit strip.items }
+        ensures page { IsPage result }
+    {
+        clear_ends(&mut strip, width, height);
+        Page {
+            width,
+            height,
+            xres,
+            yres,
+            unit,
+            strip,
+        }
     }
 
     /// The width in pixels.

@@ -24,4 +24,4 @@ mod turns;
 mod writer;
 
 pub use page::code_page;
-pub use strip_reader::read_strip;
+pub use strip_reader::{StripReader, read_strip};

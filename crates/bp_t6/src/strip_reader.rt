@@ -1,6 +1,7 @@
-// A strip read.
-ghost use Rattle.std.specs.Prelude.{◌≡◌, ◌<◌, ◌≤◌, ◌^◌, Bool, List, IfOk, IfErr, IsTrue, ℕ, length, Ok, Err, false};
+// Strips read, one after another.
+ghost use Rattle.std.specs.Prelude.{◌≡◌, ◌<◌, ◌≤◌, ◌^◌, ◌+◌, Bool, List, IfOk, IfErr, OnOk, IsTrue, ℕ, length, Ok, Err, false, replicate};
 ghost use Rattle.bp_core.specs.declared.refusals.Refusal.TheVariants as refusals;
+ghost use Rattle.bp_rows.specs.Bits.{row_bytes};
 ghost use Rattle.bp_rows.specs.Limits.{sides_are_allowed};
 ghost use Rattle.bp_core.specs.Rules.{page_limit_rule};
 ghost use Rattle.bp_codes.specs.Bits.{bits_of};
@@ -8,56 +9,101 @@ ghost use Rattle.bp_codes.specs.Span.{span_bits};
 ghost use Rattle.bp_t6.specs.Read.{StripReads};
 ghost use Rattle.bp_t6.specs.Faults.{StripFault};
 ghost use Rattle.bp_core.specs.declared.rules.RuleKind.{RuleKind};
-ghost use Rattle.bp_t6.specs.Strips.{StripIsRead, StripStops, IsRefused, OrNoMemory, refusal_for, fault_rule, page_of};
+ghost use Rattle.bp_t6.specs.Strips.{AppendsLines, SaysFault, IfRule, IsRefused, OrNoMemory, refusal_for, fault_rule, page_of};
 
 use crate::laws::reading_law;
 use crate::line_reader::read_row;
 use crate::reading::Stop;
 use crate::tables::CodeTables;
 use bp_codes::{BitSpan, Fill};
-use bp_core::{Refusal, Rule};
-use bp_rows::{MAX_WIDTH, Page, Res, Unit, allowed_sides, bytes_of_row, push_row};
+use bp_core::{Refusal, Rule, RuleKind};
+use bp_rows::{
+    MAX_WIDTH, Page, Res, Unit, allowed_sides, bytes_of_row, bytes_of_strip, push_row,
+};
 use std::alloc::Global;
 use std::mem;
 
+// A white row of the greatest width.
+static WHITE_ROW: [u8; 2500] = [0; 2500];
+
+/// A reader of strips with its tables, and with rooms for the changes of two rows and for the bytes
+/// of one, which serve one strip after another.
+#[derive(Drop)]
+pub struct StripReader {
+    tables: CodeTables,
+    line: Vec<u32>,
+    above: Vec<u32>,
+    packed: Vec<u8>,
+}
+
+impl StripReader {
+    /// A reader of empty rooms. It takes no memory.
+    pub fn new(alloc: Global) -> StripReader {
+        StripReader {
+            tables: CodeTables::new(),
+            line: Vec::new(alloc),
+            above: Vec::new(alloc),
+            packed: Vec::new(alloc),
+        }
+    }
+
+    /// Appends the packed rows of a strip of so many rows of that width, or refuses its first fault,
+    /// with its bit in the strip, and its row counted on from `first`.
+    pub fn read_rows(
+        &mut self,
+        span: &BitSpan,
+        width: u32,
+        rows: u32,
+        first: u32,
+        out: &mut Vec<u8>,
+    ) -> Result<(), Refusal>
+        requires wide { width ≤ MAX_WIDTH }
+        ensures read { OnOk result (
+            AppendsLines (span_bits span.now) width rows out.old.items out.new.items) }
+        ensures refused { IfErr result (
+            IfRule (SaysFault (span_bits span.now) width rows first)) }
+    {
+        let white = white_row(width);
+        self.above.clear();
+        let mut at = 0;
+        for row in 0..rows {
+            at = match read_row(&self.tables, span, at, width, &self.above, &mut self.line) {
+                Ok(next) => next,
+                Err(stop) => return Err(refusal_of(stop, u64::from(first) + u64::from(row))),
+            };
+            push_row(out, &mut self.packed, white, &self.line, width)?;
+            mem::swap(&mut self.line, &mut self.above);
+        }
+        Ok(())
+    }
+}
+
+fn white_row(width: u32) -> &'static [u8]
+    requires { width ≤ MAX_WIDTH }
+    ensures { result.now ≡ replicate (row_bytes width) 0 }
+{
+    &WHITE_ROW[..bytes_of_row(width)]
+}
+
 // What is answered of a row where reading stops.
 #[inline(never)]
-fn refusal_of(stop: Stop, row: u32) -> Refusal
+fn refusal_of(stop: Stop, row: u64) -> Refusal
     ensures { result ≡ refusal_for stop row }
 {
     match stop {
-        Stop::Fault(fault) => Refusal::Rule(Rule {
-            kind: fault.kind,
-            line: 0,
-            a: u64::from(row),
-            b: fault.bit,
-        }),
+        Stop::Fault(fault) => Refusal::Rule(rule_at(fault.kind, row, fault.bit)),
         Stop::OutOfMemory => Refusal::OutOfMemory,
     }
 }
 
-// So many rows as a packed strip.
-fn read_rows(alloc: Global, span: &BitSpan, width: u32, rows: u32) -> Result<Vec<u8>, Refusal>
-    requires wide { width ≤ MAX_WIDTH }
-    ensures read { IfOk result (λ strip. StripIsRead (span_bits span.now) width rows strip.items) }
-    ensures refused { IfErr result (λ refusal. StripStops (span_bits span.now) width rows refusal) }
+fn rule_at(kind: RuleKind, row: u64, bit: u64) -> Rule
+    ensures { result ≡ fault_rule kind row bit }
 {
-    let tables = CodeTables::new();
-    let white = vec![in alloc; 0u8; bytes_of_row(width)]?;
-    let mut packed = Vec::new(alloc);
-    let mut strip = Vec::new(alloc);
-    let mut line = Vec::new(alloc);
-    let mut above = Vec::new(alloc);
-    let mut at = 0;
-    for row in 0..rows {
-        at = match read_row(&tables, span, at, width, &above, &mut line) {
-            Ok(next) => next,
-            Err(stop) => return Err(refusal_of(stop, row)),
-        };
-        push_row(&mut strip, &mut packed, &white, &line, width)?;
-        mem::swap(&mut line, &mut above);
+    Rule {
+        a: row,
+        b: bit,
+        ..Rule::bare(kind)
     }
-    Ok(strip)
 }
 
 /// The page whose rows a strip has, at 200 by 200 dots an inch. Refused are sides that no page has,
@@ -92,10 +138,8 @@ pub fn read_strip(
         return Err(Refusal::Rule(Rule::page_limit(width, rows)));
     }
     let span = BitSpan { bytes, fill };
-    let strip = read_rows(alloc, &span, width, rows)?;
+    let mut strip = Vec::new(alloc);
+    StripReader::new(alloc).read_rows(&span, width, rows, 0, &mut strip)?;
     let res = Res { num: 200, den: 1 };
-    match Page::from_strip(width, rows, res, res, Unit::Inch, strip) {
-        Ok(page) => Ok(page),
-        Err(_) => unreachable!(),
-    }
+    Ok(Page::of_packed(width, rows, res, res, Unit::Inch, strip))
 }

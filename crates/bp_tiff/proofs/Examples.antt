@@ -8,7 +8,6 @@ use Rattle.bp_rows.specs.Image.{Image}
 use Rattle.bp_tiff.specs.declared.form.Form.TheVariants.{Plain, G4}
 use Rattle.bp_tiff.specs.Tiff.{tiff_of}
 use Rattle.bp_tiff.specs.Units.{unit_of}
-use Rattle.bp_tiff.specs.Plain.{plain_page}
 
 abbrev pub two_hundred : Res
 two_hundred = record { num = 200; den = 1 }
@@ -52,9 +51,6 @@ plain_file =
 plain_written : tiff_of Plain worked ≡ plain_file
 plain_written = refl
 
-read_back : plain_page plain_file ≡ Some worked
-read_back = refl
-
 -- ---- its file of the form G4
 
 abbrev pub g4_file : List ℕ
@@ -88,25 +84,7 @@ g4_written = refl
 sizes : (length plain_file ≡ 187) × (length g4_file ≡ 204)
 sizes = (refl, refl)
 
--- ---- what is no plain file
-
--- one byte more, one less, and none
-longer : plain_page (plain_file ++ 0 ∷ []) ≡ None
-longer = refl
-
-shorter : plain_page (take 186 plain_file) ≡ None
-shorter = refl
-
-empty : plain_page [] ≡ None
-empty = refl
-
--- another compression
-other_compression : plain_page (take 54 plain_file ++ 5 ∷ drop 55 plain_file) ≡ None
-other_compression = refl
-
--- a file of the other form
-other_form : plain_page g4_file ≡ None
-other_form = refl
+-- ---- a unit that no code names
 
 no_unit : unit_of 0 ≡ None
 no_unit = refl

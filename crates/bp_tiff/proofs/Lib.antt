@@ -1,9 +1,11 @@
 pub mod Examples
 pub mod FileLemmas
 pub mod FindingLemmas
+pub mod InTurnLemmas
+pub mod JoinedLemmas
 pub mod OneAnswerLemmas
-pub mod PlainFileLemmas
 pub mod ReadBackLemmas
 pub mod ReadExamples
 mod StripExamples
+pub mod TurnedLemmas
 pub mod WrittenLayoutLemmas

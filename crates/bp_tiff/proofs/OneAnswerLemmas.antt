@@ -1,15 +1,19 @@
 -- Carries "at most one reading or one fault" from the strips of T.6 over to those of a file, and to the file.
-use Rattle.std.proofs.Common.{ℕ, zero, suc, ◌≡◌, ◌+◌, inl, inr, Bool, true, false, List, ◌++◌, Result, Ok, Err, sym, ap, subst, ◌∙◌, arith}
+use Rattle.std.proofs.Common.{ℕ, zero, suc, ◌≡◌, ◌+◌, inl, inr, Bool, true, false, List, ◌++◌, Result, Ok, Err, IfOk, IfErr, sym, ap, subst, ◌∙◌, arith}
 use Rattle.bp_codes.specs.Bits.{bits_of}
 use Rattle.bp_core.specs.declared.rules.Rule.{Rule}
 use Rattle.bp_core.specs.declared.rules.RuleKind.{RuleKind}
+use Rattle.bp_core.specs.Answers.{Answers}
+use Rattle.bp_core.specs.declared.refusals.Refusal.{Refusal}
+use Rattle.bp_core.specs.declared.refusals.Refusal.TheVariants as refusals
 use Rattle.bp_rows.specs.Image.{Image}
 use Rattle.bp_t6.specs.Faults.{StripFault}
 use Rattle.bp_t6.specs.Read.{StripReads}
 use Rattle.bp_tiff.specs.declared.layout.Coding.{Coding}
 use Rattle.bp_tiff.specs.declared.layout.Layout.{Layout}
 use Rattle.bp_tiff.specs.Layout.{layout_of}
-use Rattle.bp_tiff.specs.Pixels.{inked, t6_rule, CodedHolds, PackedHolds, CodedBreaks, PackedBreaks}
+use Rattle.bp_t6.specs.Strips.{fault_rule, IfRule}
+use Rattle.bp_tiff.specs.Pixels.{inked, CodedHolds, PackedHolds, CodedBreaks, PackedBreaks}
 use Rattle.bp_tiff.specs.Read.{StripsHold, StripsBreak, page_of, TiffReads, TiffFault, TiffAnswers}
 
 -- what bp_t6 says of a strip: at most one reading or one fault, and never both
@@ -72,9 +76,9 @@ strip_single :
 strip_single t true c w n first strip rule other h k =
     let same = t.single (bits_of c.fill strip) w n h.kind k.kind h.row k.row h.at k.at h.fault k.fault in
     h.says
-    ∙ ap (λ j. t6_rule j (first + h.row) h.at) same.0
-    ∙ ap (λ r. t6_rule k.kind (first + r) h.at) same.1
-    ∙ ap (t6_rule k.kind (first + k.row)) same.2
+    ∙ ap (λ j. fault_rule j (first + h.row) h.at) same.0
+    ∙ ap (λ r. fault_rule k.kind (first + r) h.at) same.1
+    ∙ ap (fault_rule k.kind (first + k.row)) same.2
     ∙ sym k.says
 strip_single t false c w n first strip rule other h k = h.says ∙ sym k.says
 
@@ -185,3 +189,26 @@ same_answer t bytes (Ok p) (Ok q) h k = ap Ok (file_one t bytes p q h k)
 same_answer t bytes (Ok p) (Err rule) h k = absurd (file_apart t bytes p rule h k)
 same_answer t bytes (Err rule) (Ok q) h k = absurd (file_apart t bytes q rule k h)
 same_answer t bytes (Err rule) (Err other) h k = ap Err (file_single t bytes rule other h k)
+
+-- ---- the answer of a reader
+
+abbrev pub OneAnswer : Type 0
+OneAnswer =
+    (bytes : List ℕ) (first second : Result Image Rule)
+    → TiffAnswers bytes first
+    → TiffAnswers bytes second
+    → first ≡ second
+
+-- a reader whose pages are held by the bytes, and whose rules are broken by them, gives their answer
+pub exactly :
+    OneAnswer
+    → (bytes : List ℕ) (result : Result Image Refusal)
+    → IfOk result (TiffReads bytes)
+    → IfErr result (IfRule (TiffFault bytes))
+    → (answer : Result Image Rule)
+    → TiffAnswers bytes answer
+    → Answers (λ (p : Image). p) result answer
+exactly one bytes (Ok p) found refused answer its = one bytes answer (Ok p) its found
+exactly one bytes (Err (refusals.Rule rule)) found refused answer its =
+    one bytes answer (Err rule) its refused
+exactly one bytes (Err refusals.OutOfMemory) found refused answer its = tt

@@ -167,3 +167,18 @@ read_back law size form p q page = (
   only form p q law size page,
   λ same. subst (TiffReads (tiff_of form p)) (sym same) (own form p law size page),
 )
+
+-- no two pages share a file
+pub one_page :
+    StripLaw
+    → SizeLaw
+    → (first second : Form) (p q : Image)
+    → IsPage p
+    → IsPage q
+    → tiff_of first p ≡ tiff_of second q
+    → p ≡ q
+one_page law sizes first second p q left right same =
+    let own : TiffReads (tiff_of second q) q = (read_back law sizes second q q right).1 refl in
+    let other : TiffReads (tiff_of first p) q =
+    subst (λ (bytes : List ℕ). TiffReads bytes q) (sym same) own in
+    sym ((read_back law sizes first p q left).0 other)

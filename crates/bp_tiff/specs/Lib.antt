@@ -1,10 +1,12 @@
+pub mod Appending
 pub mod Directory
 pub mod Entries
 pub mod Layout
 pub mod Numbers
 pub mod Pixels
+pub mod Parts
+pub mod Passed
 pub mod Places
-pub mod Plain
 pub mod Read
 pub mod Rules
 pub mod Tiff

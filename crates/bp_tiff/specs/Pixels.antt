@@ -5,12 +5,10 @@ use Rattle.bp_codes.specs.declared.span.Fill.{Fill}
 use Rattle.bp_codes.specs.declared.span.Fill.TheVariants.{High, Low}
 use Rattle.bp_codes.specs.Bits.{bits_of}
 use Rattle.bp_core.specs.declared.rules.Rule.{Rule}
-use Rattle.bp_core.specs.declared.rules.RuleKind.{RuleKind}
-use Rattle.bp_core.specs.Rules.{bare_rule}
 use Rattle.bp_rows.specs.Bits.{row_bytes, black_at, place}
 use Rattle.bp_rows.specs.Image.{grid_of}
-use Rattle.bp_t6.specs.Faults.{StripFault}
 use Rattle.bp_t6.specs.Read.{StripReads}
+use Rattle.bp_t6.specs.Strips.{SaysFault}
 use Rattle.bp_tiff.specs.declared.layout.Coding.{Coding}
 use Rattle.bp_tiff.specs.Rules.{tiff_strips}
 
@@ -56,17 +54,10 @@ StripHolds c width rows strip lines = elim c.is_t6 [
 
 -- ---- the rule that a strip breaks
 
--- of a fault of T.6: the row counts from 0 in the page, the bit from 0 in the strip
-abbrev pub t6_rule : RuleKind → ℕ → ℕ → Rule
-t6_rule kind row at = record (bare_rule kind) { a = row; b = at }
-
-pub record CodedBreaks (c : Coding) (width rows first : ℕ) (strip : List ℕ) (rule : Rule)
-    : Type 0 where
-  pub kind : RuleKind
-  pub row : ℕ
-  pub at : ℕ
-  pub fault : StripFault (bits_of c.fill strip) width rows kind row at
-  pub says : rule ≡ t6_rule kind (first + row) at
+-- a fault of T.6: the row counts from 0 in the page, the bit from 0 in the strip
+abbrev pub CodedBreaks : Coding → ℕ → ℕ → ℕ → List ℕ → Rule → Type 0
+CodedBreaks c width rows first strip rule =
+    SaysFault (bits_of c.fill strip) width rows first rule
 
 pub record PackedBreaks (width rows : ℕ) (strip : List ℕ) (rule : Rule) : Type 0 where
   pub short : length strip < rows * row_bytes width

@@ -20,6 +20,7 @@ pub fn one_page_a_file()
         → first ≡ second }
 {
     strip_law();
+    strip_size();
 }
 
 /// No file has two answers: no two pages, no two rules that it breaks first, and not one of each.

@@ -1,9 +1,9 @@
-//! Pages as TIFF files (TIFF 6.0): written plain or in Group 4, the plain ones read back, and any
-//! file read but for its strips.
+//! Pages as TIFF files (TIFF 6.0): written plain or in Group 4, and read in every form that holds one
+//! bilevel page.
 //!
-//! `write_tiff` comes first; its contract cites `tiff_of` of specs/Tiff.antt, the file of a page to
-//! the byte. `read_layout` is the first half of a reader of any file, by `layout_of` of Layout.antt;
-//! the half that reads the strips isn't there yet, and Read.antt says what it is to give.
+//! `write_tiff` gives the file of a page; its contract cites `tiff_of` of specs/Tiff.antt, the file to
+//! the byte. `read_tiff` gives the page of a file or the first rule that it breaks: `TiffReads` and
+//! `TiffFault` of specs/Read.antt. `written_is_read` and `one_answer` are their laws.
 #![tactic(auto)]
 
 mod directory;
@@ -14,9 +14,11 @@ mod head;
 mod laws;
 mod layout;
 mod numbers;
+mod passes;
 mod places;
 mod reading;
 mod rules;
+mod strips;
 mod tags;
 #[cfg(test)]
 mod tests;
@@ -28,6 +30,6 @@ pub use form::Form;
 pub use laws::{one_answer, one_page_a_file, written_is_read};
 pub use layout::{Coding, Layout, Scale, Sides, Strips, read_layout};
 pub use numbers::ByteOrder;
-pub use reading::read_plain;
+pub use reading::read_tiff;
 pub use values::Values;
-pub use writing::write_tiff;
+pub use writing::{Strip, TiffParts, tiff_parts, write_tiff};

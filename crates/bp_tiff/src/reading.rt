@@ -1,130 +1,135 @@
 // Page files read.
-ghost use Rattle.std.specs.Prelude.{◌≡◌, ◌+◌, ◌≤◌, length, drop, IfOk, MatchResult};
+ghost use Rattle.std.specs.Prelude.{◌≡◌, ℕ, ◌+◌, ◌*◌, ◌≤◌, ◌<◌, not, true, false, Result, length, IsTrue, IfOk, IfErr, if◌then◌else◌};
+ghost use Rattle.bp_codes.specs.declared.span.Fill.TheVariants.{High, Low};
 ghost use Rattle.bp_core.specs.Answers.{Answers};
+ghost use Rattle.bp_core.specs.declared.rules.Rule.{Rule};
+ghost use Rattle.bp_rows.specs.Bits.{row_bytes};
 ghost use Rattle.bp_rows.specs.Image.{Image};
-ghost use Rattle.bp_tiff.specs.Plain.{IsPlainFile, res_at, named_fields, plain_answer, form_not_built, FindsHead, StripMakes};
+ghost use Rattle.bp_rows.specs.Limits.{sides_are_allowed};
+ghost use Rattle.bp_t6.specs.Strips.{IfRule};
+ghost use Rattle.bp_tiff.specs.Appending.{kept_fill, lines_in};
+ghost use Rattle.bp_tiff.specs.Pixels.{value_in, packed_values};
+ghost use Rattle.bp_tiff.specs.Read.{page_of, TiffReads, TiffFault, TiffAnswers};
 
-use crate::fields::{Fields, unit_of_code};
-use crate::form::Form;
-use crate::head::put_head;
-use crate::numbers::{ByteOrder, long, short};
-use crate::places::{
-    HEIGHT_AT, PLAIN_STRIP_AT, PLAIN_UNIT_AT, PLAIN_XRES_AT, PLAIN_YRES_AT, WIDTH_AT,
-};
-use bp_core::{Refusal, Rule, RuleKind};
-use bp_rows::{Page, Res, bytes_of_strip, import_sides};
+use crate::laws::one_answer;
+use crate::layout::{Coding, Layout, read_layout};
+use crate::passes::{invert_bytes, reverse_bytes};
+use crate::strips::put_strips;
+use bp_codes::Fill;
+use bp_core::Refusal;
+use bp_rows::{Page, bytes_of_strip};
 use std::alloc::Global;
 
-// How many bytes stand before the strip of a plain file.
-const HEAD_BYTES: usize = PLAIN_STRIP_AT as usize;
+/// The page of a file of one bilevel page, plain or in Group 4 (TIFF 6.0, sections 2, 3, 8 and 11;
+/// ITU-T T.6), or the first rule that the bytes break: those of `read_layout` in their order, then the
+/// first strip that is too short (TiffStrips) or whose codes break a rule of T.6, with the row,
+/// counted from 0 in the page, and the bit, from 0 in the strip.
+///
+/// Memory is taken for the page alone, once its sides and the places of its strips were tested, and
+/// never for a count that the file names.
+pub fn read_tiff(alloc: Global, bytes: &[u8]) -> Result<Page, Refusal>
+    // What is read is the page of the bytes.
+    ensures found { IfOk result (λ p. TiffReads bytes.now p) }
 
-/// The page whose plain file the bytes are, as `write_tiff` writes it. Bytes that are no plain file
-/// of a page within the limits of an import break the rule FormNotBuilt. The bytes of the strip
-/// become the page's own: it takes memory for the head alone.
-pub fn read_plain(alloc: Global, bytes: Vec<u8>) -> Result<Page, Refusal>
-    // What is read has the bytes as its file.
-    ensures found { IfOk result (λ p. IsPlainFile bytes.items p) }
+    // A rule is the first that they break.
+    ensures refused { IfErr result (IfRule (TiffFault bytes.now)) }
 
-    // A page that has the bytes as its file is read, unless memory runs out.
-    ensures only { (p : Image)
-        → IsPlainFile bytes.items p
-        → MatchResult result (λ q. q ≡ p) (λ e. e ≡ Refusal.OutOfMemory) }
-
-    // Whatever the bytes are, this is the answer.
-    ensures exact { Answers (λ p. p) result (plain_answer bytes.items) }
+    // The answer to the bytes is given, unless memory runs out.
+    ensures exact { (answer : Result Image Rule) → TiffAnswers bytes.now answer
+        → Answers (λ p. p) result answer }
 {
+    one_answer();
     read(alloc, bytes)
 }
 
-fn read(alloc: Global, bytes: Vec<u8>) -> Result<Page, Refusal>
-    ensures found { IfOk result (λ p. IsPlainFile bytes.items p) }
-    ensures exact { Answers (λ p. p) result (plain_answer bytes.items) }
+fn read(alloc: Global, bytes: &[u8]) -> Result<Page, Refusal>
+    ensures found { IfOk result (λ p. TiffReads bytes.now p) }
+    ensures refused { IfErr result (IfRule (TiffFault bytes.now)) }
 {
-    match head_fields(alloc, bytes.as_slice()) {
-        Ok(fields) => page_of(&fields, without_head(bytes)),
-        Err(refusal) => Err(refusal),
-    }
-}
-
-// The fields of a plain file, by its head. Its strip isn't looked at, but for its length.
-fn head_fields(alloc: Global, bytes: &[u8]) -> Result<Fields, Refusal>
-    ensures { FindsHead bytes.now result }
-{
-    if bytes.len() < HEAD_BYTES {
-        return Err(Refusal::Rule(not_built()));
-    }
-    let (head, strip) = bytes.split_at(HEAD_BYTES);
-    let Some(fields) = fields_in(bytes) else {
-        return Err(Refusal::Rule(not_built()));
+    let layout = match read_layout(bytes) {
+        Ok(layout) => layout,
+        Err(rule) => return Err(Refusal::Rule(rule)),
     };
-    if !import_sides(fields.width, fields.height)
-        || strip.len() != bytes_of_strip(fields.width, fields.height)
-    {
-        return Err(Refusal::Rule(not_built()));
+    let mut rows = Vec::with_capacity(alloc, bytes_at_first(bytes, &layout))?;
+    if let Err(refusal) = put_strips(alloc, bytes, &layout, &mut rows) {
+        return Err(refusal);
     }
-    let mut wanted = Vec::with_capacity(alloc, HEAD_BYTES)?;
-    put_head(&mut wanted, Form::Plain, &fields, strip.len() as u32)?;
-    if wanted.as_slice() != head {
-        return Err(Refusal::Rule(not_built()));
+    Ok(page_of_rows(&layout, rows))
+}
+
+// How many bytes memory is taken for at first. A row has a bit of the file at least, though strips may
+// overlap, so a short file that names many rows takes little.
+fn bytes_at_first(bytes: &[u8], layout: &Layout) -> usize {
+    let rows = bytes
+        .len()
+        .saturating_mul(8)
+        .min(layout.sides.height as usize);
+    bytes_of_strip(layout.sides.width, rows as u32)
+}
+
+// The page of packed rows, as they stand in the file or as they were decoded.
+fn page_of_rows(layout: &Layout, mut rows: Vec<u8>) -> Page
+    requires sides { IsTrue (sides_are_allowed layout.now.sides.width layout.now.sides.height) }
+    requires long { length rows.items
+        ≡ layout.now.sides.height * row_bytes layout.now.sides.width }
+    ensures { result
+        ≡ page_of layout.now (lines_in layout.now layout.now.sides.height rows.items) }
+{
+    put_right(&mut rows, layout);
+    Page::of_packed(
+        layout.sides.width,
+        layout.sides.height,
+        layout.scale.xres,
+        layout.scale.yres,
+        layout.scale.unit,
+        rows,
+    )
+}
+
+// Packed rows as a page keeps them.
+fn put_right(rows: &mut [u8], layout: &Layout)
+    requires { length rows.old ≡ layout.now.sides.height * row_bytes layout.now.sides.width }
+    ensures { let l = layout.now in
+        packed_values High l.sides.width l.sides.height rows.new
+        ≡ lines_in l l.sides.height rows.old }
+{
+    put_in_order(rows, &layout.coding);
+    put_ink(rows, &layout.coding);
+}
+
+// The first pixel in the high bit.
+fn put_in_order(rows: &mut [u8], coding: &Coding)
+    ensures { (at : ℕ) → at < 8 * length rows.old
+        → value_in High rows.new at ≡ value_in (kept_fill coding.now) rows.old at }
+{
+    if is_low(coding) {
+        reverse_bytes(rows);
     }
-    Ok(fields)
 }
 
-// What stands behind the head, moved to the front.
-fn without_head(mut file: Vec<u8>) -> Vec<u8>
-    requires { PLAIN_STRIP_AT ≤ length file.items }
-    ensures { result.items ≡ drop PLAIN_STRIP_AT file.items }
+// Whether the rows came with the first pixel in the low bit.
+fn is_low(coding: &Coding) -> bool
+    ensures low { result ≡ true → kept_fill coding.now ≡ Low }
+    ensures high { result ≡ false → kept_fill coding.now ≡ High }
 {
-    let rest = file.len() - HEAD_BYTES;
-    file.copy_within(HEAD_BYTES.., 0);
-    file.truncate(rest);
-    file
-}
-
-// The page of these fields and this strip.
-fn page_of(fields: &Fields, strip: Vec<u8>) -> Result<Page, Refusal>
-    ensures { StripMakes fields.now strip.items result }
-{
-    let Fields {
-        width,
-        height,
-        xres,
-        yres,
-        unit,
-    } = *fields;
-    match Page::from_strip(width, height, xres, yres, unit, strip) {
-        Ok(page) => Ok(page),
-        Err(_) => Err(Refusal::Rule(not_built())),
+    if coding.is_t6 {
+        return false;
+    }
+    match coding.fill {
+        Fill::High => false,
+        Fill::Low => true,
     }
 }
 
-fn not_built() -> Rule
-    ensures { result ≡ form_not_built }
+// Black as 1.
+fn put_ink(rows: &mut [u8], coding: &Coding)
+    ensures { (at : ℕ) → at < 8 * length rows.old
+        → value_in High rows.new at
+        ≡ (if coding.now.zero_is_black
+        then not (value_in High rows.old at)
+        else value_in High rows.old at) }
 {
-    Rule::bare(RuleKind::FormNotBuilt)
-}
-
-// What the bytes say where the fields of a plain file stand.
-fn fields_in(bytes: &[u8]) -> Option<Fields>
-    requires { PLAIN_STRIP_AT ≤ length bytes.now }
-    ensures { result ≡ named_fields bytes.now }
-{
-    let unit = unit_of_code(u32::from(short(bytes, ByteOrder::Little, PLAIN_UNIT_AT as usize)))?;
-    Some(Fields {
-        width: long(bytes, ByteOrder::Little, WIDTH_AT as usize),
-        height: long(bytes, ByteOrder::Little, HEIGHT_AT as usize),
-        xres: read_res(bytes, PLAIN_XRES_AT as usize),
-        yres: read_res(bytes, PLAIN_YRES_AT as usize),
-        unit,
-    })
-}
-
-fn read_res(bytes: &[u8], at: usize) -> Res
-    requires { at + 8 ≤ length bytes.now }
-    ensures { result ≡ res_at bytes.now at }
-{
-    Res {
-        num: long(bytes, ByteOrder::Little, at),
-        den: long(bytes, ByteOrder::Little, at + 4),
+    if coding.zero_is_black {
+        invert_bytes(rows);
     }
 }

@@ -1,6 +1,5 @@
 // Page files against bytes that are written out from TIFF 6.0 and ITU-T T.6.
 use super::*;
-use bp_codes::Fill;
 use bp_core::{Refusal, Rule, RuleKind};
 use bp_rows::{Page, Res, Unit};
 use std::alloc::{AllocError, Global};
@@ -162,7 +161,7 @@ fn check_written(rt: &impl Abort, alloc: Global, case: &Case) -> Result<(), Refu
 
 fn check_read(rt: &impl Abort, alloc: Global, case: &Case) -> Result<(), Refusal> {
     let bytes = file(alloc, case.changes, case.strip)?;
-    let read = read_plain(alloc, bytes)?;
+    let read = read_tiff(alloc, &bytes)?;
     assert!(rt; read.width() == case.width && read.height() == 1);
     assert!(rt; read.xres() == case.xres && read.unit() == case.unit);
     assert!(rt; read.strip() == case.strip);
@@ -193,63 +192,6 @@ fn a_g4_file_is_written(rt: HostRuntime) -> Result<(), Fail> {
     Ok(())
 }
 
-// ---- other bytes
-
-fn is_refused(alloc: Global, bytes: &[u8]) -> Result<bool, AllocError> {
-    Ok(match read_plain(alloc, bytes.to_vec(alloc)?) {
-        Err(Refusal::Rule(rule)) => rule == Rule::bare(RuleKind::FormNotBuilt),
-        _ => false,
-    })
-}
-
-#[test]
-fn a_part_of_a_file_is_refused(rt: HostRuntime) -> Result<(), Fail> {
-    for n in 0..PLAIN.len() {
-        assert!(rt; is_refused(rt.alloc(), &PLAIN[..n])?);
-    }
-    Ok(())
-}
-
-#[test]
-fn a_changed_head_is_refused(rt: HostRuntime) -> Result<(), Fail> {
-    let mut bytes = PLAIN;
-    for at in 0..170usize {
-        let byte = bytes[at];
-        bytes[at] = byte ^ 0x40;
-        assert!(rt; is_refused(rt.alloc(), &bytes)?);
-        bytes[at] = byte;
-    }
-    Ok(())
-}
-
-// 8 by 20,001 pixels
-const TALL: [(usize, u8); 6] = [
-    (30, 0x21),
-    (31, 0x4E),
-    (114, 0x21),
-    (115, 0x4E),
-    (126, 0x21),
-    (127, 0x4E),
-];
-
-const OTHERS: [(&[(usize, u8)], &[u8]); 4] = [
-    (&[], &[0xFF, 0]),
-    (&[(18, 7)], &[0xFF]),
-    (&[(18, 0)], &[]),
-    (&TALL, &[0; 20_001]),
-];
-
-#[test]
-fn other_sides_and_strips_are_refused(rt: HostRuntime) -> Result<(), Fail> {
-    for (changes, strip) in &OTHERS {
-        let bytes = file(rt.alloc(), changes, strip)?;
-        assert!(rt; is_refused(rt.alloc(), &bytes)?);
-    }
-    assert!(rt; is_refused(rt.alloc(), b"x")?);
-    assert!(rt; is_refused(rt.alloc(), &G4)?);
-    Ok(())
-}
-
 // ---- files of strangers
 
 // A black page of 8 by 3: the highest byte first, the first bit low, 0 is black, three strips, no
@@ -270,49 +212,123 @@ const STRANGE: [u8; 140] = [
     0x01, 0x10, 0x00, 0x01, 0x01, 0x10, 0x00, 0x01, 0x01, 0x10, 0x00, 0x01, // three strips
 ];
 
-fn is_strange(layout: &Layout) -> bool {
-    let Layout {
-        sides,
-        coding,
-        strips,
-        scale,
-        ..
-    } = layout;
-    sides.width == 8
-        && sides.height == 3
-        && coding.is_t6
-        && coding.zero_is_black
-        && coding.fill == Fill::Low
-        && strips.rows == 1
-        && strips.count == 3
-        && scale.xres == TWO_HUNDRED
-        && scale.yres == TWO_HUNDRED
-        && scale.unit == Unit::Inch
-}
-
-#[test]
-fn a_strangers_directory_is_read(rt: HostRuntime) {
-    match read_layout(&STRANGE) {
-        Ok(layout) => assert!(rt; is_strange(&layout)),
-        Err(_) => assert!(rt; false),
+// The rule that the bytes break.
+fn broken(alloc: Global, bytes: &[u8]) -> Option<Rule> {
+    match read_tiff(alloc, bytes) {
+        Err(Refusal::Rule(rule)) => Some(rule),
+        _ => None,
     }
 }
 
-// The rule that the bytes break, with its values.
-fn breaks(bytes: &[u8], kind: RuleKind, a: u64, b: u64) -> bool {
-    let rule = Rule {
+fn rule(kind: RuleKind, a: u64, b: u64) -> Rule {
+    Rule {
         a,
         b,
         ..Rule::bare(kind)
-    };
-    match read_layout(bytes) {
-        Ok(_) => false,
-        Err(broken) => broken == rule,
     }
 }
 
+#[test]
+fn a_g4_file_is_read(rt: HostRuntime) -> Result<(), Fail> {
+    let page = read_tiff(rt.alloc(), &G4)?;
+    assert!(rt; page.width() == 8 && page.height() == 1);
+    assert!(rt; page.xres() == TWO_HUNDRED && page.unit() == Unit::Inch);
+    assert!(rt; page.strip() == [0xFF].as_slice());
+    Ok(())
+}
+
+#[test]
+fn a_strangers_file_is_read(rt: HostRuntime) -> Result<(), Fail> {
+    let page = read_tiff(rt.alloc(), &STRANGE)?;
+    assert!(rt; page.width() == 8 && page.height() == 3);
+    assert!(rt; page.xres() == TWO_HUNDRED && page.yres() == TWO_HUNDRED);
+    assert!(rt; page.unit() == Unit::Inch);
+    assert!(rt; page.strip() == [0xFF, 0xFF, 0xFF].as_slice());
+    Ok(())
+}
+
+// Packed rows in other forms: the changes of the worked plain file, its strip, and the page's.
+const FORMS: [(&[(usize, u8)], &[u8], &[u8]); 5] = [
+    // the bits past the width and the bytes past the rows are unread
+    (&[(18, 3), (126, 2)], &[0xBF, 0xFF], &[0xA0]),
+    // the first pixel in the low bit
+    (&[(18, 7), (78, 2)], &[0x8B], &[0xD0]),
+    // 0 is black
+    (&[(18, 7), (66, 1)], &[0x2F], &[0xD0]),
+    // both
+    (&[(66, 1), (78, 2)], &[0xF4], &[0xD0]),
+    // two strips of one row, the second before the first
+    (
+        &[
+            (30, 2),
+            (84, 3),
+            (86, 2),
+            (90, 187),
+            (92, 186),
+            (120, 3),
+            (122, 2),
+            (126, 1),
+            (128, 1),
+        ],
+        &[0x55, 0xAA],
+        &[0xAA, 0x55],
+    ),
+];
+
+#[test]
+fn packed_rows_of_every_form_are_read(rt: HostRuntime) -> Result<(), Fail> {
+    for (changes, strip, rows) in &FORMS {
+        let bytes = file(rt.alloc(), changes, strip)?;
+        let page = read_tiff(rt.alloc(), &bytes)?;
+        assert!(rt; page.strip() == *rows);
+    }
+    Ok(())
+}
+
+// ---- damaged files
+
+// The rule of each proper prefix: of so many bytes in turn, the rule with this tag.
+const G4_PREFIXES: [(usize, RuleKind, u64); 5] = [
+    (8, RuleKind::TiffHead, 0),
+    (174, RuleKind::TiffBounds, 0),
+    (8, RuleKind::TiffBounds, 282),
+    (8, RuleKind::TiffBounds, 283),
+    (6, RuleKind::TiffBounds, 273),
+];
+
+const STRANGE_PREFIXES: [(usize, RuleKind, u64); 5] = [
+    (8, RuleKind::TiffHead, 0),
+    (102, RuleKind::TiffBounds, 0),
+    (12, RuleKind::TiffBounds, 273),
+    (6, RuleKind::TiffBounds, 279),
+    (12, RuleKind::TiffBounds, 273),
+];
+
+fn check_prefixes(
+    rt: &impl Abort,
+    alloc: Global,
+    bytes: &[u8],
+    prefixes: &[(usize, RuleKind, u64)],
+) {
+    let mut n = 0;
+    for (count, kind, tag) in prefixes {
+        for _ in 0..*count {
+            assert!(rt; n < bytes.len());
+            assert!(rt; broken(alloc, &bytes[..n]) == Some(rule(*kind, *tag, 0)));
+            n += 1;
+        }
+    }
+    assert!(rt; n == bytes.len());
+}
+
+#[test]
+fn every_part_of_a_file_is_refused(rt: HostRuntime) {
+    check_prefixes(&rt, rt.alloc(), &G4, &G4_PREFIXES);
+    check_prefixes(&rt, rt.alloc(), &STRANGE, &STRANGE_PREFIXES);
+}
+
 // Other bytes in the G4 file, the rule that it then breaks, and the rule's values.
-const DAMAGES: [(&[(usize, u8)], RuleKind, u64, u64); 11] = [
+const DAMAGES: [(&[(usize, u8)], RuleKind, u64, u64); 13] = [
     (&[(0, 0)], RuleKind::TiffHead, 0, 0),
     (&[(178, 1)], RuleKind::TiffManyPages, 0, 0),
     (&[(18, 0)], RuleKind::PageLimit, 0, 1),
@@ -324,16 +340,32 @@ const DAMAGES: [(&[(usize, u8)], RuleKind, u64, u64); 11] = [
     (&[(126, 7)], RuleKind::TiffBounds, 273, 0),
     (&[(54, 5), (55, 0x80)], RuleKind::TiffCompression, 32_773, 0),
     (&[(10, 0xFF), (11, 0)], RuleKind::TiffMissing, 256, 0),
+    // its codes: the strip ends in the first row; the run of 8 is longer than the row
+    (&[(126, 1)], RuleKind::T6ShortData, 0, 3),
+    (&[(18, 7)], RuleKind::T6BadPlace, 0, 11),
 ];
 
 #[test]
-fn a_damaged_directory_is_refused(rt: HostRuntime) -> Result<(), Fail> {
+fn a_damaged_file_is_refused(rt: HostRuntime) -> Result<(), Fail> {
     for (changes, kind, a, b) in &DAMAGES {
         let bytes = changed(rt.alloc(), &G4, changes)?;
-        assert!(rt; breaks(bytes.as_slice(), *kind, *a, *b));
+        assert!(rt; broken(rt.alloc(), &bytes) == Some(rule(*kind, *a, *b)));
     }
+    Ok(())
+}
+
+#[test]
+fn a_damaged_file_of_a_stranger_is_refused(rt: HostRuntime) -> Result<(), Fail> {
     let other = changed(rt.alloc(), &STRANGE, &[(43, 5)])?;
-    assert!(rt; breaks(other.as_slice(), RuleKind::TiffCompression, 5, 0));
-    assert!(rt; breaks(&STRANGE[..40], RuleKind::TiffBounds, 0, 0));
+    let compression = rule(RuleKind::TiffCompression, 5, 0);
+    assert!(rt; broken(rt.alloc(), &other) == Some(compression));
+    let bounds = rule(RuleKind::TiffBounds, 0, 0);
+    assert!(rt; broken(rt.alloc(), &STRANGE[..40]) == Some(bounds));
+    // no code begins with sixteen zeros: the row is counted in the page, the bit in the strip
+    let third = changed(rt.alloc(), &STRANGE, &[(136, 0), (137, 0), (138, 0)])?;
+    assert!(rt; broken(rt.alloc(), &third) == Some(rule(RuleKind::T6BadCode, 2, 0)));
+    // a plain strip of three bytes, where two rows of nine pixels need four
+    let short = file(rt.alloc(), &[(18, 9), (30, 2), (126, 3)], &[0, 0, 0])?;
+    assert!(rt; broken(rt.alloc(), &short) == Some(Rule::bare(RuleKind::TiffStrips)));
     Ok(())
 }

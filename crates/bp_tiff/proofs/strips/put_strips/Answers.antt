@@ -1,0 +1,34 @@
+use Rattle.std.proofs.Common.{◌*◌, ◌<◌, arith, subst, ap, ◌∙◌, ℕ}
+use Rattle.bp_core.specs.declared.rules.Rule.{Rule}
+use Rattle.bp_core.specs.declared.refusals.Refusal.{Refusal}
+use Rattle.bp_core.specs.declared.refusals.Refusal.TheVariants as refusals
+use Rattle.bp_rows.specs.Bits.{row_bytes}
+use Rattle.bp_t6.specs.Strips.{IfRule}
+use Rattle.bp_tiff.specs.Layout.{strips_due}
+use Rattle.bp_tiff.proofs.InTurnLemmas.{before_end, read_more, breaks_here, rows_all, all_held}
+use Rattle.bp_tiff.proofs.strips.put_strips.Goals as goal
+
+refused_too : (P Q : Rule → Type 0) (e : Refusal) → ((rule : Rule) → P rule → Q rule) → IfRule P e → IfRule Q e
+refused_too P Q (refusals.Rule rule) f p = f rule p
+refused_too P Q refusals.OutOfMemory f p = tt
+
+pub returns-in-Err-clause-refused : goal.returns-in-Err-clause-refused
+returns-in-Err-clause-refused c =
+    refused_too _ _ c.in-Err.refusal (λ rule broken. breaks_here c.args.bytes.now c.args.layout.now c.loop-k.k c.loop-k.out.items rule (omega arith) c.loop-k.invariant broken)
+    c.in-Err.ensures.refused
+
+pub loop-k-preserved : goal.loop-k-preserved
+loop-k-preserved c =
+    let l = c.args.layout.now in
+    let due : c.loop-k.k < strips_due l.sides.height l.strips.rows = subst (λ (q : ℕ). c.loop-k.k < q) c.requires.laid.count (omega arith) in
+    read_more c.args.bytes.now l c.loop-k.k c.loop-k.out.items c.put_strip.new.out.items
+    (before_end l.sides.height l.strips.rows c.loop-k.k c.requires.laid.rows due) (omega arith) c.loop-k.invariant c.in_default.ensures.found
+
+pub returns-clause-long : goal.returns-clause-long
+returns-clause-long c =
+    let l = c.args.layout.now in
+    c.loop-k.invariant.long ∙ ap (λ q. q * row_bytes l.sides.width) (rows_all c.args.bytes.now l c.loop-k.k c.requires.laid (omega arith))
+
+pub returns-clause-found : goal.returns-clause-found
+returns-clause-found c =
+    all_held c.args.bytes.now c.args.layout.now c.loop-k.k c.loop-k.out.items c.requires.laid (omega arith) c.loop-k.invariant

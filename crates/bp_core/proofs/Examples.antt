@@ -1,10 +1,12 @@
 -- Worked examples of the definitions in specs/, each run by the check.
-use Rattle.std.proofs.Common.{◌≡◌, true, false, refl}
+use Rattle.std.proofs.Common.{◌≡◌, true, false, Some, None, [], ◌∷◌, ◌++◌, refl}
 use Rattle.std.specs.Prelude.{codes}
 use Rattle.std.specs.Fmt.{digits}
 use Rattle.bp_core.specs.declared.rectangle.Rect.{Rect}
 use Rattle.bp_core.specs.declared.rules.RuleKind.TheVariants as kinds
 use Rattle.bp_core.specs.declared.review.Basis.TheVariants.{Ts}
+use Rattle.bp_core.specs.Characters.{full_stop, reverse_solidus}
+use Rattle.bp_core.specs.Paths.{path_in}
 use Rattle.bp_core.specs.Rectangle.{has_pixel, lies_inside, touches}
 use Rattle.bp_core.specs.Review.{basis_code}
 use Rattle.bp_core.specs.Rules.{rule_text, bare_rule, rule_at_line, page_limit_rule, bates_full_rule}
@@ -89,3 +91,38 @@ sides_printed = refl
 largest_printed : rule_text (bates_full_rule 9999) ≡ codes "31 BatesFull 0 9999 0"
 unfolding digits
 largest_printed = refl
+
+-- a path keeps its parts but `.`, with a solidus between
+path_kept : path_in (codes "a/./b") ≡ Some (codes "a/b")
+path_kept = refl
+
+path_turned : path_in (full_stop ∷ reverse_solidus ∷ codes "a" ++ reverse_solidus ∷ codes "b.tif") ≡ Some (codes "a/b.tif")
+path_turned = refl
+
+path_ended : path_in (codes "a/.") ≡ Some (codes "a")
+path_ended = refl
+
+dots_in_names : path_in (codes "a.b/.../a..b") ≡ Some (codes "a.b/.../a..b")
+dots_in_names = refl
+
+-- and names none where a part is empty or leads out, where it has a colon, and where no part is left
+at_the_front : path_in (codes "/a") ≡ None
+at_the_front = refl
+
+at_the_end : path_in (codes "a/") ≡ None
+at_the_end = refl
+
+two_slashes : path_in (codes "a//b") ≡ None
+two_slashes = refl
+
+leads_out : path_in (codes "a/../b") ≡ None
+leads_out = refl
+
+with_colon : path_in (codes "C:" ++ reverse_solidus ∷ codes "a") ≡ None
+with_colon = refl
+
+dots_alone : path_in (codes "./.") ≡ None
+dots_alone = refl
+
+no_text : path_in [] ≡ None
+no_text = refl

@@ -1,4 +1,5 @@
 pub mod InTurnLemmas
+mod PathLemmas
 pub mod RectangleLemmas
 mod TextLemmas
 mod Examples

@@ -19,17 +19,29 @@ comma = 44
 abbrev pub hyphen : ℕ
 hyphen = 45
 
+abbrev pub full_stop : ℕ
+full_stop = 46
+
+abbrev pub solidus : ℕ
+solidus = 47
+
 abbrev pub digit_zero : ℕ
 digit_zero = 48
 
 abbrev pub digit_nine : ℕ
 digit_nine = 57
 
+abbrev pub colon : ℕ
+colon = 58
+
 abbrev pub letter_a : ℕ
 letter_a = 65
 
 abbrev pub letter_z : ℕ
 letter_z = 90
+
+abbrev pub reverse_solidus : ℕ
+reverse_solidus = 92
 
 abbrev pub low_line : ℕ
 low_line = 95

@@ -37,7 +37,7 @@ pub enum RuleKind {
     NoField,
     /// A text is over its limit, or has a character that it may not have.
     TextRefused,
-    /// The range has no document of the matter.
+    /// The range begins at document 0, begins behind its end, or ends behind the last document of the matter.
     RangeEmpty,
     /// A family reaches outside the range; `a` is its least document in the range.
     SplitFamily,
@@ -97,7 +97,7 @@ pub enum RuleKind {
     DocBreaks,
     /// A side of a page is 0 or the page is too large: `a` is its width, `b` its height, in pixels.
     PageLimit,
-    /// A path leads out of its folder, or is not of its form.
+    /// A path is empty, begins with `/`, holds `:`, or has an empty or `..` part, once each `\` is a `/` and each part `.` is gone.
     PathRefused,
     /// The T.6 data ends within row `a`; `b` is the bit.
     T6ShortData,
@@ -107,7 +107,7 @@ pub enum RuleKind {
     T6Extension,
     /// The T.6 data has no code where one is due, in row `a`; `b` is the bit.
     T6BadCode,
-    /// A T.6 code leads back or past the edge, in row `a`; `b` is the bit.
+    /// A T.6 code leads back, past the edge, or nowhere, in row `a`; `b` is the bit.
     T6BadPlace,
     /// The file has no TIFF header.
     TiffHead,

@@ -29,3 +29,20 @@ fn a_rule_with_the_greatest_values_is_printed(rt: HostRuntime) -> Result<(), Fai
     );
     Ok(())
 }
+
+#[test]
+fn paths_are_made_of_their_parts(rt: HostRuntime) -> Result<(), Fail> {
+    let paths = [
+        ("a/./b", "a/b"),
+        (".\\a\\b.tif", "a/b.tif"),
+        ("þ\\.../a..b", "þ/.../a..b"),
+    ];
+    for (text, path) in paths {
+        assert_eq!(rt; path_of(rt.alloc(), text)?.as_str(), path);
+    }
+    for text in ["", ".", "/a", "a/", "a//b", "..\\a", "C:\\a"] {
+        let refused = Refusal::Rule(Rule::bare(RuleKind::PathRefused));
+        assert!(rt; path_of(rt.alloc(), text).is_err_and(|refusal| refusal == refused));
+    }
+    Ok(())
+}

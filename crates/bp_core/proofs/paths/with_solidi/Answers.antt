@@ -1,0 +1,9 @@
+use Rattle.std.proofs.Common.{rules, tests}
+use Rattle.std.proofs.lemmas.Iterator.{YieldsList-from_chars, YieldsList-from_map, text_from_collect}
+use Rattle.bp_core.specs.Paths.{with_solidus}
+use Rattle.bp_core.proofs.paths.with_solidi.Goals as goal
+
+pub returns : goal.returns
+returns c =
+    text_from_collect _ c.collect.ensures.ran
+    (YieldsList-from_map _ with_solidus (YieldsList-from_chars c.args.text.now c.utf8.text cc) c.map.ensures.closure (λ x r q k. search (rules, tests)))

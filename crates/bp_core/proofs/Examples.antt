@@ -1,5 +1,5 @@
 -- Worked examples of the definitions in specs/, each run by the check.
-use Rattle.std.proofs.Common.{◌≡◌, true, false, Some, None, [], ◌∷◌, ◌++◌, refl}
+use Rattle.std.proofs.Common.{◌≡◌, ℕ, true, false, List, Some, None, [], ◌∷◌, ◌++◌, refl}
 use Rattle.std.specs.Prelude.{codes}
 use Rattle.std.specs.Fmt.{digits}
 use Rattle.bp_core.specs.declared.rectangle.Rect.{Rect}
@@ -9,6 +9,7 @@ use Rattle.bp_core.specs.Characters.{full_stop, reverse_solidus}
 use Rattle.bp_core.specs.Paths.{path_in}
 use Rattle.bp_core.specs.Rectangle.{has_pixel, lies_inside, touches}
 use Rattle.bp_core.specs.Review.{basis_code}
+use Rattle.bp_core.specs.Sorted.{two_keys, row_key, ascends, find_key, put, without}
 use Rattle.bp_core.specs.Rules.{rule_text, bare_rule, rule_at_line, page_limit_rule, bates_full_rule}
 
 -- columns 10 to 29 of rows 2 to 11
@@ -126,3 +127,44 @@ dots_alone = refl
 
 no_text : path_in [] ≡ None
 no_text = refl
+
+-- lists in order of key: of numbers that are their own keys
+abbrev itself : ℕ → ℕ
+itself n = n
+
+abbrev three : List ℕ
+three = 3 ∷ 5 ∷ 8 ∷ []
+
+rising : ascends itself 3 three ≡ true
+rising = refl
+
+a_key_twice : ascends itself 0 (3 ∷ 3 ∷ []) ≡ false
+a_key_twice = refl
+
+below_the_start : ascends itself 4 three ≡ false
+below_the_start = refl
+
+found : find_key itself 5 three ≡ Some 5
+found = refl
+
+not_there : find_key itself 4 three ≡ None
+not_there = refl
+
+put_between : put itself 4 three ≡ 3 ∷ 4 ∷ 5 ∷ 8 ∷ []
+put_between = refl
+
+put_at_the_end : put itself 9 three ≡ 3 ∷ 5 ∷ 8 ∷ 9 ∷ []
+put_at_the_end = refl
+
+put_over : put itself 5 three ≡ three
+put_over = refl
+
+taken_away : without itself 5 three ≡ 3 ∷ 8 ∷ []
+taken_away = refl
+
+-- document 1, page 2, and its row of kind 4
+page_two : two_keys 1 2 ≡ 4294967298
+page_two = refl
+
+page_two_kept : row_key (record { kind = 4; k1 = 1; k2 = 2; body = [] }) ≡ 73786976299133173762
+page_two_kept = refl

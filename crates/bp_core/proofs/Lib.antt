@@ -1,5 +1,6 @@
 pub mod InTurnLemmas
 mod PathLemmas
 pub mod RectangleLemmas
+pub mod SortedLemmas
 mod TextLemmas
 mod Examples

@@ -5,3 +5,4 @@ pub mod Paths
 pub mod Rectangle
 pub mod Review
 pub mod Rules
+pub mod Sorted

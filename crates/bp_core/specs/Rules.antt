@@ -76,7 +76,6 @@ rule_entry kinds.TiffCompression = entry 84 (codes "TiffCompression")
 rule_entry kinds.TiffMeaning = entry 85 (codes "TiffMeaning")
 rule_entry kinds.TiffManyPages = entry 86 (codes "TiffManyPages")
 rule_entry kinds.TiffStrips = entry 87 (codes "TiffStrips")
-rule_entry kinds.FormNotBuilt = entry 88 (codes "FormNotBuilt")
 rule_entry kinds.KeptRowBad = entry 90 (codes "KeptRowBad")
 
 abbrev pub rule_number : RuleKind → ℕ

@@ -125,8 +125,6 @@ pub enum RuleKind {
     TiffManyPages,
     /// The strips of the TIFF file are too few, too many or too short.
     TiffStrips,
-    /// The file is not a plain page file as this product writes it.
-    FormNotBuilt,
     /// A kept row is not of its form: `a` is its kind, `b` is k1 times 2^32 plus k2.
     KeptRowBad,
 }
@@ -283,7 +281,6 @@ fn number_and_name(kind: RuleKind) -> (u16, &'static str)
         RuleKind::TiffMeaning => (85, "TiffMeaning"),
         RuleKind::TiffManyPages => (86, "TiffManyPages"),
         RuleKind::TiffStrips => (87, "TiffStrips"),
-        RuleKind::FormNotBuilt => (88, "FormNotBuilt"),
         RuleKind::KeptRowBad => (90, "KeptRowBad"),
     }
 }

@@ -1,5 +1,6 @@
 // Each public call that takes memory, once with enough of it.
 use super::*;
+use std::alloc::Global;
 use std::test::Fail;
 
 #[test]
@@ -44,5 +45,32 @@ fn paths_are_made_of_their_parts(rt: HostRuntime) -> Result<(), Fail> {
         let refused = Refusal::Rule(Rule::bare(RuleKind::PathRefused));
         assert!(rt; path_of(rt.alloc(), text).is_err_and(|refusal| refusal == refused));
     }
+    Ok(())
+}
+
+fn row(alloc: Global, kind: u8, k1: u32, k2: u32) -> Result<Row, OutOfMemory> {
+    let body = Bytes::from_vec(vec![in alloc; kind]?);
+    Ok(Row { kind, k1, k2, body })
+}
+
+// Rows of the kinds 3 and 4. A kind is worth 2^64, and the first number of a key 2^32.
+#[test]
+fn rows_stand_in_order_of_key(rt: HostRuntime) -> Result<(), Fail> {
+    let alloc = rt.alloc();
+    let mut rows = Vec::new(alloc);
+    assert!(rt; put_row(&mut rows, row(alloc, 4, 2, 1)?).is_ok());
+    assert!(rt; put_row(&mut rows, row(alloc, 4, 1, 9)?).is_ok());
+    assert!(rt; put_row(&mut rows, row(alloc, 3, 7, 0)?).is_ok());
+    let kinds: [u8; 2] = [3, 4];
+    let kept = rows_between(
+        &rows,
+        73_786_976_294_838_206_464,
+        73_786_976_303_428_141_056,
+    );
+    assert_eq!(rt; kept.len(), 1);
+    let found = find_row(&rows, 73_786_976_299_133_173_769);
+    assert_eq!(rt; found.map(|row| row.k2), Some(9));
+    remove_row(&mut rows, 73_786_976_299_133_173_769);
+    assert!(rt; rows.iter().map(|row| row.kind).eq(kinds));
     Ok(())
 }

@@ -1,50 +1,106 @@
--- Lemmas of two matters: where they differ only in what a command withholds, they have one outcome.
-use Rattle.std.proofs.Common.{ℕ, ◌≡◌, ◌≤◌, List, [], ◌∷◌, length, Some, Result, Ok, Err, sym, ap, ◌∙◌, arith, cond}
+-- Lemmas of outcomes: a command comes to one over a matter, and to the same over two that differ only in what it withholds.
+use Rattle.std.proofs.Common.{ℕ, ◌≡◌, ◌≤◌, Bool, true, false, cond, nat_lt, List, [], ◌∷◌, not, length, Option, Some, None, Result, Ok, Err, refl, sym, ap, subst, ◌∙◌, arith}
+use Rattle.std.specs.FinMap as map
+use Rattle.std.proofs.lemmas.Bool.{le-ltb}
+use Rattle.bp_core.specs.declared.rectangle.Rect.{Rect}
 use Rattle.bp_core.specs.declared.rules.Rule.{Rule}
 use Rattle.bp_core.specs.declared.rules.RuleKind.TheVariants as kinds
+use Rattle.bp_core.specs.Paths.{path_in}
 use Rattle.bp_core.specs.Rectangle.{lies_inside}
-use Rattle.bp_core.specs.Rules.{bare_rule}
+use Rattle.bp_core.specs.Rules.{bare_rule, page_limit_rule}
 use Rattle.bp_outside.specs.Source.{FileMap}
 use Rattle.bp_rows.specs.Image.{Image}
 use Rattle.bp_rows.specs.Burned.{burned, AgreeOutside}
+use Rattle.bp_rows.specs.Limits.{sides_are_imported}
 use Rattle.bp_rows.proofs.BurnedLemmas.{burned-AgreeOutside}
-use Rattle.bp_tiff.specs.Tiff.{tiff_of}
-use Rattle.bp_tiff.specs.Plain.{IsPlainFile}
-use Rattle.bp_tiff.proofs.PlainFileLemmas.{length-plain_file, plain_answer-file}
+use Rattle.bp_tiff.specs.Read.{TiffReads, TiffAnswers}
+use Rattle.bp_tiff.proofs.OneAnswerLemmas.{OneAnswer}
 use Rattle.bp_cli.specs.declared.burn.TheConstants.{FILE_LIMIT}
-use Rattle.bp_cli.specs.Burn.{BurnLine, HasPage, BurnAlike, lacks_a_side, burn_page, burn_read, burn_answer, burn_gives, burn_outcome}
-use Rattle.bp_cli.specs.Commands.{CommandLine, Matter, burn, AlikeFor, outcome_of}
-use Rattle.bp_cli.proofs.BurnLemmas.{answer_short}
+use Rattle.bp_cli.specs.Endings.{Outcome, refused}
+use Rattle.bp_cli.specs.Words.{◌>>=◌}
+use Rattle.bp_cli.specs.Burn.{BurnLine, BurnPaths, HasPage, BurnAlike, lacks_a_side, burn_page, burn_read, burn_gives, paths_of, path_refused, FileAnswers, PathAnswers, BurnsAt, BurnComes}
+use Rattle.bp_cli.specs.Commands.{CommandLine, Matter, burn, AlikeFor, ComesTo}
 
--- a plain file of a page isn't too long to be read
-short_enough : (bytes : List ℕ) (p : Image) → IsPlainFile bytes p → length bytes ≤ FILE_LIMIT
-short_enough bytes p plain = omega (arith, length-plain_file bytes p plain)
+-- ---- one outcome
 
-plain_read : (b : BurnLine) (bytes : List ℕ) (p : Image) → IsPlainFile bytes p → burn_answer b (Some bytes) ≡ burn_page b p
-plain_read b bytes p plain = answer_short b bytes (short_enough bytes p plain) ∙ ap (burn_read b) (plain_answer-file bytes p plain)
+file_one : OneAnswer → (long : Bool) (bytes : List ℕ) (a b : Result Image Rule)
+    → elim long [ | true ↦ a ≡ Err (bare_rule kinds.FileTooLong) | false ↦ TiffAnswers bytes a ]
+    → elim long [ | true ↦ b ≡ Err (bare_rule kinds.FileTooLong) | false ↦ TiffAnswers bytes b ]
+    → a ≡ b
+file_one one true bytes a b x y = x ∙ sym y
+file_one one false bytes a b x y = one bytes a b x y
+
+path_one : OneAnswer → (found : Option (List ℕ)) (a b : Result Image Rule) → PathAnswers found a → PathAnswers found b → a ≡ b
+path_one one None a b x y = x ∙ sym y
+path_one one (Some bytes) a b x y = file_one one (nat_lt FILE_LIMIT (length bytes)) bytes a b x y
+
+burns_one : OneAnswer → (b : BurnLine) (paths : BurnPaths) (files : FileMap) (o o' : Outcome) → BurnsAt b paths files o → BurnsAt b paths files o' → o ≡ o'
+burns_one one b paths files o o' x y =
+    sym x.gives ∙ ap (λ (a : Result Image Rule). burn_gives b.form paths.to (burn_read b.area a)) (path_one one (map.get files paths.from) x.answer y.answer x.found y.found) ∙ y.gives
+
+comes_one : OneAnswer → (b : BurnLine) (paths : Option BurnPaths) (files : FileMap) (o o' : Outcome)
+    → elim paths [ | None ↦ o ≡ refused path_refused | Some ps ↦ BurnsAt b ps files o ]
+    → elim paths [ | None ↦ o' ≡ refused path_refused | Some ps ↦ BurnsAt b ps files o' ]
+    → o ≡ o'
+comes_one one b None files o o' x y = x ∙ sym y
+comes_one one b (Some paths) files o o' x y = burns_one one b paths files o o' x y
+
+pub one_outcome : OneAnswer → (c : CommandLine) (matter : Matter) (o o' : Outcome) → ComesTo c matter o → ComesTo c matter o' → o ≡ o'
+one_outcome one (burn b) matter o o' x y = comes_one one b (paths_of b) matter.files o o' x y
+
+-- ---- two matters
 
 -- what the sides of a page and its burned page give
-burn_by : BurnLine → ℕ → ℕ → Image → Result (List ℕ) Rule
-burn_by b width height p =
-    cond (lacks_a_side b.area) (Err (bare_rule kinds.BoxShape))
-    (cond (lies_inside b.area width height) (Ok (tiff_of b.form p)) (Err (bare_rule kinds.BoxOutside)))
+burn_by : Rect → ℕ → ℕ → Image → Result Image Rule
+burn_by area width height p =
+    cond (not (sides_are_imported width height)) (Err (page_limit_rule width height))
+    (cond (lacks_a_side area) (Err (bare_rule kinds.BoxShape))
+    (cond (lies_inside area width height) (Ok p) (Err (bare_rule kinds.BoxOutside))))
 
-pages_alike : (b : BurnLine) (p q : Image) → AgreeOutside (b.area ∷ []) p q → burn_page b p ≡ burn_page b q
+pages_alike : (area : Rect) (p q : Image) → AgreeOutside (area ∷ []) p q → burn_page area p ≡ burn_page area q
 unfolding burn_by
-pages_alike b p q agree =
-    ap (λ w. burn_by b w p.height (burned p (b.area ∷ []))) agree.width
-    ∙ ap (λ h. burn_by b q.width h (burned p (b.area ∷ []))) agree.height
-    ∙ ap (burn_by b q.width q.height) (burned-AgreeOutside (b.area ∷ []) p q agree)
+pages_alike area p q agree =
+    ap (λ w. burn_by area w p.height (burned p (area ∷ []))) agree.width
+    ∙ ap (λ h. burn_by area q.width h (burned p (area ∷ []))) agree.height
+    ∙ ap (burn_by area q.width q.height) (burned-AgreeOutside (area ∷ []) p q agree)
 
-page_outcome : (b : BurnLine) (files : FileMap) (p : Image) → HasPage files b.from p → burn_outcome b files ≡ burn_gives b (burn_page b p)
-page_outcome b files p has =
-    ap (λ f. burn_gives b (burn_answer b f)) has.there ∙ ap (burn_gives b) (plain_read b has.bytes p has.plain)
+-- a file that is short enough answers with its page
+page_found : (bytes : List ℕ) (p : Image) → length bytes ≤ FILE_LIMIT → TiffReads bytes p → FileAnswers bytes (Ok p)
+page_found bytes p short reads =
+    let P : Bool → Type 0 = λ long. elim long [ | true ↦ Ok p ≡ Err (bare_rule kinds.FileTooLong) | false ↦ TiffAnswers bytes (Ok p) ] in
+    subst P (sym (le-ltb FILE_LIMIT (length bytes) short)) reads
 
-burn_alike : (b : BurnLine) (files files' : FileMap) → BurnAlike b files files' → burn_outcome b files' ≡ burn_outcome b files
-burn_alike b files files' alike =
-    page_outcome b files' alike.page' alike.has'
-    ∙ ap (burn_gives b) (sym (pages_alike b alike.page alike.page' alike.agree))
-    ∙ sym (page_outcome b files alike.page alike.has)
+path_found : (files : FileMap) (from : List ℕ) (text : List ℕ) (p : Image) → path_in text ≡ Some from → HasPage files text p → PathAnswers (map.get files from) (Ok p)
+path_found files from text p named has =
+    let same : Some has.path ≡ Some from = sym has.named ∙ named in
+    let path : has.path ≡ from = cc in
+    let there : map.get files from ≡ Some has.bytes = ap (map.get files) (sym path) ∙ has.there in
+    subst (λ (found : Option (List ℕ)). PathAnswers found (Ok p)) (sym there) (page_found has.bytes p has.short has.reads)
 
-pub outcome_alike : (c : CommandLine) (matter matter' : Matter) → AlikeFor c matter matter' → outcome_of c matter' ≡ outcome_of c matter
-outcome_alike (burn b) matter matter' alike = burn_alike b matter.files matter'.files alike
+burns_alike : OneAnswer → (b : BurnLine) (paths : BurnPaths) (files files' : FileMap) (o : Outcome) → path_in b.from ≡ Some paths.from → BurnAlike b files files' → BurnsAt b paths files' o → BurnsAt b paths files o
+burns_alike one b paths files files' o named alike at =
+    let there = path_found files' paths.from b.from alike.page' named alike.has' in
+    let answer : at.answer ≡ Ok alike.page' = path_one one (map.get files' paths.from) at.answer (Ok alike.page') at.found there in
+    record {
+      answer = Ok alike.page;
+      found = path_found files paths.from b.from alike.page named alike.has;
+      gives = ap (burn_gives b.form paths.to) (pages_alike b.area alike.page alike.page' alike.agree)
+          ∙ ap (λ (a : Result Image Rule). burn_gives b.form paths.to (burn_read b.area a)) (sym answer)
+          ∙ at.gives;
+    }
+
+abbrev paths_with : Option (List ℕ) → Option (List ℕ) → Option BurnPaths
+paths_with from to = from >>= λ f. to >>= λ t. Some (record { from = f; to = t })
+
+abbrev ComesWith : BurnLine → Option BurnPaths → FileMap → Outcome → Type 0
+ComesWith b paths files o = elim paths [ | None ↦ o ≡ refused path_refused | Some ps ↦ BurnsAt b ps files o ]
+
+comes_alike : OneAnswer → (b : BurnLine) (from to : Option (List ℕ)) (files files' : FileMap) (o : Outcome) → path_in b.from ≡ from → BurnAlike b files files' → ComesWith b (paths_with from to) files' o → ComesWith b (paths_with from to) files o
+comes_alike one b None to files files' o named alike comes = comes
+comes_alike one b (Some f) None files files' o named alike comes = comes
+comes_alike one b (Some f) (Some t) files files' o named alike comes =
+    burns_alike one b (record { from = f; to = t }) files files' o named alike comes
+
+pub outcome_alike : OneAnswer → (c : CommandLine) (matter matter' : Matter) (outcome : Outcome) → AlikeFor c matter matter' → ComesTo c matter' outcome → ComesTo c matter outcome
+outcome_alike one (burn b) matter matter' outcome alike comes =
+    comes_alike one b (path_in b.from) (path_in b.to) matter.files matter'.files outcome refl alike comes

@@ -1,5 +1,4 @@
--- Lemmas of a run: every promise, from how its work ended and what was printed. No command is named but in the law of
--- two matters.
+-- Lemmas of a run: every promise, from how its work ended and what was printed. No command is named.
 use Rattle.std.proofs.Common.{ℕ, ◌≡◌, Bool, true, false, List, [], ◌∷◌, Option, Some, None, Ok, Err, refl, sym, ap, subst, ◌∙◌, arith, inl, inr, ◌⊎◌}
 use Rattle.std.specs.Prelude.{IfSome}
 use Rattle.bp_core.specs.declared.rules.Rule.{Rule}
@@ -12,11 +11,10 @@ use Rattle.bp_cli.specs.declared.stops.Stop.{Stop}
 use Rattle.bp_cli.specs.declared.stops.Stop.TheVariants as stops
 use Rattle.bp_cli.specs.Endings as outcomes
 use Rattle.bp_cli.specs.Endings.{Outcome, Ending, World, status_of, text_of, refused_line, failed_folder, with_files, AddsPart}
-use Rattle.bp_cli.specs.Commands.{CommandLine, Matter, IsOutcome, outcome_of, AlikeFor, Works}
+use Rattle.bp_cli.specs.Commands.{CommandLine, Matter, IsOutcome, ComesTo, AlikeFor, Works}
 use Rattle.bp_cli.specs.Printing.{Prints, whole, cut, lacking, instead}
 use Rattle.bp_cli.specs.Runs.{Outside, Asks, SourceFailed, FolderFailed, NoneFailed, Ended, RanShort, WasCut, Gives, IsAmong, outcome_status, Runs}
 use Rattle.bp_cli.proofs.StatusLemmas.{rose_at, whole_of, out_rose, out_sure, among_three, among_two, status_known, is_done, is_words_refused, is_broken, is_source_fault, is_folder_fault, lacking_part, cut_part}
-use Rattle.bp_cli.proofs.AlikeLemmas.{outcome_alike}
 
 -- ---- what an ending says
 
@@ -71,46 +69,50 @@ folder_sure : (command : Option CommandLine) (before after : World) → Works co
 folder_sure None before after worked = let same = not_words stops.FolderFault worked.0 in cc
 folder_sure (Some c) before after worked = adds-sure (failed_folder before.folder) after.folder worked.files worked.folder
 
+-- what bp_tiff says of files makes one outcome of each command and matter
+abbrev pub OneOutcome : Type 0
+OneOutcome = (c : CommandLine) (matter : Matter) (o o' : Outcome) → ComesTo c matter o → ComesTo c matter o' → o ≡ o'
+
 -- the outcome over a told matter
-told_outcome : (c : CommandLine) (before : World) (outcome : Outcome) (matter : Matter) → before.source.files ≡ Some matter.files → IsOutcome c before outcome → outcome_of c matter ≡ outcome
+told_outcome : (c : CommandLine) (before : World) (outcome : Outcome) (matter : Matter) → before.source.files ≡ Some matter.files → IsOutcome c before outcome → ComesTo c matter outcome
 told_outcome c before outcome matter told is =
     let P : Option FileMap → Type 0 = λ o. IfSome o (λ t. t ≡ is.matter.files) in
     let same : matter.files ≡ is.matter.files = subst P told is.told in
-    ap (λ (files : FileMap). outcome_of c (record { files = files })) same ∙ is.value
+    subst (λ (files : FileMap). ComesTo c (record { files = files }) outcome) (sym same) is.comes
 
 not_both : (line : List ℕ) (rows : List FileRow) (rule : Rule) → outcomes.done line rows ≡ outcomes.refused rule → ⊥
 not_both line rows rule same = cc
 
 -- where a rule is met over a told matter, and the source didn't fail, the work ends by a rule or for want of memory
-met_ending : (c : CommandLine) (before after : World) (matter : Matter) (rule : Rule) (e : Ending) → before.source.files ≡ Some matter.files → outcome_of c matter ≡ outcomes.refused rule → (Rose before.source.faults after.source.faults → ⊥) → Works (Some c) before e after → (status_of e ≡ 2) ⊎ (status_of e ≡ 6)
-met_ending c before after matter rule (Ok line) told met calm worked =
-    absurd (not_both line worked.files rule (sym (told_outcome c before (outcomes.done line worked.files) matter told worked.outcome) ∙ met))
-met_ending c before after matter rule (Err stops.WordsRefused) told met calm worked = absurd worked
-met_ending c before after matter rule (Err (stops.Broken r)) told met calm worked = inl refl
-met_ending c before after matter rule (Err stops.SourceFault) told met calm worked = absurd (calm (source_rose (Some c) before after worked))
-met_ending c before after matter rule (Err stops.FolderFault) told met calm worked =
-    absurd (not_both worked.line worked.files rule (sym (told_outcome c before (outcomes.done worked.line worked.files) matter told worked.outcome) ∙ met))
-met_ending c before after matter rule (Err stops.OutOfMemory) told met calm worked = inr refl
+met_ending : OneOutcome → (c : CommandLine) (before after : World) (matter : Matter) (rule : Rule) (e : Ending) → before.source.files ≡ Some matter.files → ComesTo c matter (outcomes.refused rule) → (Rose before.source.faults after.source.faults → ⊥) → Works (Some c) before e after → (status_of e ≡ 2) ⊎ (status_of e ≡ 6)
+met_ending one c before after matter rule (Ok line) told met calm worked =
+    absurd (not_both line worked.files rule (one c matter _ _ (told_outcome c before (outcomes.done line worked.files) matter told worked.outcome) met))
+met_ending one c before after matter rule (Err stops.WordsRefused) told met calm worked = absurd worked
+met_ending one c before after matter rule (Err (stops.Broken r)) told met calm worked = inl refl
+met_ending one c before after matter rule (Err stops.SourceFault) told met calm worked = absurd (calm (source_rose (Some c) before after worked))
+met_ending one c before after matter rule (Err stops.FolderFault) told met calm worked =
+    absurd (not_both worked.line worked.files rule (one c matter _ _ (told_outcome c before (outcomes.done worked.line worked.files) matter told worked.outcome) met))
+met_ending one c before after matter rule (Err stops.OutOfMemory) told met calm worked = inr refl
 
 -- where nothing failed, the work ends as the outcome says, or for want of memory
-full_ending : (c : CommandLine) (before after : World) (matter : Matter) (e : Ending) → before.source.files ≡ Some matter.files → (Rose before.source.faults after.source.faults → ⊥) → (Rose before.folder.faults after.folder.faults → ⊥) → Works (Some c) before e after → (status_of e ≡ outcome_status (outcome_of c matter)) ⊎ (status_of e ≡ 6)
-full_ending c before after matter (Ok line) told calm quiet worked =
-    inl (ap outcome_status (sym (told_outcome c before (outcomes.done line worked.files) matter told worked.outcome)))
-full_ending c before after matter (Err stops.WordsRefused) told calm quiet worked = absurd worked
-full_ending c before after matter (Err (stops.Broken r)) told calm quiet worked =
-    inl (ap outcome_status (sym (told_outcome c before (outcomes.refused r) matter told worked.outcome)))
-full_ending c before after matter (Err stops.SourceFault) told calm quiet worked = absurd (calm (source_rose (Some c) before after worked))
-full_ending c before after matter (Err stops.FolderFault) told calm quiet worked = absurd (quiet (folder_rose (Some c) before after worked))
-full_ending c before after matter (Err stops.OutOfMemory) told calm quiet worked = inr refl
+full_ending : OneOutcome → (c : CommandLine) (before after : World) (matter : Matter) (outcome : Outcome) (e : Ending) → before.source.files ≡ Some matter.files → ComesTo c matter outcome → (Rose before.source.faults after.source.faults → ⊥) → (Rose before.folder.faults after.folder.faults → ⊥) → Works (Some c) before e after → (status_of e ≡ outcome_status outcome) ⊎ (status_of e ≡ 6)
+full_ending one c before after matter outcome (Ok line) told comes calm quiet worked =
+    inl (ap outcome_status (one c matter _ _ (told_outcome c before (outcomes.done line worked.files) matter told worked.outcome) comes))
+full_ending one c before after matter outcome (Err stops.WordsRefused) told comes calm quiet worked = absurd worked
+full_ending one c before after matter outcome (Err (stops.Broken r)) told comes calm quiet worked =
+    inl (ap outcome_status (one c matter _ _ (told_outcome c before (outcomes.refused r) matter told worked.outcome) comes))
+full_ending one c before after matter outcome (Err stops.SourceFault) told comes calm quiet worked = absurd (calm (source_rose (Some c) before after worked))
+full_ending one c before after matter outcome (Err stops.FolderFault) told comes calm quiet worked = absurd (quiet (folder_rose (Some c) before after worked))
+full_ending one c before after matter outcome (Err stops.OutOfMemory) told comes calm quiet worked = inr refl
 
 -- what came out of a command that ended by its outcome
-done_gives : (c : CommandLine) (before after : Outside) (matter : Matter) (line : List ℕ) → before.world.source.files ≡ Some matter.files → Works (Some c) before.world (Ok line) after.world → after.out ≡ with_written before.out line → Gives (outcome_of c matter) before after
-done_gives c before after matter line told worked written =
-    subst (λ (o : Outcome). Gives o before after) (sym (told_outcome c before.world (outcomes.done line worked.files) matter told worked.outcome)) (worked.folder, written)
+done_gives : OneOutcome → (c : CommandLine) (before after : Outside) (matter : Matter) (outcome : Outcome) (line : List ℕ) → before.world.source.files ≡ Some matter.files → ComesTo c matter outcome → Works (Some c) before.world (Ok line) after.world → after.out ≡ with_written before.out line → Gives outcome before after
+done_gives one c before after matter outcome line told comes worked written =
+    subst (λ (o : Outcome). Gives o before after) (one c matter _ _ (told_outcome c before.world (outcomes.done line worked.files) matter told worked.outcome) comes) (worked.folder, written)
 
-refused_gives : (c : CommandLine) (before after : Outside) (matter : Matter) (rule : Rule) → before.world.source.files ≡ Some matter.files → Works (Some c) before.world (Err (stops.Broken rule)) after.world → after.out ≡ with_written before.out (refused_line rule) → Gives (outcome_of c matter) before after
-refused_gives c before after matter rule told worked written =
-    subst (λ (o : Outcome). Gives o before after) (sym (told_outcome c before.world (outcomes.refused rule) matter told worked.outcome)) (worked.folder, written)
+refused_gives : OneOutcome → (c : CommandLine) (before after : Outside) (matter : Matter) (outcome : Outcome) (rule : Rule) → before.world.source.files ≡ Some matter.files → ComesTo c matter outcome → Works (Some c) before.world (Err (stops.Broken rule)) after.world → after.out ≡ with_written before.out (refused_line rule) → Gives outcome before after
+refused_gives one c before after matter outcome rule told comes worked written =
+    subst (λ (o : Outcome). Gives o before after) (one c matter _ _ (told_outcome c before.world (outcomes.refused rule) matter told worked.outcome) comes) (worked.folder, written)
 
 -- ---- objects that can't fail
 
@@ -209,30 +211,30 @@ module _ (command : Option CommandLine) (before after : Outside) (status : ℕ) 
   worked_for : (c : CommandLine) → command ≡ Some c → Works (Some c) before.world e after.world
   worked_for c is = subst (λ (o : Option CommandLine). Works o before.world e after.world) is worked
 
-  run_rule_met : (c : CommandLine) (matter : Matter) (rule : Rule) → Asks command before c matter → outcome_of c matter ≡ outcomes.refused rule → ¬ SourceFailed before after → IsAmong status (2 ∷ 6 ∷ 7 ∷ [])
-  run_rule_met c matter rule asks met calm =
+  run_rule_met : OneOutcome → (c : CommandLine) (matter : Matter) (rule : Rule) → Asks command before c matter → ComesTo c matter (outcomes.refused rule) → ¬ SourceFailed before after → IsAmong status (2 ∷ 6 ∷ 7 ∷ [])
+  run_rule_met one c matter rule asks met calm =
       among_three (text_of e) (status_of e) before.out after.out status 2
-      (met_ending c before.world after.world matter rule e asks.told met calm (worked_for c asks.words)) printed
+      (met_ending one c before.world after.world matter rule e asks.told met calm (worked_for c asks.words)) printed
 
-  run_complete : (c : CommandLine) (matter : Matter) → Asks command before c matter → NoneFailed before after → IsAmong status (outcome_status (outcome_of c matter) ∷ 6 ∷ [])
-  run_complete c matter asks none =
-      among_two (text_of e) (status_of e) before.out after.out status (outcome_status (outcome_of c matter)) none.out
-      (full_ending c before.world after.world matter e asks.told none.source none.folder (worked_for c asks.words)) printed
+  run_complete : OneOutcome → (c : CommandLine) (matter : Matter) (outcome : Outcome) → Asks command before c matter → ComesTo c matter outcome → NoneFailed before after → IsAmong status (outcome_status outcome ∷ 6 ∷ [])
+  run_complete one c matter outcome asks comes none =
+      among_two (text_of e) (status_of e) before.out after.out status (outcome_status outcome) none.out
+      (full_ending one c before.world after.world matter outcome e asks.told comes none.source none.folder (worked_for c asks.words)) printed
 
-  run_gives : (c : CommandLine) (matter : Matter) → Asks command before c matter → (status ≡ 0) ⊎ (status ≡ 2) → Gives (outcome_of c matter) before after
-  run_gives c matter asks (inl done) =
+  run_gives : OneOutcome → (c : CommandLine) (matter : Matter) (outcome : Outcome) → Asks command before c matter → ComesTo c matter outcome → (status ≡ 0) ⊎ (status ≡ 2) → Gives outcome before after
+  run_gives one c matter outcome asks comes (inl done) =
       let d = run_done done in
-      done_gives c before after matter d.0 asks.told (subst (λ (o : Option CommandLine). Works o before.world (Ok d.0) after.world) asks.words d.1.worked) d.1.printed
-  run_gives c matter asks (inr refused) =
+      done_gives one c before after matter outcome d.0 asks.told comes (subst (λ (o : Option CommandLine). Works o before.world (Ok d.0) after.world) asks.words d.1.worked) d.1.printed
+  run_gives one c matter outcome asks comes (inr refused) =
       let r = run_refused refused in
-      refused_gives c before after matter r.0 asks.told (subst (λ (o : Option CommandLine). Works o before.world (Err (stops.Broken r.0)) after.world) asks.words r.1.worked) r.1.printed
+      refused_gives one c before after matter outcome r.0 asks.told comes (subst (λ (o : Option CommandLine). Works o before.world (Err (stops.Broken r.0)) after.world) asks.words r.1.worked) r.1.printed
 
-  run_alike : (c : CommandLine) (matter matter' : Matter) → Asks command before c matter → AlikeFor c matter matter' → (status ≡ 0) ⊎ (status ≡ 2) → Gives (outcome_of c matter') before after
-  run_alike c matter matter' asks alike ended_so =
-      subst (λ (o : Outcome). Gives o before after) (sym (outcome_alike c matter matter' alike)) (run_gives c matter asks ended_so)
+-- where two matters differ only in what the command withholds, the outcome of one is that of the other
+abbrev pub TwoMatters : Type 0
+TwoMatters = (c : CommandLine) (matter matter' : Matter) (outcome : Outcome) → AlikeFor c matter matter' → ComesTo c matter' outcome → ComesTo c matter outcome
 
-pub runs : (command : Option CommandLine) (before after : Outside) (status : ℕ) (e : Ending) → Works command before.world e after.world → Prints (text_of e) (status_of e) before.out after.out status → (after.world.source.sure ≡ true → after.world.source.faults ≡ 0) → (after.world.folder.sure ≡ true → after.world.folder.faults ≡ 0) → (after.out.sure ≡ true → after.out.faults ≡ 0) → Runs command before after status
-runs command before after status e worked printed source_law folder_law out_law = record {
+pub runs : OneOutcome → TwoMatters → (command : Option CommandLine) (before after : Outside) (status : ℕ) (e : Ending) → Works command before.world e after.world → Prints (text_of e) (status_of e) before.out after.out status → (after.world.source.sure ≡ true → after.world.source.faults ≡ 0) → (after.world.folder.sure ≡ true → after.world.folder.faults ≡ 0) → (after.out.sure ≡ true → after.out.faults ≡ 0) → Runs command before after status
+runs one two command before after status e worked printed source_law folder_law out_law = record {
   known = status_known (text_of e) e before.out after.out status printed;
   done = run_done command before after status e worked printed;
   words_refused = run_words_refused command before after status e worked printed;
@@ -242,8 +244,9 @@ runs command before after status e worked printed source_law folder_law out_law 
   lacking = run_lacking command before after status e worked printed;
   cut = run_cut command before after status e worked printed;
   no_command = run_no_command command before after status e worked printed;
-  rule_met = run_rule_met command before after status e worked printed;
-  complete = run_complete command before after status e worked printed;
+  rule_met = run_rule_met command before after status e worked printed one;
+  complete = run_complete command before after status e worked printed one;
   unfailing = λ sure. sure_printing (text_of e) (status_of e) before.out after.out status sure.out out_law (sure_ending command before.world after.world e sure.source sure.folder source_law folder_law worked) printed;
-  alike = run_alike command before after status e worked printed;
+  alike = λ c matter matter' outcome asks alike comes ended_so.
+      run_gives command before after status e worked printed one c matter outcome asks (two c matter matter' outcome alike comes) ended_so;
 }

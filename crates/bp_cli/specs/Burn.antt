@@ -1,21 +1,23 @@
 -- The command `burn`: its line, what it comes to, and what it withholds.
-use Rattle.std.specs.Prelude.{ℕ, ◌≡◌, ◌==◌, ◌||◌, Bool, nat_lt, Option, Some, None, Result, Ok, Err, List, [], ◌∷◌, ◌++◌, length, codes, if◌then◌else◌}
+use Rattle.std.specs.Prelude.{ℕ, ◌≡◌, ◌≤◌, ◌==◌, ◌||◌, Bool, true, false, not, nat_lt, Option, Some, None, Result, Ok, Err, List, [], ◌∷◌, ◌++◌, length, codes, if◌then◌else◌}
 use Rattle.std.specs.Fmt.{decimal}
 use Rattle.std.specs.FinMap as map
 use Rattle.std.specs.Str.{bytes_eq, chars}
 use Rattle.bp_core.specs.declared.rectangle.Rect.{Rect}
 use Rattle.bp_core.specs.declared.rules.Rule.{Rule}
 use Rattle.bp_core.specs.declared.rules.RuleKind.TheVariants as kinds
+use Rattle.bp_core.specs.Paths.{path_in}
 use Rattle.bp_core.specs.Rectangle.{lies_inside}
-use Rattle.bp_core.specs.Rules.{bare_rule}
+use Rattle.bp_core.specs.Rules.{bare_rule, page_limit_rule}
 use Rattle.bp_outside.specs.Source.{FileMap}
 use Rattle.bp_outside.specs.Folder.{file}
 use Rattle.bp_rows.specs.Image.{Image}
 use Rattle.bp_rows.specs.Burned.{burned, AgreeOutside}
+use Rattle.bp_rows.specs.Limits.{sides_are_imported}
 use Rattle.bp_tiff.specs.declared.form.Form.{Form}
 use Rattle.bp_tiff.specs.declared.form.Form.TheVariants.{Plain, G4}
 use Rattle.bp_tiff.specs.Tiff.{tiff_of}
-use Rattle.bp_tiff.specs.Plain.{IsPlainFile, plain_answer}
+use Rattle.bp_tiff.specs.Read.{TiffReads, TiffAnswers}
 use Rattle.bp_cli.specs.declared.burn.Burn.{Burn}
 use Rattle.bp_cli.specs.declared.burn.TheConstants.{FILE_LIMIT}
 use Rattle.bp_cli.specs.Words.{number_of, word_of, ◌>>=◌}
@@ -63,57 +65,93 @@ burn_of words =
       Some (line_with words area form))
     else None
 
+-- ---- its paths
+
+-- where the page stands, and where the file is put
+pub record BurnPaths : Type 0 where
+  pub from : List ℕ
+  pub to : List ℕ
+
+-- the paths that IN and OUT name, if both name one
+abbrev pub paths_of : BurnLine → Option BurnPaths
+paths_of b = do
+  from ← path_in b.from
+  to ← path_in b.to
+  Some (record { from = from; to = to })
+
+abbrev pub path_refused : Rule
+path_refused = bare_rule kinds.PathRefused
+
 -- ---- what it comes to
 
 -- a side is 0
 abbrev pub lacks_a_side : Rect → Bool
 lacks_a_side area = area.width == 0 || area.height == 0
 
--- the file of the burned page, or the rule that the box breaks
-abbrev pub burn_page : BurnLine → Image → Result (List ℕ) Rule
-burn_page b p =
-    if lacks_a_side b.area
-    then Err (bare_rule kinds.BoxShape)
-    else (if lies_inside b.area p.width p.height
-    then Ok (tiff_of b.form (burned p (b.area ∷ [])))
-    else Err (bare_rule kinds.BoxOutside))
+-- the page with the box burned, or the first rule: its sides are within the limits of an import, and
+-- the box has sides and lies inside
+abbrev pub burn_page : Rect → Image → Result Image Rule
+burn_page area p =
+    if not (sides_are_imported p.width p.height) then Err (page_limit_rule p.width p.height)
+    else (if lacks_a_side area then Err (bare_rule kinds.BoxShape)
+    else (if lies_inside area p.width p.height then Ok (burned p (area ∷ []))
+    else Err (bare_rule kinds.BoxOutside)))
 
-abbrev pub burn_read : BurnLine → Result Image Rule → Result (List ℕ) Rule
-burn_read b (Ok p) = burn_page b p
-burn_read b (Err rule) = Err rule
+abbrev pub burn_read : Rect → Result Image Rule → Result Image Rule
+burn_read area (Ok p) = burn_page area p
+burn_read area (Err rule) = Err rule
 
--- the file that is written for what stands at IN, or the first rule that is broken
-abbrev pub burn_answer : BurnLine → Option (List ℕ) → Result (List ℕ) Rule
-burn_answer b None = Err (bare_rule kinds.FileAbsent)
-burn_answer b (Some bytes) =
-    if nat_lt FILE_LIMIT (length bytes)
-    then Err (bare_rule kinds.FileTooLong)
-    else burn_read b (plain_answer bytes)
+-- the page that a file holds, or the first rule that is broken before there is one
+abbrev pub FileAnswers : List ℕ → Result Image Rule → Type 0
+FileAnswers bytes answer = elim (nat_lt FILE_LIMIT (length bytes)) [
+  | true ↦ answer ≡ Err (bare_rule kinds.FileTooLong)
+  | false ↦ TiffAnswers bytes answer
+]
+
+-- the same of what stands at a path
+abbrev pub PathAnswers : Option (List ℕ) → Result Image Rule → Type 0
+PathAnswers None answer = answer ≡ Err (bare_rule kinds.FileAbsent)
+PathAnswers (Some bytes) answer = FileAnswers bytes answer
 
 -- `burned N`, N the bytes of the file
-abbrev pub burned_line : List ℕ → List ℕ
-burned_line bytes = line_of (codes "burned " ++ decimal (length bytes))
+abbrev pub counted_line : ℕ → List ℕ
+counted_line count = line_of (codes "burned " ++ decimal count)
 
-abbrev pub burn_done : BurnLine → List ℕ → Outcome
-burn_done b bytes = done (burned_line bytes) (file b.to bytes ∷ [])
+abbrev pub burn_done : List ℕ → List ℕ → Outcome
+burn_done to bytes = done (counted_line (length bytes)) (file to bytes ∷ [])
 
-abbrev pub burn_gives : BurnLine → Result (List ℕ) Rule → Outcome
-burn_gives b (Ok bytes) = burn_done b bytes
-burn_gives b (Err rule) = refused rule
+-- the file of the burned page is put, or the rule is met
+abbrev pub burn_gives : Form → List ℕ → Result Image Rule → Outcome
+burn_gives form to (Ok p) = burn_done to (tiff_of form p)
+burn_gives form to (Err rule) = refused rule
 
--- over the files of a source
-abbrev pub burn_outcome : BurnLine → FileMap → Outcome
-burn_outcome b files = burn_gives b (burn_answer b (map.get files b.from))
+-- over the files of a source, with these paths
+pub record BurnsAt (b : BurnLine) (paths : BurnPaths) (files : FileMap) (outcome : Outcome)
+    : Type 0 where
+  pub answer : Result Image Rule
+  pub found : PathAnswers (map.get files paths.from) answer
+  pub gives : burn_gives b.form paths.to (burn_read b.area answer) ≡ outcome
+
+-- what the command comes to: first IN and OUT are to name paths
+abbrev pub BurnComes : BurnLine → FileMap → Outcome → Type 0
+BurnComes b files outcome = elim (paths_of b) [
+  | None ↦ outcome ≡ refused path_refused
+  | Some paths ↦ BurnsAt b paths files outcome
+]
 
 -- ---- what it withholds: what the box covers
 
--- the plain file of a page stands at a path
-pub record HasPage (files : FileMap) (path : List ℕ) (page : Image) : Type 0 where
+-- a file that can be read stands at the path that a text names, and holds this page
+pub record HasPage (files : FileMap) (text : List ℕ) (page : Image) : Type 0 where
+  pub path : List ℕ
+  pub named : path_in text ≡ Some path
   pub bytes : List ℕ
   pub there : map.get files path ≡ Some bytes
-  pub plain : IsPlainFile bytes page
+  pub short : length bytes ≤ FILE_LIMIT
+  pub reads : TiffReads bytes page
 
--- both have at IN the file of a page, and these two agree outside the box
+-- both have at IN a file, and the pages of these two agree outside the box; the files may be of any
+-- form
 pub record BurnAlike (b : BurnLine) (files files' : FileMap) : Type 0 where
   pub page : Image
   pub page' : Image

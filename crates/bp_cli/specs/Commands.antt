@@ -10,7 +10,7 @@ use Rattle.bp_cli.specs.declared.commands.Command.TheVariants as commands
 use Rattle.bp_cli.specs.declared.stops.Stop.TheVariants as stops
 use Rattle.bp_cli.specs.Words.{is_bad_word, word_of}
 use Rattle.bp_cli.specs.Endings.{Outcome, Ending, World, Ends}
-use Rattle.bp_cli.specs.Burn.{BurnLine, burn_seen, burn_of, burn_outcome, BurnAlike}
+use Rattle.bp_cli.specs.Burn.{BurnLine, burn_seen, burn_of, BurnComes, BurnAlike}
 
 -- a command with its operands
 pub data CommandLine : Type 0 where
@@ -32,15 +32,15 @@ command_of words = if list_any is_bad_word words then None else named_command wo
 pub record Matter : Type 0 where
   pub files : FileMap
 
--- what a command comes to over a matter
-abbrev pub outcome_of : CommandLine → Matter → Outcome
-outcome_of (burn b) matter = burn_outcome b matter.files
+-- over a matter the command comes to the outcome, and to no other
+abbrev pub ComesTo : CommandLine → Matter → Outcome → Type 0
+ComesTo (burn b) matter outcome = BurnComes b matter.files outcome
 
 -- the outcome over the matter that the outside tells, or over one that it doesn't tell
 pub record IsOutcome (command : CommandLine) (world : World) (outcome : Outcome) : Type 0 where
   pub matter : Matter
   pub told : IfSome world.source.files (λ files. files ≡ matter.files)
-  pub value : outcome_of command matter ≡ outcome
+  pub comes : ComesTo command matter outcome
 
 -- what the command doesn't withhold is the same in both
 abbrev pub AlikeFor : CommandLine → Matter → Matter → Type 0

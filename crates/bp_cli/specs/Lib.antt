@@ -1,5 +1,6 @@
 pub mod Arguments
 pub mod Burn
+pub mod Burning
 pub mod Commands
 pub mod Endings
 pub mod Printing

@@ -10,7 +10,7 @@ use Rattle.bp_cli.specs.declared.stops.Stop.TheVariants as stops
 use Rattle.bp_cli.specs.declared.statuses.TheConstants.{DONE, WORDS_REFUSED, RULE_BROKEN, SOURCE_FAULT, FOLDER_FAULT, OUT_OF_MEMORY, OUT_FAULT}
 use Rattle.bp_cli.specs.Endings as outcomes
 use Rattle.bp_cli.specs.Endings.{Outcome, Ending, World, world, with_files, status_of, text_of, memory_line, refused_line}
-use Rattle.bp_cli.specs.Commands.{CommandLine, Matter, outcome_of, AlikeFor, Works}
+use Rattle.bp_cli.specs.Commands.{CommandLine, Matter, ComesTo, AlikeFor, Works}
 use Rattle.bp_cli.specs.Printing.{failed_out, MayLackItsLine, WritesPart}
 
 -- what is known of all that is outside, at a moment
@@ -127,14 +127,15 @@ pub record Runs (command : Option CommandLine) (before after : Outside) (status 
   -- a rule that is met over a told matter gives 2, but for want of memory and faults of source and out
   pub rule_met : (c : CommandLine) (matter : Matter) (rule : Rule)
       → Asks command before c matter
-      → outcome_of c matter ≡ outcomes.refused rule
+      → ComesTo c matter (outcomes.refused rule)
       → ¬ SourceFailed before after
       → IsAmong status (RULE_BROKEN ∷ OUT_OF_MEMORY ∷ OUT_FAULT ∷ [])
   -- completeness: over a told matter, where nothing failed, the status is that of the outcome, or 6
-  pub complete : (c : CommandLine) (matter : Matter)
+  pub complete : (c : CommandLine) (matter : Matter) (outcome : Outcome)
       → Asks command before c matter
+      → ComesTo c matter outcome
       → NoneFailed before after
-      → IsAmong status (outcome_status (outcome_of c matter) ∷ OUT_OF_MEMORY ∷ [])
+      → IsAmong status (outcome_status outcome ∷ OUT_OF_MEMORY ∷ [])
   -- objects that can't fail give no fault
   pub unfailing : AreSure before
       → IsAmong status (DONE ∷ WORDS_REFUSED ∷ RULE_BROKEN ∷ OUT_OF_MEMORY ∷ [])
@@ -142,8 +143,9 @@ pub record Runs (command : Option CommandLine) (before after : Outside) (status 
 
   -- what comes out is the outcome of every other matter that differs only in what the command
   -- withholds
-  pub alike : (c : CommandLine) (matter matter' : Matter)
+  pub alike : (c : CommandLine) (matter matter' : Matter) (outcome : Outcome)
       → Asks command before c matter
       → AlikeFor c matter matter'
+      → ComesTo c matter' outcome
       → (status ≡ DONE) ⊎ (status ≡ RULE_BROKEN)
-      → Gives (outcome_of c matter') before after
+      → Gives outcome before after

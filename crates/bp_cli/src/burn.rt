@@ -1,21 +1,22 @@
 // The command `burn`.
-ghost use Rattle.std.specs.Prelude.{◌≡◌, IfOk};
+ghost use Rattle.std.specs.Prelude.{◌≡◌, Some, IfOk};
 ghost use Rattle.std.specs.Option.{option_map};
 ghost use Rattle.bp_outside.specs.Folder.{FolderView};
-ghost use Rattle.bp_tiff.specs.Plain.{plain_answer};
+ghost use Rattle.bp_tiff.specs.Tiff.{tiff_of};
 ghost use Rattle.bp_cli.specs.Words.{word_bytes};
-ghost use Rattle.bp_cli.specs.Burn.{form_of, box_of, burn_of, burn_seen, burn_page, burn_read, burn_done, burned_line};
+ghost use Rattle.bp_cli.specs.Burn.{form_of, box_of, burn_of, burn_seen, paths_of, burn_page, counted_line};
+ghost use Rattle.bp_cli.specs.Burning.{paths_seen, page_put, NamesPaths, BurnsBytes, PutsPage};
 ghost use Rattle.bp_cli.specs.Commands.{burn, IsOutcome};
 ghost use Rattle.bp_cli.specs.Endings.{world, Ends, Makes};
-ghost use Rattle.bp_cli.specs.Stops.{StopAnswers, read_stop};
+ghost use Rattle.bp_cli.specs.Stops.{read_stop};
 
 use crate::stops::Stop;
 use crate::words::{number_in, word_at};
 use bp_burn::burn_in_place;
-use bp_core::{Bytes, OutOfMemory, Rect, Rule, RuleKind};
-use bp_outside::{Folder, ReadRefusal, Source, put_file};
-use bp_rows::Page;
-use bp_tiff::{Form, read_plain, write_tiff};
+use bp_core::{Bytes, OutOfMemory, Rect, Rule, RuleKind, Text, path_of};
+use bp_outside::{Folder, ReadRefusal, Source, put_parts};
+use bp_rows::{Page, import_sides};
+use bp_tiff::{Form, read_tiff, tiff_parts};
 use std::alloc::Global;
 
 /// The most bytes that a file may have which is read.
@@ -79,6 +80,13 @@ fn form_in(word: &str) -> Option<Form>
 
 // ---- its work
 
+/// Where the page stands, and where the file is put.
+#[derive(Debug, Drop)]
+pub struct BurnPaths {
+    pub from: Text,
+    pub to: Text,
+}
+
 /// Burns one box into the page file at IN, and puts the file of the burned page at OUT. The line that
 /// tells how many bytes that file has.
 pub fn burn_box<S: Source, F: Folder>(
@@ -91,24 +99,37 @@ pub fn burn_box<S: Source, F: Folder>(
         let after = world (S.shows source.new) (F.shows folder.new) in
         Ends (IsOutcome (burn (burn_seen asked.now)) before) before result after }
 {
-    let file = burned_file(alloc, asked, source)?;
-    let line = line_of_file(alloc, &file)?;
-    match put_file(alloc, folder, asked.to, file.as_slice()) {
-        Ok(()) => Ok(line),
-        Err(refusal) => Err(Stop::from(refusal)),
-    }
+    let paths = burn_paths(alloc, asked)?;
+    let page = burned_page(alloc, asked, &paths, source)?;
+    put_page(alloc, asked.form, &paths, &page, folder)
 }
 
-// The file of the burned page.
-fn burned_file<S: Source>(alloc: Global, asked: &Burn<'_>, source: &mut S) -> Result<Bytes, Stop>
+// The paths that IN and OUT name.
+fn burn_paths(alloc: Global, asked: &Burn<'_>) -> Result<BurnPaths, Stop>
+    ensures { NamesPaths (burn_seen asked.now) result }
+{
+    let from = path_of(alloc, asked.from)?;
+    let to = path_of(alloc, asked.to)?;
+    Ok(BurnPaths { from, to })
+}
+
+// The page of the file at IN with the box burned.
+fn burned_page<S: Source>(
+    alloc: Global,
+    asked: &Burn<'_>,
+    paths: &BurnPaths,
+    source: &mut S,
+) -> Result<Page, Stop>
+    requires { paths_of (burn_seen asked.now) ≡ Some (paths_seen paths.now) }
     ensures { (folder : FolderView)
         → let line = burn_seen asked.now in
         let before = world (S.shows source.old) folder in
         let source' = S.shows source.new in
-        Makes (IsOutcome (burn line) before) (burn_done line) before.source result source' }
+        let gives = page_put line.form paths.now.to in
+        Makes (IsOutcome (burn line) before) gives before.source result source' }
 {
-    match source.read(alloc, asked.from, FILE_LIMIT) {
-        Ok(bytes) => burned(alloc, asked, bytes),
+    match source.read(alloc, paths.from.as_str(), FILE_LIMIT) {
+        Ok(bytes) => burned(alloc, asked.area, &bytes),
         Err(refusal) => Err(stop_of_read(refusal)),
     }
 }
@@ -124,31 +145,58 @@ fn stop_of_read(refusal: ReadRefusal) -> Stop
     }
 }
 
-// The file of the page of these bytes, burned.
-fn burned(alloc: Global, asked: &Burn<'_>, bytes: Vec<u8>) -> Result<Bytes, Stop>
-    ensures { StopAnswers result (burn_read (burn_seen asked.now) (plain_answer bytes.items)) }
+// The page of these bytes with the box burned.
+fn burned(alloc: Global, area: Rect, bytes: &[u8]) -> Result<Page, Stop>
+    ensures { BurnsBytes area bytes.now result }
 {
-    let page = read_plain(alloc, bytes)?;
-    burned_page(alloc, asked, page)
+    match read_tiff(alloc, bytes) {
+        Ok(page) => burned_in(area, page),
+        Err(refusal) => Err(Stop::from(refusal)),
+    }
 }
 
-fn burned_page(alloc: Global, asked: &Burn<'_>, mut page: Page) -> Result<Bytes, Stop>
-    ensures { StopAnswers result (burn_page (burn_seen asked.now) page) }
+// The page with the box burned. It takes no memory, so what the box covers can't tell by a want of it.
+fn burned_in(area: Rect, mut page: Page) -> Result<Page, Rule>
+    ensures { result ≡ burn_page area page }
 {
-    if asked.area.width == 0 || asked.area.height == 0 {
-        return Err(Stop::Broken(Rule::bare(RuleKind::BoxShape)));
+    let (width, height) = (page.width(), page.height());
+    if !import_sides(width, height) {
+        return Err(Rule::page_limit(width, height));
     }
-    if !asked.area.inside(page.width(), page.height()) {
-        return Err(Stop::Broken(Rule::bare(RuleKind::BoxOutside)));
+    if area.width == 0 || area.height == 0 {
+        return Err(Rule::bare(RuleKind::BoxShape));
     }
-    burn_in_place(&mut page, &[asked.area]);
-    Ok(write_tiff(alloc, asked.form, &page)?)
+    if !area.inside(width, height) {
+        return Err(Rule::bare(RuleKind::BoxOutside));
+    }
+    burn_in_place(&mut page, &[area]);
+    Ok(page)
 }
 
-fn line_of_file(alloc: Global, file: &Bytes) -> Result<Bytes, OutOfMemory>
-    ensures { IfOk result (λ line. line ≡ burned_line file.now) }
+// Puts the file of a page. The line that tells how many bytes it has.
+fn put_page<F: Folder>(
+    alloc: Global,
+    form: Form,
+    paths: &BurnPaths,
+    page: &Page,
+    folder: &mut F,
+) -> Result<Bytes, Stop>
+    ensures { let to = paths.now.to in
+        PutsPage to (tiff_of form page.now) (F.shows folder.old) result (F.shows folder.new) }
 {
-    let count = file.len();
+    let file = tiff_parts(alloc, form, page)?;
+    let (head, strip) = (file.head.as_slice(), file.strip.as_slice());
+    let line = line_of_count(alloc, head.len() + strip.len())?;
+    match put_parts(alloc, folder, paths.to.as_str(), head, strip) {
+        Ok(()) => Ok(line),
+        Err(refusal) => Err(Stop::from(refusal)),
+    }
+}
+
+// `burned N`
+fn line_of_count(alloc: Global, count: usize) -> Result<Bytes, OutOfMemory>
+    ensures { IfOk result (λ line. line ≡ counted_line count) }
+{
     let line = format!(in alloc; "burned {count}\n")?;
     Ok(Bytes::from_vec(line.into_bytes()))
 }

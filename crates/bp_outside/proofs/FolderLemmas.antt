@@ -1,9 +1,10 @@
 -- Carry what one append leaves of a folder to pieces one after another, and to a whole file.
-use Rattle.std.proofs.Common.{◌≡◌, ℕ, ◌+◌, ◌-◌, ◌≤◌, true, false, Result, Ok, Err, List, [], ◌∷◌, ◌++◌, length, take, drop, refl, sym, ap, subst, ◌∙◌, append_assoc, arith, length-drop}
+use Rattle.std.proofs.Common.{◌≡◌, ℕ, ◌+◌, ◌-◌, ◌≤◌, ◌<◌, true, false, Result, Ok, Err, List, [], ◌∷◌, ◌++◌, length, take, drop, refl, sym, ap, subst, ◌∙◌, append_assoc, arith, length-drop, min, ⊎_elim}
 use Rattle.std.specs.Prelude.{Option, Some, None}
 use Rattle.std.specs.Option.{option_map}
-use Rattle.std.proofs.lemmas.List.{append-nil, take_rest, take_all}
-use Rattle.std.proofs.Math.Seq.{take-add}
+use Rattle.std.proofs.lemmas.Bool.{cases_lt}
+use Rattle.std.proofs.lemmas.List.{append-nil, take_rest, take_all, take-append-le, length-take}
+use Rattle.std.proofs.Math.Seq.{take-add, take-append-add}
 use Rattle.bp_outside.specs.declared.files.FileRow.{FileRow}
 use Rattle.bp_outside.specs.declared.refusals.FolderRefusal.{FolderRefusal}
 use Rattle.bp_outside.specs.declared.refusals.FolderRefusal.TheVariants.{Failed, OutOfMemory}
@@ -159,3 +160,50 @@ pub put_whole : (result : Result (Unit {0}) FolderRefusal) (folder begun full af
 put_whole result folder begun full after path bytes created added end =
     put_at_end result folder full after path bytes
     (added ∙ ap (λ f. with_bytes f bytes) created ∙ with_bytes-with_file folder path [] bytes) end
+
+-- ---- a file in two parts
+
+take_least : (count : ℕ) (bytes : List ℕ) → take (min count (length bytes)) bytes ≡ take count bytes
+take_least count bytes = ⊎_elim
+    (λ (short : count < length bytes). let least : min count (length bytes) ≡ count = omega arith in ap (λ n. take n bytes) least)
+    (λ long. let least : min count (length bytes) ≡ length bytes = omega arith in
+    ap (λ n. take n bytes) least ∙ take_all (length bytes) bytes (omega arith) ∙ sym (take_all count bytes (omega arith)))
+    (cases_lt count (length bytes))
+
+first_of_both : (count : ℕ) (first rest : List ℕ)
+    → take count first ≡ take (length (take count first)) (first ++ rest)
+first_of_both count first rest =
+    let short : length (take count first) ≤ length first = omega (arith, length-take count first) in
+    sym (take-append-le (length (take count first)) first rest short
+    ∙ ap (λ n. take n first) (length-take count first) ∙ take_least count first)
+
+-- the first part was refused
+pub first_in_part : (folder after : FolderView) (first rest : List ℕ)
+    → AddsPrefix folder first after
+    → AddsPrefix folder (first ++ rest) after
+first_in_part folder after first rest part = record {
+  count = length (take part.count first);
+  added = part.added ∙ ap (with_bytes folder) (first_of_both part.count first rest);
+}
+
+-- the rest was refused, behind the first part
+pub rest_in_part : (refusal : FolderRefusal) (folder now after : FolderView) (first rest : List ℕ)
+    → now ≡ with_bytes folder first
+    → AddsPrefix (after_refusal now refusal) rest after
+    → AddsPrefix (after_refusal folder refusal) (first ++ rest) after
+rest_in_part refusal folder now after first rest so_far part = record {
+  count = length first + part.count;
+  added = part.added
+      ∙ ap (λ o. with_bytes (after_refusal o refusal) (take part.count rest)) so_far
+      ∙ ap (λ o. with_bytes o (take part.count rest)) (after_refusal-with_bytes refusal folder first)
+      ∙ with_bytes-twice (after_refusal folder refusal) first (take part.count rest)
+      ∙ ap (with_bytes (after_refusal folder refusal)) (sym (take-append-add first rest part.count));
+}
+
+-- both were added
+pub both_added : (folder now after : FolderView) (first rest : List ℕ)
+    → now ≡ with_bytes folder first
+    → after ≡ with_bytes now rest
+    → after ≡ with_bytes folder (first ++ rest)
+both_added folder now after first rest so_far added =
+    added ∙ ap (λ o. with_bytes o rest) so_far ∙ with_bytes-twice folder first rest

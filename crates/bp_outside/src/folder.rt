@@ -1,5 +1,5 @@
 // Where files are written to.
-ghost use Rattle.std.specs.Prelude.{◌≡◌, true};
+ghost use Rattle.std.specs.Prelude.{◌≡◌, ◌++◌, true};
 ghost use Rattle.std.specs.Str.{chars};
 ghost use Rattle.bp_outside.specs.Folder.{FolderView, after_create, after_finish, Appends, AppendsAll, PutsFile};
 
@@ -46,6 +46,23 @@ pub fn put_file<F: Folder>(
 {
     folder.create(alloc, path)?;
     append_all(alloc, folder, bytes)?;
+    folder.finish(alloc)
+}
+
+/// The same for a file that is given in two parts, the rest behind the first.
+pub fn put_parts<F: Folder>(
+    alloc: Global,
+    folder: &mut F,
+    path: &str,
+    first: &[u8],
+    rest: &[u8],
+) -> Result<(), FolderRefusal>
+    ensures { let bytes = first.now ++ rest.now in
+        PutsFile (F.shows folder.old) (chars path.now) bytes result (F.shows folder.new) }
+{
+    folder.create(alloc, path)?;
+    append_all(alloc, folder, first)?;
+    append_all(alloc, folder, rest)?;
     folder.finish(alloc)
 }
 

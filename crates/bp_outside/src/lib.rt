@@ -4,7 +4,8 @@
 //! contracts cite (`SourceView`, `FolderView`, `OutView`): what is held, where that is told, and
 //! counts that never fall. A refusal raises the count of its own cause. `MemSource`, `MemFolder`
 //! and `MemOut` tell all that they hold; `FileSource`, `FileFolder` and `StdOut` stand on the
-//! system and tell nothing. A whole file is put by `put_file`, and a whole piece by `write_all`.
+//! system and tell nothing. A whole file is put by `put_file` or `put_parts`, and a
+//! whole piece by `write_all`.
 #![tactic(auto)]
 
 mod counts;
@@ -19,7 +20,7 @@ mod system;
 mod tests;
 
 pub use files::{FileList, FileRow, paths_differ};
-pub use folder::{Folder, put_file};
+pub use folder::{Folder, put_file, put_parts};
 pub use memory::folder::{APPEND_LIMIT, MemFolder};
 pub use memory::output::{MemOut, WRITE_LIMIT};
 pub use memory::source::MemSource;

@@ -4,6 +4,7 @@ pub mod FindingLemmas
 pub mod InTurnLemmas
 pub mod JoinedLemmas
 pub mod OneAnswerLemmas
+pub mod PageRuleLemmas
 pub mod ReadBackLemmas
 pub mod ReadExamples
 mod StripExamples

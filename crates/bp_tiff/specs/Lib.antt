@@ -4,6 +4,7 @@ pub mod Entries
 pub mod Layout
 pub mod Numbers
 pub mod Pixels
+pub mod PageRules
 pub mod Parts
 pub mod Passed
 pub mod Places

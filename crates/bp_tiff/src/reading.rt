@@ -8,6 +8,7 @@ ghost use Rattle.bp_rows.specs.Image.{Image};
 ghost use Rattle.bp_rows.specs.Limits.{sides_are_allowed};
 ghost use Rattle.bp_t6.specs.Strips.{IfRule};
 ghost use Rattle.bp_tiff.specs.Appending.{kept_fill, lines_in};
+ghost use Rattle.bp_tiff.specs.PageRules.{IsPageRule};
 ghost use Rattle.bp_tiff.specs.Pixels.{value_in, packed_values};
 ghost use Rattle.bp_tiff.specs.Read.{page_of, TiffReads, TiffFault, TiffAnswers};
 
@@ -33,6 +34,9 @@ pub fn read_tiff(alloc: Global, bytes: &[u8]) -> Result<Page, Refusal>
 
     // A rule is the first that they break.
     ensures refused { IfErr result (IfRule (TiffFault bytes.now)) }
+
+    // It is one of the sides, of T.6 or of TIFF.
+    ensures kind { IfErr result (IfRule (λ rule. IsPageRule rule.kind)) }
 
     // The answer to the bytes is given, unless memory runs out.
     ensures exact { (answer : Result Image Rule) → TiffAnswers bytes.now answer

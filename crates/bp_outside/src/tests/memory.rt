@@ -2,7 +2,7 @@
 use super::counted;
 use crate::{
     FileList, FileRow, Folder, FolderRefusal, MemFolder, MemOut, MemSource, OutRefusal,
-    ReadRefusal, Source, paths_differ, put_file, write_all,
+    ReadRefusal, Source, paths_differ, put_file, put_parts, write_all,
 };
 use bp_core::{Bytes, NumberList, Text};
 use std::alloc::{AllocError, Global};
@@ -77,6 +77,22 @@ fn a_file_is_put_whole_or_in_part(rt: HostRuntime) -> Result<(), Fail> {
             assert_eq!(rt; last.bytes.len(), length, "at call {failing}");
             assert!(rt; bytes.as_slice().starts_with(last.bytes.as_slice()));
         }
+    }
+    Ok(())
+}
+
+// The calls are create (0), append of the first part (1), of the rest (2), and finish (3).
+#[test]
+fn a_file_of_two_parts_is_put_whole_or_in_part(rt: HostRuntime) -> Result<(), Fail> {
+    let alloc = rt.alloc();
+    let wholes: [&[u8]; 5] = [b"", b"ab", b"abcdef", b"abcdefgh", b"abcdefgh"];
+    for (failing, whole) in wholes.iter().enumerate() {
+        let given = rows(alloc, &[])?;
+        let mut folder = MemFolder::over(given, numbers(alloc, &[failing as u64])?);
+        let answer = put_parts(alloc, &mut folder, "p.tif", b"abcd", b"efgh");
+        assert_eq!(rt; answer.is_ok(), failing == 4, "at call {failing}");
+        let put = folder.files().last().map(|file| file.bytes.as_slice());
+        assert_eq!(rt; put.unwrap_or(b""), *whole, "at call {failing}");
     }
     Ok(())
 }

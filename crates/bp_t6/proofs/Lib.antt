@@ -15,6 +15,7 @@ pub mod OneStopLemmas
 pub mod PlaceLemmas
 pub mod RowLemmas
 pub mod RunCodeLemmas
+pub mod SomeAnswerLemmas
 pub mod StepLemmas
 pub mod StripLemmas
 pub mod TurnLemmas

@@ -52,6 +52,12 @@ row_found codes bits row e =
     let same : found.0 ≡ row = omega (arith, found.1) in
     begins_split (code codes row) bits (ap (λ j. begins (get_or codes j []) bits) (sym same) ∙ found.3)
 
+-- the row is one of the table's
+pub row_in_table : (codes : List (List Bool)) (bits : List Bool) (row : ℕ) → next_row codes bits ≡ Ok row → row < length codes
+row_in_table codes bits row e =
+    let found = found_from (λ c. begins c bits) 0 codes row (from_row_or (row_at codes bits) (no_code codes bits) row e) in
+    omega (arith, found.1, found.2)
+
 -- ---- the make-up codes of a run so far
 
 -- from one place of the bits to another stand make-up codes of so many pixels

@@ -1,5 +1,5 @@
 //! The laws of strips. The functions do nothing: the contract of each is the law.
-ghost use Rattle.std.specs.Prelude.{◌≡◌, ◌<◌, ◌≤◌, ◌+◌, ◌*◌, ◌^◌, ◌↔◌, ℕ, Bool, List, length};
+ghost use Rattle.std.specs.Prelude.{◌≡◌, ◌<◌, ◌≤◌, ◌+◌, ◌*◌, ◌^◌, ◌↔◌, ◌⊎◌, ℕ, Bool, List, length};
 ghost use Rattle.bp_core.specs.declared.rules.RuleKind.{RuleKind};
 ghost use Rattle.bp_codes.specs.declared.span.Fill.TheVariants.{High};
 ghost use Rattle.bp_codes.specs.Bits.{bits_of};
@@ -52,3 +52,10 @@ pub fn reading_law()
     mode_laws();
     mode_place_laws();
 }
+
+/// Whatever the bits are, a strip of any sides is read as some lines or has some fault.
+pub fn some_answer()
+    ensures { (bits : List Bool) (width height : ℕ) →
+        ((lines : List (List Bool)) × StripReads bits width height lines)
+        ⊎ ((kind : RuleKind) × (row at : ℕ) × StripFault bits width height kind row at) }
+{}

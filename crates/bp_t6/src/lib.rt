@@ -3,7 +3,8 @@
 //! `code_page` gives the strip of a page; its contract cites `strip_of` of specs/Written.antt, the
 //! coding procedure of T.6. `read_strip` gives the page of a strip, or the first place where it breaks
 //! a rule: `StripReads` of specs/Read.antt and `StripFault` of specs/Faults.antt. `laws` says that the
-//! strip of a page is read as the page's rows and as no others.
+//! strip of a page is read as the page's rows and as no others, and that any bits are read as some rows
+//! or have some fault.
 #![tactic(auto)]
 
 mod bit_writer;

@@ -7,6 +7,7 @@ pub mod OneAnswerLemmas
 pub mod PageRuleLemmas
 pub mod ReadBackLemmas
 pub mod ReadExamples
+pub mod SomeAnswerLemmas
 mod StripExamples
 pub mod TurnedLemmas
 pub mod WrittenLayoutLemmas

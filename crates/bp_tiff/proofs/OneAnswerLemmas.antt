@@ -34,13 +34,13 @@ pub record OneReading : Type 0 where
 
 -- ---- a strip
 
-abbrev HoldsIf : Bool → Coding → ℕ → ℕ → List ℕ → List (List Bool) → Type 0
+abbrev pub HoldsIf : Bool → Coding → ℕ → ℕ → List ℕ → List (List Bool) → Type 0
 HoldsIf coded c w n strip lines = elim coded [
   | true ↦ CodedHolds c w n strip lines
   | false ↦ PackedHolds c w n strip lines
 ]
 
-abbrev BreaksIf : Bool → Coding → ℕ → ℕ → ℕ → List ℕ → Rule → Type 0
+abbrev pub BreaksIf : Bool → Coding → ℕ → ℕ → ℕ → List ℕ → Rule → Type 0
 BreaksIf coded c w n first strip rule = elim coded [
   | true ↦ CodedBreaks c w n first strip rule
   | false ↦ PackedBreaks w n strip rule

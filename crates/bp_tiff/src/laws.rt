@@ -6,7 +6,7 @@ ghost use Rattle.bp_tiff.specs.declared.form.Form.{Form};
 ghost use Rattle.bp_tiff.specs.Read.{TiffReads, TiffAnswers};
 ghost use Rattle.bp_tiff.specs.Tiff.{tiff_of};
 
-use bp_t6::laws::{reading_law, strip_law, strip_size};
+use bp_t6::laws::{reading_law, some_answer, strip_law, strip_size};
 
 /// No two pages share a file, and no page has one file in both forms.
 pub fn one_page_a_file()
@@ -23,14 +23,16 @@ pub fn one_page_a_file()
     strip_size();
 }
 
-/// No file has two answers: no two pages, no two rules that it breaks first, and not one of each.
+/// Each file has one answer: one page, or else one rule that it breaks first.
 pub fn one_answer()
-    ensures { (bytes : List ℕ) (first second : Result Image Rule)
+    ensures some { (bytes : List ℕ) → (answer : Result Image Rule) × TiffAnswers bytes answer }
+    ensures only { (bytes : List ℕ) (first second : Result Image Rule)
         → TiffAnswers bytes first
         → TiffAnswers bytes second
         → first ≡ second }
 {
     reading_law();
+    some_answer();
 }
 
 /// What is written of a page, in either form, is read as that page and as no other.

@@ -23,10 +23,13 @@ use Rattle.bp_cli.specs.Commands.{CommandLine, Matter, burn, AlikeFor, ComesTo}
 
 -- ---- one outcome
 
-file_one : OneAnswer → (long : Bool) (bytes : List ℕ) (a b : Result Image Rule)
-    → elim long [ | true ↦ a ≡ Err (bare_rule kinds.FileTooLong) | false ↦ TiffAnswers bytes a ]
-    → elim long [ | true ↦ b ≡ Err (bare_rule kinds.FileTooLong) | false ↦ TiffAnswers bytes b ]
-    → a ≡ b
+abbrev ComesWith : BurnLine → Option BurnPaths → FileMap → Outcome → Type 0
+ComesWith b paths files o = elim paths [ | None ↦ o ≡ refused path_refused | Some ps ↦ BurnsAt b ps files o ]
+
+abbrev FileAnswersIf : Bool → List ℕ → Result Image Rule → Type 0
+FileAnswersIf long bytes answer = elim long [ | true ↦ answer ≡ Err (bare_rule kinds.FileTooLong) | false ↦ TiffAnswers bytes answer ]
+
+file_one : OneAnswer → (long : Bool) (bytes : List ℕ) (a b : Result Image Rule) → FileAnswersIf long bytes a → FileAnswersIf long bytes b → a ≡ b
 file_one one true bytes a b x y = x ∙ sym y
 file_one one false bytes a b x y = one bytes a b x y
 
@@ -38,15 +41,34 @@ burns_one : OneAnswer → (b : BurnLine) (paths : BurnPaths) (files : FileMap) (
 burns_one one b paths files o o' x y =
     sym x.gives ∙ ap (λ (a : Result Image Rule). burn_gives b.form paths.to (burn_read b.area a)) (path_one one (map.get files paths.from) x.answer y.answer x.found y.found) ∙ y.gives
 
-comes_one : OneAnswer → (b : BurnLine) (paths : Option BurnPaths) (files : FileMap) (o o' : Outcome)
-    → elim paths [ | None ↦ o ≡ refused path_refused | Some ps ↦ BurnsAt b ps files o ]
-    → elim paths [ | None ↦ o' ≡ refused path_refused | Some ps ↦ BurnsAt b ps files o' ]
-    → o ≡ o'
+comes_one : OneAnswer → (b : BurnLine) (paths : Option BurnPaths) (files : FileMap) (o o' : Outcome) → ComesWith b paths files o → ComesWith b paths files o' → o ≡ o'
 comes_one one b None files o o' x y = x ∙ sym y
 comes_one one b (Some paths) files o o' x y = burns_one one b paths files o o' x y
 
 pub one_outcome : OneAnswer → (c : CommandLine) (matter : Matter) (o o' : Outcome) → ComesTo c matter o → ComesTo c matter o' → o ≡ o'
 one_outcome one (burn b) matter o o' x y = comes_one one b (paths_of b) matter.files o o' x y
+
+-- ---- and there is one
+
+abbrev pub SomeAnswer : Type 0
+SomeAnswer = (bytes : List ℕ) → (answer : Result Image Rule) × TiffAnswers bytes answer
+
+some_file : SomeAnswer → (long : Bool) (bytes : List ℕ) → (answer : Result Image Rule) × FileAnswersIf long bytes answer
+some_file some true bytes = (Err (bare_rule kinds.FileTooLong), refl)
+some_file some false bytes = some bytes
+
+some_path : SomeAnswer → (found : Option (List ℕ)) → (answer : Result Image Rule) × PathAnswers found answer
+some_path some None = (Err (bare_rule kinds.FileAbsent), refl)
+some_path some (Some bytes) = some_file some (nat_lt FILE_LIMIT (length bytes)) bytes
+
+some_comes : SomeAnswer → (b : BurnLine) (paths : Option BurnPaths) (files : FileMap) → (o : Outcome) × ComesWith b paths files o
+some_comes some b None files = (refused path_refused, refl)
+some_comes some b (Some paths) files =
+    let found = some_path some (map.get files paths.from) in
+    (burn_gives b.form paths.to (burn_read b.area found.0), record { answer = found.0; found = found.1; gives = refl })
+
+pub some_outcome : SomeAnswer → (c : CommandLine) (matter : Matter) → (o : Outcome) × ComesTo c matter o
+some_outcome some (burn b) matter = some_comes some b (paths_of b) matter.files
 
 -- ---- two matters
 
@@ -91,9 +113,6 @@ burns_alike one b paths files files' o named alike at =
 
 abbrev paths_with : Option (List ℕ) → Option (List ℕ) → Option BurnPaths
 paths_with from to = from >>= λ f. to >>= λ t. Some (record { from = f; to = t })
-
-abbrev ComesWith : BurnLine → Option BurnPaths → FileMap → Outcome → Type 0
-ComesWith b paths files o = elim paths [ | None ↦ o ≡ refused path_refused | Some ps ↦ BurnsAt b ps files o ]
 
 comes_alike : OneAnswer → (b : BurnLine) (from to : Option (List ℕ)) (files files' : FileMap) (o : Outcome) → path_in b.from ≡ from → BurnAlike b files files' → ComesWith b (paths_with from to) files' o → ComesWith b (paths_with from to) files o
 comes_alike one b None to files files' o named alike comes = comes

@@ -1,22 +1,24 @@
 -- Lemmas of burn: from what a read of IN and the putting of the file gave to the outcome of the command.
-use Rattle.std.proofs.Common.{ℕ, ◌≡◌, ◌<◌, ◌≤◌, ◌+◌, Bool, true, false, cond, nat_lt, List, [], ◌∷◌, length, replicate, Option, Some, None, Result, Ok, Err, refl, sym, ap, subst, ◌∙◌, arith}
+use Rattle.std.proofs.Common.{ℕ, ◌≡◌, ◌<◌, ◌≤◌, ◌+◌, Bool, true, false, cond, not, nat_lt, List, [], ◌∷◌, length, replicate, Option, Some, None, Result, Ok, Err, refl, sym, ap, subst, ◌∙◌, arith}
 use Rattle.std.specs.Prelude.{IfSome, IsSomeAnd}
-use Rattle.std.specs.Option.{ok_or}
 use Rattle.std.specs.Result.{IsErr, IsErrAnd}
 use Rattle.std.specs.Ordering.{nat_cmp, eq_by_cmp}
 use Rattle.std.specs.Cmp.Lexicographic.{slice_cmp, texts_ties, nat_list_cmp_total}
 use Rattle.std.specs.FinMap as map
-use Rattle.std.proofs.lemmas.Bool.{cond-true, cond-false, lt-ltb, le-ltb}
+use Rattle.std.proofs.lemmas.Bool.{lt-ltb, le-ltb}
 use Rattle.std.proofs.lemmas.Slice.Eq.{bytes_eq-Decides}
 use Rattle.std.proofs.lemmas.List.{length-replicate}
 use Rattle.bp_core.specs.declared.rules.Rule.{Rule}
 use Rattle.bp_core.specs.declared.rules.RuleKind.TheVariants as kinds
 use Rattle.bp_core.specs.Rectangle.{lies_inside}
-use Rattle.bp_core.specs.Rules.{bare_rule}
+use Rattle.bp_core.specs.Rules.{bare_rule, page_limit_rule}
 use Rattle.bp_rows.specs.Image.{Image}
 use Rattle.bp_rows.specs.Burned.{burned}
 use Rattle.bp_tiff.specs.Tiff.{tiff_of}
-use Rattle.bp_tiff.specs.Plain.{plain_answer, plain_page, form_not_built}
+use Rattle.bp_tiff.specs.PageRules.{IsPageRule}
+use Rattle.bp_tiff.specs.PageRules as page
+use Rattle.bp_tiff.specs.Read.{TiffReads, TiffFault, TiffAnswers}
+use Rattle.bp_t6.specs.Strips.{IfRule}
 use Rattle.bp_outside.specs.Source.{FileMap, SourceView, ReadOver, after_read}
 use Rattle.bp_outside.specs.Folder.{FolderView, PutsPart, after_refusal, file, with_file}
 use Rattle.bp_outside.specs.declared.refusals.ReadRefusal.{ReadRefusal}
@@ -26,10 +28,16 @@ use Rattle.bp_outside.specs.declared.refusals.FolderRefusal.TheVariants as folde
 use Rattle.bp_cli.specs.declared.stops.Stop.{Stop}
 use Rattle.bp_cli.specs.declared.stops.Stop.TheVariants as stops
 use Rattle.bp_cli.specs.declared.burn.TheConstants.{FILE_LIMIT}
-use Rattle.bp_cli.specs.Endings.{Outcome, done, refused, Ending, World, world, after_kind, AddsPart, Makes, Ends, partly, untouched}
-use Rattle.bp_cli.specs.Burn.{BurnLine, lacks_a_side, burn_read, burn_answer, burn_done, burn_gives, burned_line}
+use Rattle.bp_cli.specs.Endings.{Outcome, done, refused, Ending, World, world, after_kind, failed_folder, AddsPart, Makes, Ends, partly, untouched}
+use Rattle.bp_core.specs.declared.rectangle.Rect.{Rect}
+use Rattle.bp_core.specs.declared.rules.RuleKind.{RuleKind}
+use Rattle.bp_core.specs.declared.refusals.Refusal.{Refusal}
+use Rattle.bp_core.specs.declared.refusals.Refusal.TheVariants as refusals
+use Rattle.bp_rows.specs.Limits.{sides_are_imported}
+use Rattle.bp_cli.specs.Burn.{BurnLine, BurnPaths, paths_of, path_refused, lacks_a_side, burn_page, burn_read, FileAnswers, PathAnswers, BurnsAt, BurnComes, burn_done, burn_gives, counted_line}
+use Rattle.bp_cli.specs.Burning.{page_put, NamesPaths, MeetsPageRule, BurnsBytes, PutsPage}
 use Rattle.bp_cli.specs.Commands.{burn, IsOutcome}
-use Rattle.bp_cli.specs.Stops.{StopsForFolder, StopAnswers, read_stop}
+use Rattle.bp_cli.specs.Stops.{StopsFor, StopsForFolder, StopAnswers, read_stop}
 
 -- ---- files that a source doesn't tell
 
@@ -47,125 +55,211 @@ get-one_file path None = map.get-from_entries nat_list_cmp_total [] path
 get-one_file path (Some bytes) =
     map.get-from_entries nat_list_cmp_total ((path, bytes) ∷ []) path ∙ ap (λ b. cond b (Some bytes) None) (same_path path)
 
-outcome_at : (b : BurnLine) (before : World) (found : Option (List ℕ)) (told : Option FileMap) → before.source.files ≡ told → IfSome told (λ files. map.get files b.from ≡ found) → IsOutcome (burn b) before (burn_gives b (burn_answer b found))
-outcome_at b before found (Some files) is there =
+-- what comes of an answer at IN, where the line names its paths
+comes_of : (b : BurnLine) (paths : BurnPaths) (files : FileMap) (outcome : Outcome) → paths_of b ≡ Some paths → BurnsAt b paths files outcome → BurnComes b files outcome
+comes_of b paths files outcome named at =
+    let P : Option BurnPaths → Type 0 = λ o. elim o [ | None ↦ outcome ≡ refused path_refused | Some ps ↦ BurnsAt b ps files outcome ] in
+    subst P (sym named) at
+
+outcome_at : (b : BurnLine) (paths : BurnPaths) (before : World) (found : Option (List ℕ)) (answer : Result Image Rule) (told : Option FileMap) → paths_of b ≡ Some paths → PathAnswers found answer → before.source.files ≡ told → IfSome told (λ files. map.get files paths.from ≡ found) → IsOutcome (burn b) before (burn_gives b.form paths.to (burn_read b.area answer))
+outcome_at b paths before found answer (Some files) named answers is there =
     let P : Option FileMap → Type 0 = λ o. IfSome o (λ t. t ≡ files) in
-    record { matter = record { files = files }; told = subst P (sym is) refl; value = ap (λ f. burn_gives b (burn_answer b f)) there }
-outcome_at b before found None is there =
-    let P : Option FileMap → Type 0 = λ o. IfSome o (λ t. t ≡ one_file b.from found) in
     record {
-      matter = record { files = one_file b.from found };
+      matter = record { files = files };
+      told = subst P (sym is) refl;
+      comes = comes_of b paths files _ named (record { answer = answer; found = subst (λ (f : Option (List ℕ)). PathAnswers f answer) (sym there) answers; gives = refl });
+    }
+outcome_at b paths before found answer None named answers is there =
+    let P : Option FileMap → Type 0 = λ o. IfSome o (λ t. t ≡ one_file paths.from found) in
+    record {
+      matter = record { files = one_file paths.from found };
       told = subst P (sym is) tt;
-      value = ap (λ f. burn_gives b (burn_answer b f)) (get-one_file b.from found);
+      comes = comes_of b paths (one_file paths.from found) _ named (record { answer = answer; found = subst (λ (f : Option (List ℕ)). PathAnswers f answer) (sym (get-one_file paths.from found)) answers; gives = refl });
     }
 
--- the outcome over what stands at IN, by what it is
-outcome_is : (b : BurnLine) (before : World) (found : Option (List ℕ)) (outcome : Outcome) → IfSome before.source.files (λ files. map.get files b.from ≡ found) → burn_gives b (burn_answer b found) ≡ outcome → IsOutcome (burn b) before outcome
-outcome_is b before found outcome there is =
-    let o = outcome_at b before found before.source.files refl there in
-    record { matter = o.matter; told = o.told; value = o.value ∙ is }
+-- the outcome over what stands at IN, by its answer
+outcome_is : (b : BurnLine) (paths : BurnPaths) (before : World) (found : Option (List ℕ)) (answer : Result Image Rule) (outcome : Outcome) → paths_of b ≡ Some paths → PathAnswers found answer → IfSome before.source.files (λ files. map.get files paths.from ≡ found) → burn_gives b.form paths.to (burn_read b.area answer) ≡ outcome → IsOutcome (burn b) before outcome
+outcome_is b paths before found answer outcome named answers there is =
+    subst (IsOutcome (burn b) before) is (outcome_at b paths before found answer before.source.files named answers refl there)
 
--- ---- what the burned page's file, or its rule, comes from
+-- ---- a word that names no path
+
+no_path_over : (b : BurnLine) (files : FileMap) → paths_of b ≡ None → BurnComes b files (refused path_refused)
+no_path_over b files none =
+    let P : Option BurnPaths → Type 0 = λ o. elim o [ | None ↦ refused path_refused ≡ refused path_refused | Some ps ↦ BurnsAt b ps files (refused path_refused) ] in
+    subst P (sym none) refl
+
+no_path_outcome : (b : BurnLine) (before : World) (told : Option FileMap) → paths_of b ≡ None → before.source.files ≡ told → IsOutcome (burn b) before (refused path_refused)
+no_path_outcome b before (Some files) none is =
+    let P : Option FileMap → Type 0 = λ o. IfSome o (λ t. t ≡ files) in
+    record { matter = record { files = files }; told = subst P (sym is) refl; comes = no_path_over b files none }
+no_path_outcome b before None none is =
+    let P : Option FileMap → Type 0 = λ o. IfSome o (λ t. t ≡ one_file [] None) in
+    record { matter = record { files = one_file [] None }; told = subst P (sym is) tt; comes = no_path_over b (one_file [] None) none }
+
+-- ---- what the burned page, or its rule, comes from
+
+-- the rules of a page file raise no count
+page_rule_calm : (source : SourceView) (kind : RuleKind) → IsPageRule kind → after_kind source kind ≡ source
+page_rule_calm source kind page.sides = refl
+page_rule_calm source kind page.short_data = refl
+page_rule_calm source kind page.early_end = refl
+page_rule_calm source kind page.extension = refl
+page_rule_calm source kind page.bad_code = refl
+page_rule_calm source kind page.bad_place = refl
+page_rule_calm source kind page.head = refl
+page_rule_calm source kind page.bounds = refl
+page_rule_calm source kind page.missing = refl
+page_rule_calm source kind page.type = refl
+page_rule_calm source kind page.compression = refl
+page_rule_calm source kind page.meaning = refl
+page_rule_calm source kind page.many_pages = refl
+page_rule_calm source kind page.strips = refl
 
 same_kind : (source : SourceView) (known rule : Rule) → known ≡ rule → after_kind source known.kind ≡ source → after_kind source rule.kind ≡ source
 same_kind source known rule same kept = ap (λ (r : Rule). after_kind source r.kind) (sym same) ∙ kept
 
-same_rule : (r s : Rule) → let left : Result (List ℕ) Rule = Err r in left ≡ Err s → r ≡ s
+same_rule : (r s : Rule) → let left : Result Image Rule = Err r in left ≡ Err s → r ≡ s
 same_rule r s same = cc
 
-page_rule : (source : SourceView) (s t : Bool) (x : List ℕ) (rule : Rule) → cond s (Err (bare_rule kinds.BoxShape)) (cond t (Ok x) (Err (bare_rule kinds.BoxOutside))) ≡ Err rule → after_kind source rule.kind ≡ source
-page_rule source true t x rule broken = same_kind source (bare_rule kinds.BoxShape) rule (same_rule (bare_rule kinds.BoxShape) rule broken) refl
-page_rule source false true x rule broken = cc
-page_rule source false false x rule broken = same_kind source (bare_rule kinds.BoxOutside) rule (same_rule (bare_rule kinds.BoxOutside) rule broken) refl
+-- nor do those that the page and its box meet
+box_rule : (source : SourceView) (r s t : Bool) (limit : Rule) (x : Image) (rule : Rule) → after_kind source limit.kind ≡ source → cond r (Err limit) (cond s (Err (bare_rule kinds.BoxShape)) (cond t (Ok x) (Err (bare_rule kinds.BoxOutside)))) ≡ Err rule → after_kind source rule.kind ≡ source
+box_rule source true s t limit x rule calm broken = same_kind source limit rule (same_rule limit rule broken) calm
+box_rule source false true t limit x rule calm broken = same_kind source (bare_rule kinds.BoxShape) rule (same_rule (bare_rule kinds.BoxShape) rule broken) refl
+box_rule source false false true limit x rule calm broken = cc
+box_rule source false false false limit x rule calm broken = same_kind source (bare_rule kinds.BoxOutside) rule (same_rule (bare_rule kinds.BoxOutside) rule broken) refl
 
--- the rules that a read file breaks raise no count
-kept_counts : (b : BurnLine) (source : SourceView) (o : Option Image) (rule : Rule) → burn_read b (ok_or o form_not_built) ≡ Err rule → after_kind source rule.kind ≡ source
-kept_counts b source None rule broken = same_kind source form_not_built rule (same_rule form_not_built rule broken) refl
-kept_counts b source (Some p) rule broken =
-    page_rule source (lacks_a_side b.area) (lies_inside b.area p.width p.height) (tiff_of b.form (burned p (b.area ∷ []))) rule broken
+page_met : (area : Rect) (bytes : List ℕ) (p : Image) (rule : Rule) → TiffReads bytes p → burn_page area p ≡ Err rule → MeetsPageRule area bytes rule
+page_met area bytes p rule reads met = record {
+  comes = record { answer = Ok p; found = reads; gives = met };
+  calm = λ source. box_rule source (not (sides_are_imported p.width p.height)) (lacks_a_side area) (lies_inside area p.width p.height)
+      (page_limit_rule p.width p.height) (burned p (area ∷ [])) rule refl met;
+}
 
--- the answer over a file that isn't too long
-pub answer_short : (b : BurnLine) (bytes : List ℕ) → length bytes ≤ FILE_LIMIT → burn_answer b (Some bytes) ≡ burn_read b (plain_answer bytes)
-answer_short b bytes short = cond-false (nat_lt FILE_LIMIT (length bytes)) (Err (bare_rule kinds.FileTooLong)) (burn_read b (plain_answer bytes)) (le-ltb FILE_LIMIT (length bytes) short)
+-- a page was read, and the box burned or a rule met
+pub page_burned : (area : Rect) (bytes : List ℕ) (p : Image) (r : Result Image Rule) (s : Result Image Stop) → TiffReads bytes p → r ≡ burn_page area p → StopAnswers s r → BurnsBytes area bytes s
+page_burned area bytes p r (Ok q) reads is answers = record { answer = Ok p; found = reads; gives = sym is ∙ answers }
+page_burned area bytes p r (Err (stops.Broken rule)) reads is answers = page_met area bytes p rule reads (sym is ∙ answers)
+page_burned area bytes p r (Err stops.OutOfMemory) reads is answers = tt
+page_burned area bytes p r (Err stops.WordsRefused) reads is answers = answers
+page_burned area bytes p r (Err stops.SourceFault) reads is answers = answers
+page_burned area bytes p r (Err stops.FolderFault) reads is answers = answers
 
-answer_long : (b : BurnLine) (bytes : List ℕ) → FILE_LIMIT < length bytes → burn_answer b (Some bytes) ≡ Err (bare_rule kinds.FileTooLong)
-answer_long b bytes long = cond-true (nat_lt FILE_LIMIT (length bytes)) (Err (bare_rule kinds.FileTooLong)) (burn_read b (plain_answer bytes)) (lt-ltb FILE_LIMIT (length bytes) long)
+-- a file was refused
+pub file_refused : (area : Rect) (bytes : List ℕ) (refusal : Refusal) (stop : Stop) → IfRule (TiffFault bytes) refusal → IfRule (λ rule. IsPageRule rule.kind) refusal → StopsFor refusal stop → BurnsBytes area bytes (Err stop)
+file_refused area bytes (refusals.Rule rule) stop fault kind is =
+    subst (λ (s : Stop). BurnsBytes area bytes (Err s)) (sym is)
+    (record { comes = record { answer = Err rule; found = fault; gives = refl }; calm = λ source. page_rule_calm source rule.kind kind })
+file_refused area bytes refusals.OutOfMemory stop fault kind is =
+    subst (λ (s : Stop). BurnsBytes area bytes (Err s)) (sym is) tt
 
-pub made_file : (b : BurnLine) (before : World) (source' : SourceView) (bytes : List ℕ) (r : Result (List ℕ) Stop) → length bytes ≤ FILE_LIMIT → IfSome before.source.files (λ files. map.get files b.from ≡ Some bytes) → source' ≡ before.source → StopAnswers r (burn_read b (plain_answer bytes)) → Makes (IsOutcome (burn b) before) (burn_done b) before.source r source'
-made_file b before source' bytes (Ok made) short there stays answered =
-    (outcome_is b before (Some bytes) (burn_done b made) there (ap (burn_gives b) (answer_short b bytes short ∙ answered)), stays)
-made_file b before source' bytes (Err (stops.Broken rule)) short there stays answered = (
-  outcome_is b before (Some bytes) (refused rule) there (ap (burn_gives b) (answer_short b bytes short ∙ answered)),
-  stays ∙ sym (kept_counts b before.source (plain_page bytes) rule answered),
+-- a file that isn't too long answers as its bytes do
+short_answers : (bytes : List ℕ) (answer : Result Image Rule) → length bytes ≤ FILE_LIMIT → TiffAnswers bytes answer → FileAnswers bytes answer
+short_answers bytes answer short is =
+    let P : Bool → Type 0 = λ long. elim long [ | true ↦ answer ≡ Err (bare_rule kinds.FileTooLong) | false ↦ TiffAnswers bytes answer ] in
+    subst P (sym (le-ltb FILE_LIMIT (length bytes) short)) is
+
+long_answers : (bytes : List ℕ) → FILE_LIMIT < length bytes → FileAnswers bytes (Err (bare_rule kinds.FileTooLong))
+long_answers bytes long =
+    let P : Bool → Type 0 = λ b. elim b [ | true ↦ Err (bare_rule kinds.FileTooLong) ≡ Err (bare_rule kinds.FileTooLong) | false ↦ TiffAnswers bytes (Err (bare_rule kinds.FileTooLong)) ] in
+    subst P (sym (lt-ltb FILE_LIMIT (length bytes) long)) refl
+
+pub made_page : (b : BurnLine) (paths : BurnPaths) (before : World) (source' : SourceView) (bytes : List ℕ) (r : Result Image Stop) → paths_of b ≡ Some paths → length bytes ≤ FILE_LIMIT → IfSome before.source.files (λ files. map.get files paths.from ≡ Some bytes) → source' ≡ before.source → BurnsBytes b.area bytes r → Makes (IsOutcome (burn b) before) (page_put b.form paths.to) before.source r source'
+made_page b paths before source' bytes (Ok p) named short there stays it =
+    (outcome_is b paths before (Some bytes) it.answer (page_put b.form paths.to p) named (short_answers bytes it.answer short it.found) there (ap (burn_gives b.form paths.to) it.gives), stays)
+made_page b paths before source' bytes (Err (stops.Broken rule)) named short there stays it = (
+  outcome_is b paths before (Some bytes) it.comes.answer (refused rule) named (short_answers bytes it.comes.answer short it.comes.found) there (ap (burn_gives b.form paths.to) it.comes.gives),
+  stays ∙ sym (it.calm before.source),
 )
-made_file b before source' bytes (Err stops.OutOfMemory) short there stays answered = stays
-made_file b before source' bytes (Err stops.WordsRefused) short there stays answered = answered
-made_file b before source' bytes (Err stops.SourceFault) short there stays answered = absurd answered
-made_file b before source' bytes (Err stops.FolderFault) short there stays answered = answered
+made_page b paths before source' bytes (Err stops.OutOfMemory) named short there stays it = stays
+made_page b paths before source' bytes (Err stops.WordsRefused) named short there stays it = it
+made_page b paths before source' bytes (Err stops.SourceFault) named short there stays it = absurd it
+made_page b paths before source' bytes (Err stops.FolderFault) named short there stays it = it
 
 -- a list longer than a number
 longer : (n : ℕ) → (bytes : List ℕ) × (n < length bytes)
 longer n = let zero_byte : ℕ = 0 in (replicate (n + 1) zero_byte, omega (arith, length-replicate (n + 1) zero_byte))
 
-too_long_there : (b : BurnLine) (before : World) (files : FileMap) (found : Option (List ℕ)) → before.source.files ≡ Some files → map.get files b.from ≡ found → IsSomeAnd found (λ bytes. FILE_LIMIT < length bytes) → IsOutcome (burn b) before (refused (bare_rule kinds.FileTooLong))
-too_long_there b before files None is get long = elim long [ ]
-too_long_there b before files (Some bytes) is get long =
-    let P : Option FileMap → Type 0 = λ o. IfSome o (λ fs. map.get fs b.from ≡ Some bytes) in
-    outcome_is b before (Some bytes) (refused (bare_rule kinds.FileTooLong)) (subst P (sym is) get) (ap (burn_gives b) (answer_long b bytes long))
+abbrev too_long_rule : Rule
+too_long_rule = bare_rule kinds.FileTooLong
 
-too_long : (b : BurnLine) (before : World) (told : Option FileMap) → before.source.files ≡ told → IfSome told (λ files. IsSomeAnd (map.get files b.from) (λ bytes. FILE_LIMIT < length bytes)) → IsOutcome (burn b) before (refused (bare_rule kinds.FileTooLong))
-too_long b before (Some files) is long = too_long_there b before files (map.get files b.from) is refl long
-too_long b before None is long =
-    let P : Option FileMap → Type 0 = λ o. IfSome o (λ fs. map.get fs b.from ≡ Some (longer FILE_LIMIT).0) in
-    outcome_is b before (Some (longer FILE_LIMIT).0) (refused (bare_rule kinds.FileTooLong)) (subst P (sym is) tt)
-    (ap (burn_gives b) (answer_long b (longer FILE_LIMIT).0 (longer FILE_LIMIT).1))
+too_long_there : (b : BurnLine) (paths : BurnPaths) (before : World) (files : FileMap) (found : Option (List ℕ)) → paths_of b ≡ Some paths → before.source.files ≡ Some files → map.get files paths.from ≡ found → IsSomeAnd found (λ bytes. FILE_LIMIT < length bytes) → IsOutcome (burn b) before (refused too_long_rule)
+too_long_there b paths before files None named is get long = elim long [ ]
+too_long_there b paths before files (Some bytes) named is get long =
+    let P : Option FileMap → Type 0 = λ o. IfSome o (λ fs. map.get fs paths.from ≡ Some bytes) in
+    outcome_is b paths before (Some bytes) (Err too_long_rule) (refused too_long_rule) named (long_answers bytes long) (subst P (sym is) get) refl
 
-pub refused_read : (b : BurnLine) (before : World) (source' : SourceView) (refusal : ReadRefusal) → IfSome before.source.files (ReadOver b.from FILE_LIMIT (Err refusal)) → source' ≡ after_read before.source (Err refusal) → Makes (IsOutcome (burn b) before) (burn_done b) before.source (Err (read_stop refusal)) source'
-refused_read b before source' reads.Absent there after = (outcome_is b before None (refused (bare_rule kinds.FileAbsent)) there refl, after)
-refused_read b before source' reads.TooLong there after = (too_long b before before.source.files refl there, after)
-refused_read b before source' reads.Failed there after = after
-refused_read b before source' reads.OutOfMemory there after = after
+too_long : (b : BurnLine) (paths : BurnPaths) (before : World) (told : Option FileMap) → paths_of b ≡ Some paths → before.source.files ≡ told → IfSome told (λ files. IsSomeAnd (map.get files paths.from) (λ bytes. FILE_LIMIT < length bytes)) → IsOutcome (burn b) before (refused too_long_rule)
+too_long b paths before (Some files) named is long = too_long_there b paths before files (map.get files paths.from) named is refl long
+too_long b paths before None named is long =
+    let P : Option FileMap → Type 0 = λ o. IfSome o (λ fs. map.get fs paths.from ≡ Some (longer FILE_LIMIT).0) in
+    outcome_is b paths before (Some (longer FILE_LIMIT).0) (Err too_long_rule) (refused too_long_rule) named (long_answers (longer FILE_LIMIT).0 (longer FILE_LIMIT).1) (subst P (sym is) tt) refl
+
+pub refused_read : (b : BurnLine) (paths : BurnPaths) (before : World) (source' : SourceView) (refusal : ReadRefusal) → paths_of b ≡ Some paths → IfSome before.source.files (ReadOver paths.from FILE_LIMIT (Err refusal)) → source' ≡ after_read before.source (Err refusal) → Makes (IsOutcome (burn b) before) (page_put b.form paths.to) before.source (Err (read_stop refusal)) source'
+refused_read b paths before source' reads.Absent named there after = (outcome_is b paths before None (Err (bare_rule kinds.FileAbsent)) (refused (bare_rule kinds.FileAbsent)) named refl there refl, after)
+refused_read b paths before source' reads.TooLong named there after = (too_long b paths before before.source.files named refl there, after)
+refused_read b paths before source' reads.Failed named there after = after
+refused_read b paths before source' reads.OutOfMemory named there after = after
 
 -- ---- what the putting of the file leaves
 
-only_part : (b : BurnLine) (folder folder' : FolderView) (bytes : List ℕ) → PutsPart folder b.to bytes folder' → AddsPart folder (file b.to bytes ∷ []) folder'
-only_part b folder folder' bytes part = record { before = []; next = file b.to bytes; rest = []; files_are = refl; part = part }
+only_part : (to : List ℕ) (folder folder' : FolderView) (bytes : List ℕ) → PutsPart folder to bytes folder' → AddsPart folder (file to bytes ∷ []) folder'
+only_part to folder folder' bytes part = record { before = []; next = file to bytes; rest = []; files_are = refl; part = part }
 
--- the work of burn, by what putting its file gave
-pub put_result : (b : BurnLine) (before : World) (source' : SourceView) (folder' : FolderView) (bytes : List ℕ) (refusal : FolderRefusal) (stop : Stop) → IsOutcome (burn b) before (burn_done b bytes) → source' ≡ before.source → StopsForFolder refusal stop → PutsPart (after_refusal before.folder refusal) b.to bytes folder' → Ends (IsOutcome (burn b) before) before (Err stop) (world source' folder')
-put_result b before source' folder' bytes folders.Failed stop outcome stays stops_so part =
-    let P : Stop → Type 0 = λ s. Ends (IsOutcome (burn b) before) before (Err s) (world source' folder') in
-    subst P (sym stops_so) (record {
-      line = burned_line bytes;
-      files = file b.to bytes ∷ [];
-      outcome = outcome;
-      source = stays;
-      folder = only_part b (after_refusal before.folder folders.Failed) folder' bytes part;
-    })
-put_result b before source' folder' bytes folders.OutOfMemory stop outcome stays stops_so part =
-    let P : Stop → Type 0 = λ s. Ends (IsOutcome (burn b) before) before (Err s) (world source' folder') in
-    subst P (sym stops_so) (partly (burned_line bytes) (file b.to bytes ∷ []) outcome stays (only_part b before.folder folder' bytes part))
+-- the file was put, or a part of it, or nothing
+pub put_ends : (b : BurnLine) (to : List ℕ) (before : World) (source' : SourceView) (folder' : FolderView) (bytes : List ℕ) (r : Ending) → IsOutcome (burn b) before (burn_done to bytes) → source' ≡ before.source → PutsPage to bytes before.folder r folder' → Ends (IsOutcome (burn b) before) before r (world source' folder')
+put_ends b to before source' folder' bytes (Ok line) outcome stays put = record {
+  files = file to bytes ∷ [];
+  outcome = subst (λ (l : List ℕ). IsOutcome (burn b) before (done l (file to bytes ∷ []))) (sym put.0) outcome;
+  source = stays;
+  folder = put.1;
+}
+put_ends b to before source' folder' bytes (Err stops.FolderFault) outcome stays put = record {
+  line = counted_line (length bytes);
+  files = file to bytes ∷ [];
+  outcome = outcome;
+  source = stays;
+  folder = only_part to (failed_folder before.folder) folder' bytes put;
+}
+put_ends b to before source' folder' bytes (Err stops.OutOfMemory) outcome stays put =
+    partly (counted_line (length bytes)) (file to bytes ∷ []) outcome stays (only_part to before.folder folder' bytes put)
+put_ends b to before source' folder' bytes (Err stops.WordsRefused) outcome stays put = put
+put_ends b to before source' folder' bytes (Err (stops.Broken rule)) outcome stays put = absurd put
+put_ends b to before source' folder' bytes (Err stops.SourceFault) outcome stays put = absurd put
 
--- what the steps before the file leave, where they stopped
-made_stop : (b : BurnLine) (before : World) (source' : SourceView) (stop : Stop) → Makes (IsOutcome (burn b) before) (burn_done b) before.source (Err stop) source' → Ends (IsOutcome (burn b) before) before (Err stop) (world source' before.folder)
-made_stop b before source' stops.WordsRefused made = absurd made
-made_stop b before source' (stops.Broken rule) made = record { outcome = made.0; source = made.1; folder = refl }
-made_stop b before source' stops.SourceFault made = record { source = made; folder = refl }
-made_stop b before source' stops.FolderFault made = absurd made
-made_stop b before source' stops.OutOfMemory made = untouched made refl
+-- what putting a file in two parts gives
+pub put_refused : (to bytes : List ℕ) (folder folder' : FolderView) (refusal : FolderRefusal) (stop : Stop) → StopsForFolder refusal stop → PutsPart (after_refusal folder refusal) to bytes folder' → PutsPage to bytes folder (Err stop) folder'
+put_refused to bytes folder folder' folders.Failed stop is part = subst (λ (s : Stop). PutsPage to bytes folder (Err s) folder') (sym is) part
+put_refused to bytes folder folder' folders.OutOfMemory stop is part = subst (λ (s : Stop). PutsPage to bytes folder (Err s) folder') (sym is) part
+
+-- ---- where the steps before the file stopped
+
+made_stop : (b : BurnLine) (gives : Image → Outcome) (before : World) (source' : SourceView) (stop : Stop) → Makes (IsOutcome (burn b) before) gives before.source (Err stop) source' → Ends (IsOutcome (burn b) before) before (Err stop) (world source' before.folder)
+made_stop b gives before source' stops.WordsRefused made = absurd made
+made_stop b gives before source' (stops.Broken rule) made = record { outcome = made.0; source = made.1; folder = refl }
+made_stop b gives before source' stops.SourceFault made = record { source = made; folder = refl }
+made_stop b gives before source' stops.FolderFault made = absurd made
+made_stop b gives before source' stops.OutOfMemory made = untouched made refl
 
 -- the same, by the result that a `?` hands on
-pub made_stops : (b : BurnLine) (before : World) (source' : SourceView) (stop : Stop) (r : Ending) → IsErr r → IsErrAnd r (λ s. s ≡ stop) → Makes (IsOutcome (burn b) before) (burn_done b) before.source (Err stop) source' → Ends (IsOutcome (burn b) before) before r (world source' before.folder)
-made_stops b before source' stop (Ok line) is same made = absurd same
-made_stops b before source' stop (Err s) is same made =
-    subst (λ (t : Stop). Ends (IsOutcome (burn b) before) before (Err t) (world source' before.folder)) (sym same) (made_stop b before source' stop made)
+pub made_stops : (b : BurnLine) (gives : Image → Outcome) (before : World) (source' : SourceView) (stop : Stop) (r : Ending) → IsErr r → IsErrAnd r (λ s. s ≡ stop) → Makes (IsOutcome (burn b) before) gives before.source (Err stop) source' → Ends (IsOutcome (burn b) before) before r (world source' before.folder)
+made_stops b gives before source' stop (Ok line) is same made = absurd same
+made_stops b gives before source' stop (Err s) is same made =
+    subst (λ (t : Stop). Ends (IsOutcome (burn b) before) before (Err t) (world source' before.folder)) (sym same) (made_stop b gives before source' stop made)
 
--- the file was put
-pub put_whole : (b : BurnLine) (before : World) (source' : SourceView) (folder' : FolderView) (bytes line : List ℕ) → IsOutcome (burn b) before (burn_done b bytes) → source' ≡ before.source → line ≡ burned_line bytes → folder' ≡ with_file before.folder b.to bytes false → Ends (IsOutcome (burn b) before) before (Ok line) (world source' folder')
-put_whole b before source' folder' bytes line outcome stays line_is put =
-    record {
-      files = file b.to bytes ∷ [];
-      outcome = subst (λ (l : List ℕ). IsOutcome (burn b) before (done l (file b.to bytes ∷ []))) (sym line_is) outcome;
-      source = stays;
-      folder = put;
-    }
+-- a word named no path
+path_stop : (b : BurnLine) (before : World) (stop : Stop) → NamesPaths b (Err stop) → Ends (IsOutcome (burn b) before) before (Err stop) before
+path_stop b before stops.WordsRefused named = absurd named
+path_stop b before (stops.Broken rule) named = record {
+  outcome = subst (λ (r : Rule). IsOutcome (burn b) before (refused r)) (sym named.1) (no_path_outcome b before before.source.files named.0 refl);
+  source = sym (same_kind before.source path_refused rule (sym named.1) refl);
+  folder = refl;
+}
+path_stop b before stops.SourceFault named = absurd named
+path_stop b before stops.FolderFault named = absurd named
+path_stop b before stops.OutOfMemory named = untouched refl refl
+
+pub path_stops : (b : BurnLine) (before : World) (stop : Stop) (r : Ending) → IsErr r → IsErrAnd r (λ s. s ≡ stop) → NamesPaths b (Err stop) → Ends (IsOutcome (burn b) before) before r before
+path_stops b before stop (Ok line) is same named = absurd same
+path_stops b before stop (Err s) is same named =
+    subst (λ (t : Stop). Ends (IsOutcome (burn b) before) before (Err t) before) (sym same) (path_stop b before stop named)

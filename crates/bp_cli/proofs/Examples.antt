@@ -4,16 +4,17 @@ use Rattle.std.specs.Prelude.{codes}
 use Rattle.std.specs.Fmt.{digits}
 use Rattle.std.specs.Str.{chars}
 use Rattle.bp_core.specs.declared.rules.RuleKind.TheVariants as kinds
-use Rattle.bp_core.specs.Rules.{bare_rule}
+use Rattle.bp_core.specs.Rules.{bare_rule, page_limit_rule}
 use Rattle.bp_outside.specs.Folder.{file}
 use Rattle.bp_rows.specs.declared.resolution.Unit.TheVariants as units
 use Rattle.bp_rows.specs.Image.{Image}
 use Rattle.bp_tiff.specs.declared.form.Form.TheVariants.{Plain, G4}
 use Rattle.bp_tiff.specs.Tiff.{tiff_of}
-use Rattle.bp_tiff.specs.Plain.{form_not_built}
+use Rattle.bp_tiff.specs.Rules.{tiff_head}
 use Rattle.bp_cli.specs.declared.stops.Stop.TheVariants as stops
 use Rattle.bp_cli.specs.Words.{number_of, is_bad_word}
-use Rattle.bp_cli.specs.Burn.{BurnLine, burn_answer, burn_gives}
+use Rattle.bp_core.specs.declared.rectangle.Rect.{Rect}
+use Rattle.bp_cli.specs.Burn.{BurnLine, PathAnswers, burn_page, burn_read, burn_gives, paths_of}
 use Rattle.bp_cli.specs.Commands.{burn, command_of}
 use Rattle.bp_cli.specs.Endings.{done, status_of, text_of}
 use Rattle.bp_cli.specs.Runs.{all_statuses}
@@ -89,32 +90,50 @@ page black =
       rows = (black ∷ black ∷ black ∷ black ∷ black ∷ black ∷ black ∷ black ∷ []) ∷ [];
     }
 
-burned_whole : burn_answer (box 0 0 8 1) (Some (tiff_of Plain (page false))) ≡ Ok (tiff_of Plain (page true))
-unfolding box page
+whole_box : Rect
+whole_box = record { left = 0; top = 0; width = 8; height = 1 }
+
+burned_whole : burn_page whole_box (page false) ≡ Ok (page true)
+unfolding whole_box page
 burned_whole = refl
 
-burned_to_g4 : burn_answer (record (box 0 0 8 1) { form = G4 }) (Some (tiff_of Plain (page false))) ≡ Ok (tiff_of G4 (page true))
-unfolding box page
-burned_to_g4 = refl
-
-outside : burn_answer (box 1 0 8 1) (Some (tiff_of Plain (page false))) ≡ Err (bare_rule kinds.BoxOutside)
-unfolding box page
+outside : burn_page (record whole_box { left = 1 }) (page false) ≡ Err (bare_rule kinds.BoxOutside)
+unfolding whole_box page
 outside = refl
 
 -- a box without a width that lies outside as well
-no_width : burn_answer (box 9 0 0 1) (Some (tiff_of Plain (page false))) ≡ Err (bare_rule kinds.BoxShape)
-unfolding box page
+no_width : burn_page (record whole_box { left = 9; width = 0 }) (page false) ≡ Err (bare_rule kinds.BoxShape)
+unfolding whole_box page
 no_width = refl
 
-no_page : burn_answer (box 0 0 0 1) (Some (codes "x")) ≡ Err form_not_built
-unfolding box
+-- a page that no import may have, and a box without a width
+too_high : burn_page (record whole_box { width = 0 }) (record (page false) { height = 20001 }) ≡ Err (page_limit_rule 8 20001)
+unfolding whole_box page
+too_high = refl
+
+-- what a file breaks comes before what the box breaks
+no_page : burn_read (record whole_box { width = 0 }) (Err tiff_head) ≡ Err tiff_head
+unfolding whole_box
 no_page = refl
 
-no_file : burn_answer (box 0 0 8 1) None ≡ Err (bare_rule kinds.FileAbsent)
+no_file : PathAnswers None (Err (bare_rule kinds.FileAbsent))
 no_file = refl
 
-told : burn_gives (box 0 0 8 1) (Ok (tiff_of Plain (page true))) ≡ done (codes "burned 187\n") (file (codes "b.tif") (tiff_of Plain (page true)) ∷ [])
-unfolding box page digits
+-- OUT leads out of the folder, and IN names a path; then the other way round
+leads_out : paths_of (record (box 0 0 8 1) { to = codes "../b.tif" }) ≡ None
+unfolding box
+leads_out = refl
+
+leads_out_too : paths_of (record (box 0 0 8 1) { from = codes "../a.tif" }) ≡ None
+unfolding box
+leads_out_too = refl
+
+paths_kept : paths_of (record (box 0 0 8 1) { from = codes "./p/a.tif" }) ≡ Some (record { from = codes "p/a.tif"; to = codes "b.tif" })
+unfolding box
+paths_kept = refl
+
+told : burn_gives Plain (codes "b.tif") (Ok (page true)) ≡ done (codes "burned 187\n") (file (codes "b.tif") (tiff_of Plain (page true)) ∷ [])
+unfolding page digits
 told = refl
 
 -- ---- what is printed

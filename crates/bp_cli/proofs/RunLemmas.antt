@@ -13,7 +13,7 @@ use Rattle.bp_cli.specs.Endings as outcomes
 use Rattle.bp_cli.specs.Endings.{Outcome, Ending, World, status_of, text_of, refused_line, failed_folder, with_files, AddsPart}
 use Rattle.bp_cli.specs.Commands.{CommandLine, Matter, IsOutcome, ComesTo, AlikeFor, Works}
 use Rattle.bp_cli.specs.Printing.{Prints, whole, cut, lacking, instead}
-use Rattle.bp_cli.specs.Runs.{Outside, Asks, SourceFailed, FolderFailed, NoneFailed, Ended, RanShort, WasCut, Gives, IsAmong, outcome_status, Runs}
+use Rattle.bp_cli.specs.Runs.{Outside, Asks, Completes, SourceFailed, FolderFailed, NoneFailed, Ended, RanShort, WasCut, Gives, IsAmong, outcome_status, Runs}
 use Rattle.bp_cli.proofs.StatusLemmas.{rose_at, whole_of, out_rose, out_sure, among_three, among_two, status_known, is_done, is_words_refused, is_broken, is_source_fault, is_folder_fault, lacking_part, cut_part}
 
 -- ---- what an ending says
@@ -72,6 +72,10 @@ folder_sure (Some c) before after worked = adds-sure (failed_folder before.folde
 -- what bp_tiff says of files makes one outcome of each command and matter
 abbrev pub OneOutcome : Type 0
 OneOutcome = (c : CommandLine) (matter : Matter) (o o' : Outcome) → ComesTo c matter o → ComesTo c matter o' → o ≡ o'
+
+-- and each comes to one
+abbrev pub SomeOutcome : Type 0
+SomeOutcome = (c : CommandLine) (matter : Matter) → (o : Outcome) × ComesTo c matter o
 
 -- the outcome over a told matter
 told_outcome : (c : CommandLine) (before : World) (outcome : Outcome) (matter : Matter) → before.source.files ≡ Some matter.files → IsOutcome c before outcome → ComesTo c matter outcome
@@ -216,10 +220,15 @@ module _ (command : Option CommandLine) (before after : Outside) (status : ℕ) 
       among_three (text_of e) (status_of e) before.out after.out status 2
       (met_ending one c before.world after.world matter rule e asks.told met calm (worked_for c asks.words)) printed
 
-  run_complete : OneOutcome → (c : CommandLine) (matter : Matter) (outcome : Outcome) → Asks command before c matter → ComesTo c matter outcome → NoneFailed before after → IsAmong status (outcome_status outcome ∷ 6 ∷ [])
-  run_complete one c matter outcome asks comes none =
-      among_two (text_of e) (status_of e) before.out after.out status (outcome_status outcome) none.out
-      (full_ending one c before.world after.world matter outcome e asks.told comes none.source none.folder (worked_for c asks.words)) printed
+  run_complete : OneOutcome → SomeOutcome → (c : CommandLine) (matter : Matter) → Asks command before c matter → NoneFailed before after → Completes c matter status
+  run_complete one some c matter asks none =
+      let there = some c matter in
+      record {
+        outcome = there.0;
+        comes = there.1;
+        among = among_two (text_of e) (status_of e) before.out after.out status (outcome_status there.0) none.out
+            (full_ending one c before.world after.world matter there.0 e asks.told there.1 none.source none.folder (worked_for c asks.words)) printed;
+      }
 
   run_gives : OneOutcome → (c : CommandLine) (matter : Matter) (outcome : Outcome) → Asks command before c matter → ComesTo c matter outcome → (status ≡ 0) ⊎ (status ≡ 2) → Gives outcome before after
   run_gives one c matter outcome asks comes (inl done) =
@@ -233,8 +242,8 @@ module _ (command : Option CommandLine) (before after : Outside) (status : ℕ) 
 abbrev pub TwoMatters : Type 0
 TwoMatters = (c : CommandLine) (matter matter' : Matter) (outcome : Outcome) → AlikeFor c matter matter' → ComesTo c matter' outcome → ComesTo c matter outcome
 
-pub runs : OneOutcome → TwoMatters → (command : Option CommandLine) (before after : Outside) (status : ℕ) (e : Ending) → Works command before.world e after.world → Prints (text_of e) (status_of e) before.out after.out status → (after.world.source.sure ≡ true → after.world.source.faults ≡ 0) → (after.world.folder.sure ≡ true → after.world.folder.faults ≡ 0) → (after.out.sure ≡ true → after.out.faults ≡ 0) → Runs command before after status
-runs one two command before after status e worked printed source_law folder_law out_law = record {
+pub runs : OneOutcome → SomeOutcome → TwoMatters → (command : Option CommandLine) (before after : Outside) (status : ℕ) (e : Ending) → Works command before.world e after.world → Prints (text_of e) (status_of e) before.out after.out status → (after.world.source.sure ≡ true → after.world.source.faults ≡ 0) → (after.world.folder.sure ≡ true → after.world.folder.faults ≡ 0) → (after.out.sure ≡ true → after.out.faults ≡ 0) → Runs command before after status
+runs one some two command before after status e worked printed source_law folder_law out_law = record {
   known = status_known (text_of e) e before.out after.out status printed;
   done = run_done command before after status e worked printed;
   words_refused = run_words_refused command before after status e worked printed;
@@ -245,7 +254,7 @@ runs one two command before after status e worked printed source_law folder_law 
   cut = run_cut command before after status e worked printed;
   no_command = run_no_command command before after status e worked printed;
   rule_met = run_rule_met command before after status e worked printed one;
-  complete = run_complete command before after status e worked printed one;
+  complete = run_complete command before after status e worked printed one some;
   unfailing = λ sure. sure_printing (text_of e) (status_of e) before.out after.out status sure.out out_law (sure_ending command before.world after.world e sure.source sure.folder source_law folder_law worked) printed;
   alike = λ c matter matter' outcome asks alike comes ended_so.
       run_gives command before after status e worked printed one c matter outcome asks (two c matter matter' outcome alike comes) ended_so;

@@ -93,6 +93,12 @@ outcome_status (outcomes.refused rule) = RULE_BROKEN
 abbrev pub IsAmong : ℕ → List ℕ → Type 0
 IsAmong n ns = IsTrue (list_any (λ m. m == n) ns)
 
+-- there is an outcome, and the status is its own, or that memory ran out
+pub record Completes (c : CommandLine) (matter : Matter) (status : ℕ) : Type 0 where
+  pub outcome : Outcome
+  pub comes : ComesTo c matter outcome
+  pub among : IsAmong status (outcome_status outcome ∷ OUT_OF_MEMORY ∷ [])
+
 abbrev pub all_statuses : List ℕ
 all_statuses =
     DONE ∷ WORDS_REFUSED ∷ RULE_BROKEN ∷ SOURCE_FAULT ∷ FOLDER_FAULT
@@ -131,11 +137,10 @@ pub record Runs (command : Option CommandLine) (before after : Outside) (status 
       → ¬ SourceFailed before after
       → IsAmong status (RULE_BROKEN ∷ OUT_OF_MEMORY ∷ OUT_FAULT ∷ [])
   -- completeness: over a told matter, where nothing failed, the status is that of the outcome, or 6
-  pub complete : (c : CommandLine) (matter : Matter) (outcome : Outcome)
+  pub complete : (c : CommandLine) (matter : Matter)
       → Asks command before c matter
-      → ComesTo c matter outcome
       → NoneFailed before after
-      → IsAmong status (outcome_status outcome ∷ OUT_OF_MEMORY ∷ [])
+      → Completes c matter status
   -- objects that can't fail give no fault
   pub unfailing : AreSure before
       → IsAmong status (DONE ∷ WORDS_REFUSED ∷ RULE_BROKEN ∷ OUT_OF_MEMORY ∷ [])

@@ -150,7 +150,7 @@ fn burned(alloc: Global, area: Rect, bytes: &[u8]) -> Result<Page, Stop>
     ensures { BurnsBytes area bytes.now result }
 {
     match read_tiff(alloc, bytes) {
-        Ok(page) => burned_in(area, page),
+        Ok(page) => burned_in(area, page).map_err(Stop::Broken),
         Err(refusal) => Err(Stop::from(refusal)),
     }
 }

@@ -13,6 +13,7 @@ use crate::printing::finish;
 use crate::stops::Stop;
 use bp_core::Bytes;
 use bp_outside::{Folder, Out, Source};
+use bp_tiff::one_answer;
 use std::alloc::Global;
 use std::env::Args;
 use std::io;
@@ -51,6 +52,7 @@ pub fn run<S: Source, F: Folder, O: Out>(
         let after = outside (S.shows source.new) (F.shows folder.new) (O.shows out.new) in
         Runs command before after result }
 {
+    one_answer();
     let ending = work(alloc, words, source, folder);
     finish(alloc, out, ending)
 }

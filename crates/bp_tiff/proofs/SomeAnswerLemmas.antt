@@ -8,10 +8,11 @@ use Rattle.bp_rows.specs.Bits.{row_bytes}
 use Rattle.bp_rows.specs.Image.{Image}
 use Rattle.bp_t6.specs.Faults.{StripFault}
 use Rattle.bp_t6.specs.Read.{StripReads}
+use Rattle.bp_t6.specs.Strips.{fault_rule}
 use Rattle.bp_tiff.specs.declared.layout.Coding.{Coding}
 use Rattle.bp_tiff.specs.declared.layout.Layout.{Layout}
 use Rattle.bp_tiff.specs.Layout.{layout_of}
-use Rattle.bp_tiff.specs.Pixels.{Lines, inked, packed_values, t6_rule}
+use Rattle.bp_tiff.specs.Pixels.{Lines, inked, packed_values}
 use Rattle.bp_tiff.specs.Read.{strip_bytes, strip_rows, StripsHold, StripsBreak, page_of, TiffAnswers}
 use Rattle.bp_tiff.specs.Rules.{tiff_strips}
 use Rattle.bp_tiff.proofs.OneAnswerLemmas.{HoldsIf, BreaksIf}
@@ -32,7 +33,7 @@ strip_some :
 strip_some t true c w n first strip = elim (t (bits_of c.fill strip) w n) [
   | inl read ↦ inl (inked c.zero_is_black read.0, record { values = read.0; reads = read.1; means = refl })
   | inr fault ↦ inr (
-    t6_rule fault.0 (first + fault.1) fault.2,
+    fault_rule fault.0 (first + fault.1) fault.2,
     record { kind = fault.0; row = fault.1; at = fault.2; fault = fault.3; says = refl },
   )
 ]

@@ -4,7 +4,7 @@ use Rattle.bp_tiff.proofs.reading.read_tiff.Goals as goal
 
 pub returns-clause-exact : goal.returns-clause-exact
 returns-clause-exact c answer its =
-    exactly c.one_answer.ensures c.args.bytes.now c.read.result c.read.ensures.found c.read.ensures.refused answer its
+    exactly c.one_answer.ensures.only c.args.bytes.now c.read.result c.read.ensures.found c.read.ensures.refused answer its
 
 pub returns-clause-kind : goal.returns-clause-kind
 returns-clause-kind c = result_meets c.args.bytes.now c.read.result c.read.ensures.refused

@@ -2,11 +2,14 @@
 use Rattle.std.proofs.Common.{◌≡◌, ℕ, true, false, List, Some, None, [], ◌∷◌, ◌++◌, refl}
 use Rattle.std.specs.Prelude.{codes}
 use Rattle.std.specs.Fmt.{digits}
+use Rattle.bp_core.specs.declared.calls.Calls.{Calls}
 use Rattle.bp_core.specs.declared.rectangle.Rect.{Rect}
 use Rattle.bp_core.specs.declared.rules.RuleKind.TheVariants as kinds
 use Rattle.bp_core.specs.declared.review.Basis.TheVariants.{Ts}
 use Rattle.bp_core.specs.Characters.{full_stop, reverse_solidus}
 use Rattle.bp_core.specs.Paths.{path_in}
+use Rattle.bp_core.specs.Calls.{after_call, is_sure, next_fails, no_calls}
+use Rattle.bp_core.specs.Counts.{risen}
 use Rattle.bp_core.specs.Rectangle.{has_pixel, lies_inside, touches}
 use Rattle.bp_core.specs.Review.{basis_code}
 use Rattle.bp_core.specs.Sorted.{two_keys, row_key, ascends, find_key, put, without}
@@ -168,3 +171,32 @@ page_two = refl
 
 page_two_kept : row_key (record { kind = 4; k1 = 1; k2 = 2; body = [] }) ≡ 73786976299133173762
 page_two_kept = refl
+
+-- counts
+first : risen 0 ≡ 1
+first = refl
+
+last : risen 18446744073709551614 ≡ 18446744073709551615
+last = refl
+
+stands_still : risen 18446744073709551615 ≡ 18446744073709551615
+stands_still = refl
+
+-- calls 1 and 3 are to fail
+abbrev calls : Calls
+calls = no_calls (3 ∷ 1 ∷ [])
+
+call_0 : next_fails calls ≡ false
+call_0 = refl
+
+call_1 : next_fails (after_call calls) ≡ true
+call_1 = refl
+
+call_2 : next_fails (after_call (after_call calls)) ≡ false
+call_2 = refl
+
+not_sure : is_sure calls 0 ≡ false
+not_sure = refl
+
+sure : is_sure (no_calls []) 0 ≡ true
+sure = refl

@@ -1,3 +1,5 @@
+pub mod CallsLemmas
+pub mod CountsLemmas
 pub mod InTurnLemmas
 mod PathLemmas
 pub mod RectangleLemmas

@@ -1,5 +1,7 @@
 pub mod Answers
+pub mod Calls
 pub mod Characters
+pub mod Counts
 pub mod InTurn
 pub mod Paths
 pub mod Rectangle

@@ -3,6 +3,7 @@
 #![tactic(auto)]
 
 mod byte_strings;
+mod calls;
 mod kept;
 mod keyed;
 mod lists;
@@ -18,6 +19,7 @@ mod tests;
 mod texts;
 
 pub use byte_strings::Bytes;
+pub use calls::Calls;
 pub use kept::{Put, Row};
 pub use keyed::{Keyed, two_keys};
 pub use lists::{ListOf, NumberList, PutList, RectList, RowList, TextList};

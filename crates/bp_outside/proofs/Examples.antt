@@ -8,27 +8,16 @@ use Rattle.std.specs.declared.fs.options.OpenOptions.{OpenOptions}
 use Rattle.std.specs.declared.io.Error.{Error}
 use Rattle.std.specs.declared.io.ErrorKind.TheVariants as kinds
 use Rattle.bp_outside.specs.declared.files.FileRow.{FileRow}
-use Rattle.bp_outside.specs.declared.memory.calls.Calls.{Calls}
 use Rattle.bp_outside.specs.declared.refusals.FolderRefusal.TheVariants as folder_refusals
 use Rattle.bp_outside.specs.declared.refusals.OutRefusal.TheVariants as out_refusals
 use Rattle.bp_outside.specs.declared.refusals.ReadRefusal.TheVariants as read_refusals
-use Rattle.bp_outside.specs.Counts.{risen}
 use Rattle.bp_outside.specs.Source.{SourceView, after_read}
 use Rattle.bp_outside.specs.Folder as folders
 use Rattle.bp_outside.specs.Out as outs
-use Rattle.bp_outside.specs.Memory.{after_call, file_map, is_sure, next_fails, no_calls, paths_differ}
+use Rattle.bp_outside.specs.Memory.{file_map, paths_differ}
 use Rattle.bp_outside.specs.SystemAnswers.{opening_refusal, write_answer}
 use Rattle.bp_outside.specs.SystemFiles.{BeginsEmpty}
 use Rattle.bp_outside.proofs.FileMapLemmas.{get-first_with}
-
-first : risen 0 ≡ 1
-first = refl
-
-last : risen 18446744073709551614 ≡ 18446744073709551615
-last = refl
-
-stands_still : risen 18446744073709551615 ≡ 18446744073709551615
-stands_still = refl
 
 abbrev page : FileRow
 page = folders.file (codes "a.tif") (1 ∷ 2 ∷ [])
@@ -91,25 +80,6 @@ all_differ = refl
 
 one_twice : paths_differ (page ∷ text ∷ page ∷ []) ≡ false
 one_twice = refl
-
--- calls 1 and 3 are to fail
-abbrev calls : Calls
-calls = no_calls (3 ∷ 1 ∷ [])
-
-call_0 : next_fails calls ≡ false
-call_0 = refl
-
-call_1 : next_fails (after_call calls) ≡ true
-call_1 = refl
-
-call_2 : next_fails (after_call (after_call calls)) ≡ false
-call_2 = refl
-
-not_sure : is_sure calls 0 ≡ false
-not_sure = refl
-
-sure : is_sure (no_calls []) 0 ≡ true
-sure = refl
 
 -- a piece of 3 bytes, and one of none
 all_taken : write_answer out_refusals.Failed 3 (Ok 3) ≡ Ok 3

@@ -1,4 +1,3 @@
-pub mod CountsLemmas
 mod Examples
 pub mod FileMapLemmas
 pub mod FolderLemmas

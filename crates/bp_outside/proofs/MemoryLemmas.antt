@@ -1,31 +1,9 @@
 -- Carry what adding bytes to a list of files gave to a folder in memory, also without memory.
-use Rattle.std.proofs.Common.{◌≡◌, ℕ, zero, suc, ◌+◌, ◌==◌, ◌-◌, Bool, true, false, ◌&&◌, List, [], ◌∷◌, ◌++◌, length, take, set, get_or, refl, sym, ap, ◌∙◌, arith}
+use Rattle.std.proofs.Common.{◌≡◌, ℕ, zero, suc, ◌+◌, ◌-◌, Bool, true, false, List, [], ◌∷◌, ◌++◌, length, take, set, get_or, refl, sym, ap, ◌∙◌, arith}
 use Rattle.std.specs.Prelude.{Some, if◌then◌else◌}
-use Rattle.std.specs.List.{list_any}
 use Rattle.bp_outside.specs.declared.files.FileRow.{FileRow}
-use Rattle.bp_outside.specs.declared.memory.calls.Calls.{Calls}
 use Rattle.bp_outside.specs.Folder.{AddsPrefix, FolderView, add_to_last}
-use Rattle.bp_outside.specs.Memory.{next_fails, after_call, is_sure}
 use Rattle.bp_outside.proofs.FolderLemmas.{last_nothing}
-
-not_empty : (x : ℕ) (xs : List ℕ) → (length (x ∷ xs) == 0) ≡ false
-not_empty x xs = grind arith
-
-some_fail : (failing : List ℕ) (made : ℕ)
-    → list_any (λ number. number == made) failing ≡ true
-    → (length failing == 0) ≡ false
-some_fail [] made fails = cc
-some_fail (x ∷ xs) made fails = not_empty x xs
-
--- an object one of whose calls is to fail isn't sure, before or after
-pub stays_unsure : (calls after : Calls) (faults now : ℕ)
-    → next_fails calls ≡ true
-    → after ≡ after_call calls
-    → is_sure after now ≡ is_sure calls faults
-stays_unsure calls after faults now fails counted =
-    let some = some_fail calls.failing calls.made fails in
-    ap (λ c. is_sure c now) counted ∙ ap (λ b. b && (now == 0)) some
-    ∙ sym (ap (λ b. b && (faults == 0)) some)
 
 -- a folder that holds these files
 abbrev holding_files : List FileRow → Bool → ℕ → Bool → FolderView

@@ -6,7 +6,6 @@ pub mod Out
 pub mod ReadCounts
 pub mod Reading
 pub mod Source
-pub mod Sure
 pub mod SystemAnswers
 pub mod SystemFiles
 pub mod Untold

@@ -1,33 +1,17 @@
 -- The objects in memory. Each is told, and fails at the calls whose numbers it was given.
-use Rattle.std.specs.Prelude.{ℕ, ◌==◌, Bool, true, not, ◌&&◌, List, [], ◌∷◌, map, length, Some}
+use Rattle.std.specs.Prelude.{ℕ, Bool, true, not, ◌&&◌, List, [], ◌∷◌, map, Some}
 use Rattle.std.specs.List.{list_any}
 use Rattle.std.specs.Str.{bytes_eq}
 use Rattle.std.specs.FinMap as maps
-use Rattle.bp_outside.specs.Counts.{risen}
+use Rattle.bp_core.specs.Calls.{is_sure}
 use Rattle.bp_outside.specs.Source.{FileMap, SourceView}
 use Rattle.bp_outside.specs.Folder.{FolderView}
 use Rattle.bp_outside.specs.Out.{OutView}
 use Rattle.bp_outside.specs.declared.files.FileRow.{FileRow}
-use Rattle.bp_outside.specs.declared.memory.calls.Calls.{Calls}
+use Rattle.bp_core.specs.declared.calls.Calls.{Calls}
 use Rattle.bp_outside.specs.declared.memory.source.MemSource.{MemSource}
 use Rattle.bp_outside.specs.declared.memory.folder.MemFolder.{MemFolder}
 use Rattle.bp_outside.specs.declared.memory.output.MemOut.{MemOut}
-
--- no call yet, and these that are to fail
-abbrev pub no_calls : List ℕ → Calls
-no_calls failing = record { failing = failing; made = 0 }
-
--- whether the next call is to fail
-abbrev pub next_fails : Calls → Bool
-next_fails calls = list_any (λ number. number == calls.made) calls.failing
-
--- one call later. All calls of an object have numbers in one sequence, from 0
-abbrev pub after_call : Calls → Calls
-after_call calls = record calls { made = risen calls.made }
-
--- no call is to fail, and none failed
-abbrev pub is_sure : Calls → ℕ → Bool
-is_sure calls faults = (length calls.failing == 0) && (faults == 0)
 
 -- no path stands twice
 abbrev pub paths_differ : List FileRow → Bool

@@ -2,13 +2,13 @@
 ghost use Rattle.std.specs.Prelude.{◌≡◌, ◌↔◌, ◌==◌, true, false, length, min, Some, IfOk, IsTrue, IsErrOf, is_ok, if◌then◌else◌};
 ghost use Rattle.std.specs.Str.{chars};
 ghost use Rattle.bp_outside.specs.Folder.{after_create, after_finish, add_to_last, Appends};
-ghost use Rattle.bp_outside.specs.Memory.{folder_shown, folder_calls, no_calls, next_fails, after_call};
+ghost use Rattle.bp_core.specs.Calls.{no_calls, next_fails, after_call};
+ghost use Rattle.bp_outside.specs.Memory.{folder_shown, folder_calls};
 
 use crate::files::{FileList, FileRow};
 use crate::folder::Folder;
-use crate::memory::calls::Calls;
 use crate::refusals::FolderRefusal;
-use bp_core::{Bytes, NumberList, OutOfMemory, Text};
+use bp_core::{Bytes, Calls, NumberList, OutOfMemory, Text};
 use std::alloc::{AllocError, Global};
 
 /// The most bytes that one `append` to a folder in memory takes.
@@ -54,7 +54,7 @@ impl MemFolder {
 impl Folder for MemFolder {
     ghost shows = { folder_shown };
 
-    ghost use Rattle.bp_outside.specs.Sure.{never_failed};
+    ghost use Rattle.bp_core.specs.Calls.{never_failed};
 
     ghost unfailing = { λ folder. never_failed _ _ };
 

@@ -1,12 +1,12 @@
 // An out in memory.
 ghost use Rattle.std.specs.Prelude.{◌≡◌, ◌↔◌, ◌==◌, true, length, min, Some, IfOk, IsTrue, IsErrOf};
 ghost use Rattle.bp_outside.specs.Out.{Writes};
-ghost use Rattle.bp_outside.specs.Memory.{out_shown, out_calls, no_calls, next_fails, after_call};
+ghost use Rattle.bp_core.specs.Calls.{no_calls, next_fails, after_call};
+ghost use Rattle.bp_outside.specs.Memory.{out_shown, out_calls};
 
-use crate::memory::calls::Calls;
 use crate::output::Out;
 use crate::refusals::OutRefusal;
-use bp_core::{Bytes, NumberList};
+use bp_core::{Bytes, Calls, NumberList};
 use std::alloc::Global;
 
 /// The most bytes that one `write` to an out in memory takes.
@@ -46,7 +46,7 @@ impl MemOut {
 impl Out for MemOut {
     ghost shows = { out_shown };
 
-    ghost use Rattle.bp_outside.specs.Sure.{never_failed};
+    ghost use Rattle.bp_core.specs.Calls.{never_failed};
 
     ghost unfailing = { λ out. never_failed _ _ };
 

@@ -4,14 +4,14 @@ ghost use Rattle.std.specs.Option.{option_copied};
 ghost use Rattle.std.specs.Str.{chars};
 ghost use Rattle.std.specs.FinMap as maps;
 ghost use Rattle.bp_outside.specs.Source.{ReadOver, after_read};
-ghost use Rattle.bp_outside.specs.Memory.{paths_differ, file_map, source_shown, source_calls, source_files, no_calls, next_fails, after_call};
+ghost use Rattle.bp_core.specs.Calls.{no_calls, next_fails, after_call};
+ghost use Rattle.bp_outside.specs.Memory.{paths_differ, file_map, source_shown, source_calls, source_files};
 
 use crate::counts::ReadCounts;
 use crate::files::{FileList, FileRow};
-use crate::memory::calls::Calls;
 use crate::refusals::ReadRefusal;
 use crate::source::Source;
-use bp_core::{Bytes, NumberList};
+use bp_core::{Bytes, Calls, NumberList};
 use std::alloc::Global;
 
 /// A source in memory.
@@ -55,7 +55,7 @@ impl MemSource {
 impl Source for MemSource {
     ghost shows = { source_shown };
 
-    ghost use Rattle.bp_outside.specs.Sure.{never_failed};
+    ghost use Rattle.bp_core.specs.Calls.{never_failed};
 
     ghost unfailing = { λ source. never_failed _ _ };
 

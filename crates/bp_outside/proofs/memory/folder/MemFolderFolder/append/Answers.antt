@@ -1,7 +1,8 @@
 use Rattle.std.proofs.Common.{sym, ◌∙◌, refl, ap}
 use Rattle.std.proofs.lemmas.Result.{err_from_is_err_and}
-use Rattle.bp_outside.specs.Memory.{is_sure}
-use Rattle.bp_outside.proofs.MemoryLemmas.{stays_unsure, added_in_part}
+use Rattle.bp_core.specs.Calls.{is_sure}
+use Rattle.bp_core.proofs.CallsLemmas.{stays_unsure}
+use Rattle.bp_outside.proofs.MemoryLemmas.{added_in_part}
 use Rattle.bp_outside.proofs.memory.folder.MemFolderFolder.append.Goals as goal
 
 pub returns-then-next_fails-clause-appends : goal.returns-then-next_fails-clause-appends

@@ -1,11 +1,11 @@
 // The calls of an object in memory.
 ghost use Rattle.std.specs.Prelude.{◌≡◌};
-ghost use Rattle.bp_outside.specs.Memory.{no_calls, next_fails, after_call};
+ghost use Rattle.bp_core.specs.Calls.{no_calls, next_fails, after_call};
 
-use bp_core::NumberList;
+use crate::lists::NumberList;
 
-// The calls of one object, numbered from 0 in one sequence: how many were made, and the numbers of
-// those that are to fail.
+/// The calls of one object in memory, numbered from 0 in one sequence: how many were made, and the
+/// numbers of those that are to fail.
 #[derive(Debug, Drop)]
 pub struct Calls {
     failing: NumberList,
@@ -13,14 +13,14 @@ pub struct Calls {
 }
 
 impl Calls {
-    // No call yet.
+    /// No call yet. It takes no memory.
     pub fn new(failing: NumberList) -> Calls
         ensures { result ≡ no_calls failing }
     {
         Calls { failing, made: 0 }
     }
 
-    // Numbers the next call, and tells whether it is to fail.
+    /// Numbers the next call, and tells whether it is to fail.
     pub fn next_fails(&mut self) -> bool
         ensures answer { result ≡ next_fails self.old }
         ensures counted { self.new ≡ after_call self.old }

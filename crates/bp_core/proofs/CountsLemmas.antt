@@ -1,6 +1,6 @@
 -- Carry a count that rises by one to the fact that it rose.
 use Rattle.std.proofs.Common.{ℕ, ◌-◌, ◌^◌, ◌<◌, arith}
-use Rattle.bp_outside.specs.Counts.{Rose, risen}
+use Rattle.bp_core.specs.Counts.{Rose, risen}
 
 -- one more is a rise
 pub Rose-risen : (count : ℕ) → Rose count (risen count)

@@ -1,0 +1,4 @@
+pub mod Keeper
+pub mod Memory
+pub mod Puts
+pub mod Slots

@@ -9,6 +9,9 @@ use std::alloc::Global;
 
 /// A keeper of rows, at most one of a key. It counts its faults. The count stands still at the
 /// greatest u64.
+///
+///     let rows = keeper.load(alloc)?;
+///     keeper.commit(alloc, &puts)?;
 pub trait Keeper {
     // What is known of it.
     ghost shows: { Self → KeeperView };

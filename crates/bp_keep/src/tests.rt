@@ -49,10 +49,14 @@ fn kept(alloc: Global, rows: &RowList) -> Result<Vec<(u32, u8)>, AllocError> {
     Ok(pairs)
 }
 
+// A keeper goes from one thread to another.
+fn know_send<K: Keeper + Send>(_keeper: &K) {}
+
 #[test]
 fn a_commit_makes_all_puts(rt: HostRuntime) -> Result<(), Fail> {
     let alloc = rt.alloc();
     let mut keeper = keeper(alloc, &[])?;
+    know_send(&keeper);
     assert_eq!(rt; keeper.commit(alloc, &puts(alloc)?), Ok(()));
     let loaded = keeper.load(alloc).map_err(|_| AllocError)?;
     let pairs = kept(alloc, &loaded)?;

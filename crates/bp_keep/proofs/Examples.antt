@@ -42,7 +42,8 @@ a_row_between = refl
 a_row_of_a_lower_kind : put_one (sets 3 9 9 []) rows ≡ staff ∷ kept 3 9 9 [] ∷ page_1 ∷ page_3 ∷ []
 a_row_of_a_lower_kind = refl
 
-a_row_of_a_later_document : put_one (sets 4 3 0 []) rows ≡ staff ∷ page_1 ∷ page_3 ∷ kept 4 3 0 [] ∷ []
+a_row_of_a_later_document : put_one (sets 4 3 0 []) rows
+    ≡ staff ∷ page_1 ∷ page_3 ∷ kept 4 3 0 [] ∷ []
 a_row_of_a_later_document = refl
 
 another_body : put_one (sets 4 2 1 []) rows ≡ staff ∷ kept 4 2 1 [] ∷ page_3 ∷ []

@@ -1,2 +1,3 @@
 mod Examples
+pub mod PutLemmas
 pub mod SlotLemmas

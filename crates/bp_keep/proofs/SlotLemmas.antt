@@ -16,29 +16,57 @@ use Rattle.bp_keep.specs.Slots.{fits_slot, in_order, row_before, held, has_slot}
 
 -- ---- the order
 
+-- what the order says of the first slot
+record FirstInOrder (low : ℕ) (slot : ℕ × Option Row) (slots : List (ℕ × Option Row)) : Type 0 where
+  from : low ≤ slot.0
+  fits : fits_slot slot.0 slot.1 ≡ true
+  others : in_order (slot.0 + 1) slots ≡ true
+
+first_of : (low : ℕ) (slot : ℕ × Option Row) (slots : List (ℕ × Option Row))
+    → in_order low (slot ∷ slots) ≡ true
+    → FirstInOrder low slot slots
+first_of low slot slots ordered =
+    let parts = and_parts (leb low slot.0) _ ordered in
+    let rest = and_parts (fits_slot slot.0 slot.1) (in_order (slot.0 + 1) slots) parts.1 in
+    record { from = leb-true low slot.0 parts.0; fits = rest.0; others = rest.1 }
+
+in_order-from : (low : ℕ) (slot : ℕ × Option Row) (slots : List (ℕ × Option Row))
+    → low ≤ slot.0
+    → fits_slot slot.0 slot.1 ≡ true
+    → in_order (slot.0 + 1) slots ≡ true
+    → in_order low (slot ∷ slots) ≡ true
+in_order-from low slot slots from fits others =
+    and_from (leb low slot.0) _ (le-leb low slot.0 from)
+    (and_from (fits_slot slot.0 slot.1) (in_order (slot.0 + 1) slots) fits others)
+
 pub in_order-insert : (low key : ℕ) (row : Option Row) (slots : List (ℕ × Option Row))
     → in_order low slots ≡ true
     → low ≤ key
     → fits_slot key row ≡ true
     → in_order low (insert_entry nat_cmp slots key row) ≡ true
-in_order-insert low key row [] ordered le fits =
-    and_from (leb low key) (fits_slot key row && true) (le-leb low key le) (and_from (fits_slot key row) true fits refl)
-in_order-insert low key row (slot ∷ slots) ordered le fits =
-    let first = and_parts (leb low slot.0) (fits_slot slot.0 slot.1 && in_order (slot.0 + 1) slots) ordered in
-    let rest = and_parts (fits_slot slot.0 slot.1) (in_order (slot.0 + 1) slots) first.1 in
+in_order-insert low key row [] ordered from fits = in_order-from low (key, row) [] from fits refl
+in_order-insert low key row (slot ∷ slots) ordered from fits =
+    let first = first_of low slot slots ordered in
     elim (cases_Bool (ltb key slot.0)) [
       | inl less ↦
           let above : key + 1 ≤ slot.0 = omega (arith, ltb-true key slot.0 less) in
-          let tail = and_from (leb (key + 1) slot.0) (fits_slot slot.0 slot.1 && in_order (slot.0 + 1) slots) (le-leb (key + 1) slot.0 above) first.1 in
-          rw less (and_from (leb low key) _ (le-leb low key le) (and_from (fits_slot key row) _ fits tail))
+          let others = in_order-from (key + 1) slot slots above first.fits first.others in
+          rw less (in_order-from low (key, row) (slot ∷ slots) from fits others)
       | inr more ↦
           elim (cases_Bool (eqb key slot.0)) [
             | inl same ↦
                 let e : key ≡ slot.0 = eqb-true key slot.0 same in
-                rw (more, same) (and_from (leb low slot.0) _ first.0 (and_from (fits_slot slot.0 row) _ (rw (← e) fits) rest.1))
+                let here : fits_slot slot.0 row ≡ true = rw (← e) fits in
+                rw (more, same)
+                (in_order-from low (slot.0, row) slots first.from here first.others)
             | inr other ↦
-                let above : slot.0 + 1 ≤ key = omega (arith, ltb-false key slot.0 more, eqb-false key slot.0 other) in
-                rw (more, other) (and_from (leb low slot.0) _ first.0 (and_from (fits_slot slot.0 slot.1) _ rest.0 (in_order-insert (slot.0 + 1) key row slots rest.1 above fits)))
+                let above : slot.0 + 1 ≤ key =
+                omega (arith, ltb-false key slot.0 more, eqb-false key slot.0 other) in
+                let others =
+                in_order-insert (slot.0 + 1) key row slots first.others above fits in
+                rw (more, other)
+                (in_order-from low slot (insert_entry nat_cmp slots key row) first.from first.fits
+                others)
           ]
     ]
 
@@ -47,23 +75,25 @@ in_order-lower : (low start : ℕ) (slots : List (ℕ × Option Row))
     → start ≤ low
     → in_order low slots ≡ true
     → in_order start slots ≡ true
-in_order-lower low start [] le ordered = refl
-in_order-lower low start (slot ∷ slots) le ordered =
-    let parts = and_parts (leb low slot.0) (fits_slot slot.0 slot.1 && in_order (slot.0 + 1) slots) ordered in
-    and_from (leb start slot.0) _ (le-leb start slot.0 (omega (arith, leb-true low slot.0 parts.0))) parts.1
+in_order-lower low start [] below ordered = refl
+in_order-lower low start (slot ∷ slots) below ordered =
+    let first = first_of low slot slots ordered in
+    let from : start ≤ slot.0 = omega (arith, first.from) in
+    in_order-from start slot slots from first.fits first.others
 
 pub in_order-remove : (test : ℕ → Bool) (low : ℕ) (slots : List (ℕ × Option Row))
     → in_order low slots ≡ true
     → in_order low (remove_entry test slots) ≡ true
 in_order-remove test low [] ordered = refl
 in_order-remove test low (slot ∷ slots) ordered =
-    let first = and_parts (leb low slot.0) (fits_slot slot.0 slot.1 && in_order (slot.0 + 1) slots) ordered in
-    let rest = and_parts (fits_slot slot.0 slot.1) (in_order (slot.0 + 1) slots) first.1 in
+    let first = first_of low slot slots ordered in
+    let below : low ≤ slot.0 + 1 = omega (arith, first.from) in
     elim (cases_Bool (test slot.0)) [
-      | inl there ↦
-          rw there (in_order-lower (slot.0 + 1) low slots (omega (arith, leb-true low slot.0 first.0)) rest.1)
+      | inl there ↦ rw there (in_order-lower (slot.0 + 1) low slots below first.others)
       | inr other ↦
-          rw other (and_from (leb low slot.0) _ first.0 (and_from (fits_slot slot.0 slot.1) _ rest.0 (in_order-remove test (slot.0 + 1) slots rest.1)))
+          let others = in_order-remove test (slot.0 + 1) slots first.others in
+          rw other
+          (in_order-from low slot (remove_entry test slots) first.from first.fits others)
     ]
 
 ascends-row_before : (low key : ℕ) (slot : Option Row) (rows : List Row)
@@ -71,21 +101,22 @@ ascends-row_before : (low key : ℕ) (slot : Option Row) (rows : List Row)
     → fits_slot key slot ≡ true
     → ascends row_key (key + 1) rows ≡ true
     → ascends row_key low (row_before slot rows) ≡ true
-ascends-row_before low key None rows le fits up = ascends-lower row_key (key + 1) low rows (omega arith) up
-ascends-row_before low key (Some row) rows le fits up =
+ascends-row_before low key None rows from fits up =
+    ascends-lower row_key (key + 1) low rows (omega arith) up
+ascends-row_before low key (Some row) rows from fits up =
     let e : row_key row ≡ key = eqb-true (row_key row) key fits in
-    let here : low ≤ row_key row = rw e le in
+    let here : low ≤ row_key row = rw e from in
     and_from (leb low (row_key row)) _ (le-leb low (row_key row) here) (rw e up)
 
--- the rows in order
+-- the rows ascend
 pub ascends-held : (low : ℕ) (slots : List (ℕ × Option Row))
     → in_order low slots ≡ true
     → ascends row_key low (held slots) ≡ true
 ascends-held low [] ordered = refl
 ascends-held low (slot ∷ slots) ordered =
-    let first = and_parts (leb low slot.0) (fits_slot slot.0 slot.1 && in_order (slot.0 + 1) slots) ordered in
-    let rest = and_parts (fits_slot slot.0 slot.1) (in_order (slot.0 + 1) slots) first.1 in
-    ascends-row_before low slot.0 slot.1 (held slots) (leb-true low slot.0 first.0) rest.0 (ascends-held (slot.0 + 1) slots rest.1)
+    let first = first_of low slot slots ordered in
+    let up = ascends-held (slot.0 + 1) slots first.others in
+    ascends-row_before low slot.0 slot.1 (held slots) first.from first.fits up
 
 -- ---- a filled slot
 
@@ -93,77 +124,88 @@ put-below : (row : Row) (low : ℕ) (rows : List Row)
     → ascends row_key low rows ≡ true
     → row_key row < low
     → put row_key row rows ≡ row ∷ rows
-put-below row low [] up lt = refl
-put-below row low (first ∷ rows) up lt =
-    let parts = and_parts (leb low (row_key first)) (ascends row_key (row_key first + 1) rows) up in
-    rw (lt-ltb (row_key row) (row_key first) (omega (arith, leb-true low (row_key first) parts.0))) refl
+put-below row low [] up below = refl
+put-below row low (first ∷ rows) up below =
+    let parts = and_parts (leb low (row_key first)) _ up in
+    let less : row_key row < row_key first =
+    omega (arith, leb-true low (row_key first) parts.0) in
+    rw (lt-ltb (row_key row) (row_key first) less) refl
 
 -- below all rows
-pub set_row-below : (key low : ℕ) (row : Option Row) (rows : List Row)
+set_row-below : (key low : ℕ) (row : Option Row) (rows : List Row)
     → ascends row_key low rows ≡ true
     → key < low
     → fits_slot key row ≡ true
     → set_row key row rows ≡ row_before row rows
-set_row-below key low None rows up lt fits = without-above row_key key low rows lt up
-set_row-below key low (Some row) rows up lt fits =
+set_row-below key low None rows up below fits = without-above row_key key low rows below up
+set_row-below key low (Some row) rows up below fits =
     let e : row_key row ≡ key = eqb-true (row_key row) key fits in
-    put-below row low rows up (rw e lt)
+    put-below row low rows up (rw e below)
 
--- at the first row
+-- at the first slot
 set_row-here : (key : ℕ) (row slot : Option Row) (rows : List Row)
     → ascends row_key (key + 1) rows ≡ true
     → fits_slot key row ≡ true
     → fits_slot key slot ≡ true
     → set_row key row (row_before slot rows) ≡ row_before row rows
-set_row-here key row None rows up fits there = set_row-below key (key + 1) row rows up (omega arith) fits
+set_row-here key row None rows up fits there =
+    set_row-below key (key + 1) row rows up (omega arith) fits
 set_row-here key None (Some old) rows up fits there =
     rw there (without-above row_key key (key + 1) rows (omega arith) up)
 set_row-here key (Some row) (Some old) rows up fits there =
     let e : row_key row ≡ key = eqb-true (row_key row) key fits in
     let e' : row_key old ≡ key = eqb-true (row_key old) key there in
     let same : row_key row ≡ row_key old = e ∙ sym e' in
-    rw (le-ltb (row_key row) (row_key old) (omega arith), eq-eqb (row_key row) (row_key old) same) refl
+    rw (le-ltb (row_key row) (row_key old) (omega arith), eq-eqb (row_key row) (row_key old) same)
+    refl
 
--- behind the first row
+-- behind the first slot
 set_row-behind : (key before : ℕ) (row slot : Option Row) (rows : List Row)
     → before < key
     → fits_slot key row ≡ true
     → fits_slot before slot ≡ true
     → set_row key row (row_before slot rows) ≡ row_before slot (set_row key row rows)
-set_row-behind key before row None rows lt fits there = refl
-set_row-behind key before None (Some old) rows lt fits there =
+set_row-behind key before row None rows below fits there = refl
+set_row-behind key before None (Some old) rows below fits there =
     let e' : row_key old ≡ before = eqb-true (row_key old) before there in
     rw (ne_eqb (row_key old) key (λ e. omega arith)) refl
-set_row-behind key before (Some row) (Some old) rows lt fits there =
+set_row-behind key before (Some row) (Some old) rows below fits there =
     let e : row_key row ≡ key = eqb-true (row_key row) key fits in
     let e' : row_key old ≡ before = eqb-true (row_key old) before there in
     let above : row_key old < row_key row = omega arith in
-    rw (le-ltb (row_key row) (row_key old) (omega arith), ne_eqb (row_key row) (row_key old) (λ e. omega arith)) refl
+    let differ : row_key row ≡ row_key old → ⊥ = λ same. omega arith in
+    rw (le-ltb (row_key row) (row_key old) (omega arith), ne_eqb (row_key row) (row_key old) differ)
+    refl
 
--- what is put at a key of the tree is put on the rows
+-- what is put into the tree is put on the rows
 pub held-insert : (low key : ℕ) (row : Option Row) (slots : List (ℕ × Option Row))
     → in_order low slots ≡ true
     → fits_slot key row ≡ true
     → held (insert_entry nat_cmp slots key row) ≡ set_row key row (held slots)
-held-insert low key row [] ordered fits = sym (set_row-below key (key + 1) row [] refl (omega arith) fits)
+held-insert low key row [] ordered fits =
+    sym (set_row-below key (key + 1) row [] refl (omega arith) fits)
 held-insert low key row (slot ∷ slots) ordered fits =
-    let first = and_parts (leb low slot.0) (fits_slot slot.0 slot.1 && in_order (slot.0 + 1) slots) ordered in
-    let rest = and_parts (fits_slot slot.0 slot.1) (in_order (slot.0 + 1) slots) first.1 in
-    let up = ascends-held (slot.0 + 1) slots rest.1 in
+    let first = first_of low slot slots ordered in
+    let rows = held slots in
+    let up = ascends-held (slot.0 + 1) slots first.others in
     elim (cases_Bool (ltb key slot.0)) [
       | inl less ↦
           let below : key < slot.0 = ltb-true key slot.0 less in
-          let all = ascends-row_before slot.0 slot.0 slot.1 (held slots) (omega arith) rest.0 up in
-          rw less (sym (set_row-below key slot.0 row (row_before slot.1 (held slots)) all below fits))
+          let all =
+          ascends-row_before slot.0 slot.0 slot.1 rows (omega arith) first.fits up in
+          rw less (sym (set_row-below key slot.0 row (row_before slot.1 rows) all below fits))
       | inr more ↦
           elim (cases_Bool (eqb key slot.0)) [
             | inl same ↦
                 let e : key ≡ slot.0 = eqb-true key slot.0 same in
-                rw (more, same) (sym (set_row-here key row slot.1 (held slots) (rw e up) fits (rw e rest.0)))
+                rw (more, same)
+                (sym (set_row-here key row slot.1 rows (rw e up) fits (rw e first.fits)))
             | inr other ↦
-                let below : slot.0 < key = omega (arith, ltb-false key slot.0 more, eqb-false key slot.0 other) in
-                rw (more, other) (ap (row_before slot.1) (held-insert (slot.0 + 1) key row slots rest.1 fits)
-                ∙ sym (set_row-behind key slot.0 row slot.1 (held slots) below fits rest.0))
+                let below : slot.0 < key =
+                omega (arith, ltb-false key slot.0 more, eqb-false key slot.0 other) in
+                rw (more, other)
+                (ap (row_before slot.1) (held-insert (slot.0 + 1) key row slots first.others fits)
+                ∙ sym (set_row-behind key slot.0 row slot.1 rows below fits first.fits))
           ]
     ]
 
@@ -180,7 +222,9 @@ held-make key (slot ∷ slots) none =
       | inr more ↦
           elim (cases_Bool (eqb key slot.0)) [
             | inl same ↦ (let there = rw (more, same) at none in cc)
-            | inr other ↦ (let rest = rw (more, other) at none in rw (more, other) (ap (row_before slot.1) (held-make key slots rest)))
+            | inr other ↦
+                let rest = rw (more, other) at none in
+                rw (more, other) (ap (row_before slot.1) (held-make key slots rest))
           ]
     ]
 
@@ -191,8 +235,13 @@ pub held-drop : (test : ℕ → Bool) (slots : List (ℕ × Option Row))
 held-drop test [] found = refl
 held-drop test (slot ∷ slots) found =
     elim (cases_Bool (test slot.0)) [
-      | inl there ↦ (let e = rw there at found in let empty : slot.1 ≡ None = cc in rw (there, empty) refl)
-      | inr other ↦ (let rest = rw other at found in rw other (ap (row_before slot.1) (held-drop test slots rest)))
+      | inl there ↦
+          let e = rw there at found in
+          let empty : slot.1 ≡ None = cc in
+          rw (there, empty) refl
+      | inr other ↦
+          let rest = rw other at found in
+          rw other (ap (row_before slot.1) (held-drop test slots rest))
     ]
 
 -- ---- which slots there are
@@ -216,70 +265,15 @@ pub not_there : {X : Type 0} (found : Option X) (there : Bool)
 not_there None there is other = refl
 not_there (Some value) there is other = let e : true ≡ false = sym is ∙ other in cc
 
--- ---- slots for a list of puts
-
-list_all-weaker : (p q : Put → Bool) (changes : List Put)
-    → ((change : Put) → p change ≡ true → q change ≡ true)
-    → list_all p changes ≡ true
-    → list_all q changes ≡ true
-list_all-weaker p q [] kept all = refl
-list_all-weaker p q (change ∷ changes) kept all =
-    let parts = and_parts (p change) (list_all p changes) all in
-    and_from (q change) _ (kept change parts.0) (list_all-weaker p q changes kept parts.1)
-
-list_all-take : (p : Put → Bool) (changes : List Put) (at : ℕ) (change : Put)
-    → at < length changes
-    → change ≡ get_or changes at change
-    → list_all p (take at changes) ≡ true
-    → p change ≡ true
-    → list_all p (take (suc at) changes) ≡ true
-list_all-take p [] at change lt is all one = absurd (omega arith)
-list_all-take p (first ∷ changes) zero change lt is all one = rw (← is) (and_from (p change) true one refl)
-list_all-take p (first ∷ changes) (suc at) change lt is all one =
-    let parts = and_parts (p first) (list_all p (take at changes)) all in
-    and_from (p first) _ parts.0 (list_all-take p changes at change (omega arith) is parts.1 one)
-
-list_all-init : (p : Put → Bool) (changes : List Put) (last : Put)
-    → list_all p (changes ++ last ∷ []) ≡ true
-    → list_all p changes ≡ true
-list_all-init p [] last all = refl
-list_all-init p (change ∷ changes) last all =
-    let parts = and_parts (p change) (list_all p (changes ++ last ∷ [])) all in
-    and_from (p change) _ parts.0 (list_all-init p changes last parts.1)
-
--- there is a slot for each of these puts
-abbrev pub have_slots : List (ℕ × Option Row) → List Put → Bool
-have_slots slots changes = list_all (λ change. has_slot slots (put_key change)) changes
-
--- one more was made
-pub have_slots-take : (old new : List (ℕ × Option Row)) (changes : List Put) (at : ℕ) (change : Put)
-    → ((key : ℕ) → has_slot old key ≡ true → has_slot new key ≡ true)
-    → at < length changes
-    → change ≡ get_or changes at change
-    → have_slots old (take at changes) ≡ true
-    → has_slot new (put_key change) ≡ true
-    → have_slots new (take (suc at) changes) ≡ true
-have_slots-take old new changes at change kept lt is all one =
-    list_all-take (λ c. has_slot new (put_key c)) changes at change lt is
-    (list_all-weaker _ _ (take at changes) (λ c. kept (put_key c)) all) one
-
--- the last of the puts was made
-pub have_slots-init : (old new : List (ℕ × Option Row)) (all changes : List Put) (last : Put)
-    → ((key : ℕ) → has_slot old key ≡ true → has_slot new key ≡ true)
-    → all ≡ changes ++ last ∷ []
-    → have_slots old all ≡ true
-    → have_slots new changes ≡ true
-have_slots-init old new all changes last kept is there =
-    list_all-weaker _ _ changes (λ c. kept (put_key c)) (list_all-init (λ c. has_slot old (put_key c)) changes last (rw is at there))
-
 -- ---- rows that move into the tree
 
 ascends-behind : (low : ℕ) (front : List Row) (row : Row) (rows : List Row)
     → ascends row_key low (front ++ row ∷ rows) ≡ true
     → ascends row_key (row_key row + 1) rows ≡ true
-ascends-behind low [] row rows up = (and_parts (leb low (row_key row)) (ascends row_key (row_key row + 1) rows) up).1
+ascends-behind low [] row rows up = (and_parts (leb low (row_key row)) _ up).1
 ascends-behind low (first ∷ front) row rows up =
-    ascends-behind (row_key first + 1) front row rows (and_parts (leb low (row_key first)) (ascends row_key (row_key first + 1) (front ++ row ∷ rows)) up).1
+    let parts = and_parts (leb low (row_key first)) _ up in
+    ascends-behind (row_key first + 1) front row rows parts.1
 
 -- the last of them moved
 pub moved : (given front : List Row) (row : Row) (key : ℕ) (rows now all : List Row)
@@ -290,18 +284,9 @@ pub moved : (given front : List Row) (row : Row) (key : ℕ) (rows now all : Lis
     → now ≡ set_row key (Some row) rows
     → front ++ now ≡ all
 moved given front row key rows now all last same up is set =
-    let whole : front ++ (row ∷ rows) ≡ all = sym (append_assoc front (row ∷ []) rows) ∙ ap (λ xs. xs ++ rows) (sym last) ∙ same in
+    let whole : front ++ row ∷ rows ≡ all =
+    sym (append_assoc front (row ∷ []) rows) ∙ ap (λ xs. xs ++ rows) (sym last) ∙ same in
     let above = ascends-behind 0 front row rows (rw whole up) in
-    let put_first : now ≡ row ∷ rows =
-    set ∙ ap (λ k. set_row k (Some row) rows) is ∙ put-below row (row_key row + 1) rows above (omega arith) in
+    let first = put-below row (row_key row + 1) rows above (omega arith) in
+    let put_first : now ≡ row ∷ rows = set ∙ ap (λ k. set_row k (Some row) rows) is ∙ first in
     ap (λ xs. front ++ xs) put_first ∙ whole
-
--- ---- puts, the last one first
-
-pub put_all-pop : (all left : List Put) (last : Put) (rows now : List Row)
-    → all ≡ left ++ last ∷ []
-    → now ≡ put_one last rows
-    → put_all (reverse left) now ≡ put_all (reverse all) rows
-put_all-pop all left last rows now is made =
-    let turned : reverse all ≡ last ∷ reverse left = ap reverse is ∙ reverse-append left (last ∷ []) in
-    ap (put_all (reverse left)) made ∙ ap (λ changes. put_all changes rows) (sym turned)

@@ -21,9 +21,9 @@ pub trait Keeper {
     fn load(&mut self, alloc: Global) -> Result<RowList, KeepRefusal>
         ensures { Loads (shows self.old) result (shows self.new) };
 
-    /// Makes these puts in order: each sets the body of its key, or removes the row of its key. With
-    /// `Ok` all are made; a refusal leaves the rows. `Failed` where the keeper failed, which raises
-    /// the count by one.
+    /// Makes these puts in order: each sets the body of its key, or removes the row of its key.
+    /// With `Ok` all are made; a refusal leaves the rows. `Failed` where the keeper failed, which
+    /// raises the count by one.
     fn commit(&mut self, alloc: Global, puts: &PutList) -> Result<(), KeepRefusal>
         ensures { Commits (shows self.old) puts.now result (shows self.new) };
 

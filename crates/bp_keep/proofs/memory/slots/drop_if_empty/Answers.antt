@@ -3,8 +3,9 @@ use Rattle.bp_keep.proofs.SlotLemmas.{held-drop, in_order-remove}
 use Rattle.bp_keep.proofs.memory.slots.drop_if_empty.Goals as goal
 
 pub returns-in-Some-None-clause-rows : goal.returns-in-Some-None-clause-rows
-returns-in-Some-None-clause-rows c = rw c.remove.ensures.entries (held-drop _ c.args.slots.now.entries
-    (sym c.in-Some-None.ensures.value ∙ ap Some c.in-Some-None.field-0-is))
+returns-in-Some-None-clause-rows c =
+    let found = sym c.in-Some-None.ensures.value ∙ ap Some c.in-Some-None.field-0-is in
+    rw c.remove.ensures.entries (held-drop _ c.args.slots.now.entries found)
 
 pub returns-in-Some-None-clause-in_order : goal.returns-in-Some-None-clause-in_order
 returns-in-Some-None-clause-in_order c =

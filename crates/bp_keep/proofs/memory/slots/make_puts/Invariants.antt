@@ -1,15 +1,16 @@
 use Rattle.std.proofs.Common.{◌≡◌, reverse, vec_len}
 use Rattle.std.specs.Prelude.{IsTrue}
-use Rattle.std.specs.List.{list_all}
-use Rattle.bp_keep.specs.Puts.{put_all, put_key}
-use Rattle.bp_keep.specs.Slots.{held, in_order, has_slot}
+use Rattle.bp_keep.specs.Puts.{put_all}
+use Rattle.bp_keep.specs.Slots.{held, in_order}
+use Rattle.bp_keep.proofs.PutLemmas.{have_slots}
 use Rattle.bp_keep.proofs.memory.slots.make_puts.Given as goal
 
 abbrev pub invariant-loop-change : goal.invariant-loop-change
 invariant-loop-change l = record {
-  rows : put_all (reverse l.left.items) (held l.slots.entries) ≡ put_all (reverse l.initial.left.items) (held l.initial.slots.entries);
+  rows : put_all (reverse l.left.items) (held l.slots.entries)
+      ≡ put_all (reverse l.initial.left.items) (held l.initial.slots.entries);
   in_order : IsTrue (in_order 0 l.slots.entries);
-  there : IsTrue (list_all (λ change. has_slot l.slots.entries (put_key change)) l.left.items);
+  there : IsTrue (have_slots l.slots.entries l.left.items);
 }
 
 abbrev pub decreases-loop-change : goal.decreases-loop-change

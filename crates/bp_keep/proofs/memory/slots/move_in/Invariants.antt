@@ -5,7 +5,8 @@ use Rattle.bp_keep.proofs.memory.slots.move_in.Given as goal
 
 abbrev pub invariant-loop-last : goal.invariant-loop-last
 invariant-loop-last l = record {
-  same : l.given.items ++ held l.slots.entries ≡ l.initial.given.items ++ held l.initial.slots.entries;
+  same : l.given.items ++ held l.slots.entries
+      ≡ l.initial.given.items ++ held l.initial.slots.entries;
   in_order : IsTrue (in_order 0 l.slots.entries);
 }
 

@@ -29,5 +29,5 @@ pub use rectangle::Rect;
 pub use refusals::{OutOfMemory, Refusal};
 pub use review::{Basis, Role, Treatment};
 pub use rules::{Rule, RuleKind};
-pub use sorted::{find_row, put_row, remove_row, rows_between};
+pub use sorted::{ascends, find_row, put_row, remove_row, rows_between};
 pub use texts::Text;

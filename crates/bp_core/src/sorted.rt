@@ -9,6 +9,23 @@ ghost use Rattle.bp_core.specs.Sorted.{ascends, find_key, is_between, put, witho
 use crate::keyed::Keyed;
 use crate::refusals::OutOfMemory;
 
+/// Whether the rows stand in ascending order of key, none twice. It takes no memory.
+pub fn ascends<T: Keyed>(rows: &[T]) -> bool
+    ensures { result ≡ ascends T.key_of 0 rows.now }
+{
+    let mut low = 0;
+    let mut rest = rows;
+    while let Some((first, others)) = rest.split_first() {
+        let key = first.key();
+        if key < low {
+            return false;
+        }
+        low = key + 1;
+        rest = others;
+    }
+    true
+}
+
 /// The row of this key, if there is one.
 pub fn find_row<T: Keyed>(rows: &[T], key: u128) -> Option<&T>
     requires { IsTrue (ascends T.key_of 0 rows.now) }

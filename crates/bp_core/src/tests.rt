@@ -61,6 +61,7 @@ fn rows_stand_in_order_of_key(rt: HostRuntime) -> Result<(), Fail> {
     assert!(rt; put_row(&mut rows, row(alloc, 4, 2, 1)?).is_ok());
     assert!(rt; put_row(&mut rows, row(alloc, 4, 1, 9)?).is_ok());
     assert!(rt; put_row(&mut rows, row(alloc, 3, 7, 0)?).is_ok());
+    assert!(rt; ascends(&rows));
     let kinds: [u8; 2] = [3, 4];
     let kept = rows_between(
         &rows,

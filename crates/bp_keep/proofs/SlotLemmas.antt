@@ -1,17 +1,14 @@
 -- Carry what the tree of slots holds from one change of it to the next.
-use Rattle.std.proofs.Common.{◌≡◌, ℕ, zero, suc, ◌+◌, ◌<◌, ◌≤◌, Bool, true, false, eqb, ltb, leb, ◌&&◌, List, [], ◌∷◌, ◌++◌, length, take, get_or, append_assoc, reverse, Option, Some, None, refl, sym, ap, ◌∙◌, inl, inr, arith}
+use Rattle.std.proofs.Common.{◌≡◌, ℕ, ◌+◌, ◌<◌, ◌≤◌, Bool, true, false, eqb, ltb, leb, List, [], ◌∷◌, ◌++◌, append_assoc, Option, Some, None, refl, sym, ap, ◌∙◌, inl, inr, arith}
 use Rattle.std.specs.Prelude.{is_some, Result, Ok, Err, OnOk, OnErr}
 use Rattle.std.specs.Ordering.{nat_cmp}
-use Rattle.std.specs.List.{list_all}
 use Rattle.std.specs.Map.{lookup, remove_entry}
 use Rattle.std.specs.BTreeMap.{insert_entry, is_at}
 use Rattle.std.proofs.lemmas.Bool.{and_parts, and_from, leb-true, le-leb, ltb-true, ltb-false, lt-ltb, le-ltb, eqb-true, eqb-false, eq-eqb, ne_eqb, cases_Bool}
-use Rattle.std.proofs.lemmas.List.{reverse-append}
 use Rattle.bp_core.specs.declared.kept.Row.{Row}
-use Rattle.bp_core.specs.declared.kept.Put.{Put}
 use Rattle.bp_core.specs.Sorted.{ascends, put, row_key}
 use Rattle.bp_core.proofs.SortedLemmas.{ascends-lower, without-above}
-use Rattle.bp_keep.specs.Puts.{put_all, put_key, put_one, set_row}
+use Rattle.bp_keep.specs.Puts.{set_row}
 use Rattle.bp_keep.specs.Slots.{fits_slot, in_order, row_before, held, has_slot}
 
 -- ---- the order

@@ -31,8 +31,8 @@ pub struct MemKeeper {
 impl MemKeeper {
     ghost use Rattle.bp_keep.specs.Memory.{keeper_shown, keeper_calls};
 
-    /// A keeper of these rows, which stand in ascending order of key, none twice. Its calls whose
-    /// numbers, from 0, are in `failing` are to fail.
+    /// A keeper of these rows, which stand in ascending order of key, none twice (`ascends` of
+    /// bp_core is the test). Its calls whose numbers, from 0, are in `failing` are to fail.
     pub fn over(rows: RowList, failing: NumberList) -> MemKeeper
         requires { IsTrue (ascends row_key 0 rows) }
         ensures shows { keeper_shown result

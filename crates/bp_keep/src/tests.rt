@@ -1,6 +1,6 @@
 // The keeper in memory, with ample memory.
 use crate::{KeepRefusal, Keeper, MemKeeper};
-use bp_core::{Bytes, NumberList, Put, PutList, Row, RowList};
+use bp_core::{Bytes, NumberList, Put, PutList, Row, RowList, ascends};
 use std::alloc::{AllocError, Global};
 use std::test::Fail;
 
@@ -10,13 +10,16 @@ fn row(alloc: Global, kind: u8, k1: u32, k2: u32, body: &[u8]) -> Result<Row, Al
 }
 
 // A staff row, and the rows of pages 1 and 3 of document 2.
-fn keeper(alloc: Global, failing: &[u64]) -> Result<MemKeeper, AllocError> {
+fn rows(alloc: Global) -> Result<RowList, AllocError> {
     let mut rows = Vec::new(alloc);
     rows.push(row(alloc, 1, 1, 0, &[1])?)?;
     rows.push(row(alloc, 4, 2, 1, &[7])?)?;
     rows.push(row(alloc, 4, 2, 3, &[9])?)?;
-    let failing = NumberList::from_vec(Vec::from_slice(alloc, failing)?);
-    Ok(MemKeeper::over(RowList::from_vec(rows), failing))
+    Ok(RowList::from_vec(rows))
+}
+
+fn numbers(alloc: Global, of: &[u64]) -> Result<NumberList, AllocError> {
+    Ok(NumberList::from_vec(Vec::from_slice(alloc, of)?))
 }
 
 fn put(alloc: Global, kind: u8, k1: u32, k2: u32, body: Option<u8>) -> Result<Put, AllocError> {
@@ -55,7 +58,9 @@ fn know_send<K: Keeper + Send>(_keeper: &K) {}
 #[test]
 fn a_commit_makes_all_puts(rt: HostRuntime) -> Result<(), Fail> {
     let alloc = rt.alloc();
-    let mut keeper = keeper(alloc, &[])?;
+    let rows = rows(alloc)?;
+    assert!(rt; ascends(rows.as_slice()));
+    let mut keeper = MemKeeper::over(rows, numbers(alloc, &[])?);
     know_send(&keeper);
     assert_eq!(rt; keeper.commit(alloc, &puts(alloc)?), Ok(()));
     let loaded = keeper.load(alloc).map_err(|_| AllocError)?;
@@ -73,7 +78,9 @@ fn a_commit_makes_all_puts(rt: HostRuntime) -> Result<(), Fail> {
 fn each_call_fails_in_turn(rt: HostRuntime) -> Result<(), Fail> {
     let alloc = rt.alloc();
     for failing in [0, 1, 2] {
-        let mut keeper = keeper(alloc, &[failing])?;
+        let rows = rows(alloc)?;
+        assert!(rt; ascends(rows.as_slice()));
+        let mut keeper = MemKeeper::over(rows, numbers(alloc, &[failing])?);
         let first = keeper.load(alloc).map(|rows| rows.len());
         let made = keeper.commit(alloc, &puts(alloc)?);
         let last = keeper.load(alloc).map(|rows| rows.len());

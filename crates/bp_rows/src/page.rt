@@ -197,6 +197,20 @@ impl Page {
         self.unit
     }
 
+    /// The same rows at these resolutions, in place of its own. It takes no memory.
+    pub fn with_resolutions(self, xres: Res, yres: Res, unit: Unit) -> Page
+        ensures { result ≡ record self { xres = xres; yres = yres; unit = unit } }
+    {
+        Page {
+            width: self.width,
+            height: self.height,
+            xres,
+            yres,
+            unit,
+            strip: self.strip,
+        }
+    }
+
     /// Whether the pixel in that row and column, counted from 0, is black.
     pub fn get(&self, row: u32, col: u32) -> bool
         requires down { row < self.now.height }

@@ -1,0 +1,10 @@
+pub mod BodyLemmas
+pub mod CheckLemmas
+pub mod CodecLemmas
+mod Examples
+pub mod FieldLemmas
+pub mod ImageLemmas
+pub mod MarkLemmas
+pub mod NumberedLemmas
+pub mod RowLemmas
+pub mod RunLemmas

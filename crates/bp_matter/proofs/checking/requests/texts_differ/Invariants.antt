@@ -1,0 +1,10 @@
+use Rattle.std.proofs.Common.{◌≡◌, length}
+use Rattle.bp_matter.specs.ValidRows.{all_differ}
+use Rattle.bp_matter.specs.ValidProductions.{itself}
+use Rattle.bp_matter.proofs.checking.requests.texts_differ.Given as goal
+
+abbrev pub invariant-loop-first : goal.invariant-loop-first
+invariant-loop-first l = all_differ itself l.rows ≡ all_differ itself l.rest
+
+abbrev pub decreases-loop-first : goal.decreases-loop-first
+decreases-loop-first l = length l.rest

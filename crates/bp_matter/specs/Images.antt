@@ -1,0 +1,53 @@
+-- The image of a page in its kept row: sides, resolutions, unit, and its T.6 strip.
+use Rattle.std.specs.Prelude.{ℕ, zero, suc, Bool, true, false, List, [], ◌∷◌, ◌++◌, length, map, ◌==◌, ◌&&◌, Option, Some, None, if◌then◌else◌}
+use Rattle.std.specs.List.{find, list_all}
+use Rattle.std.specs.Str.{bytes_eq}
+use Rattle.bp_rows.specs.Image.{Image}
+use Rattle.bp_rows.specs.Limits.{sides_are_allowed}
+use Rattle.bp_rows.specs.declared.resolution.Unit.{Unit as LengthUnit}
+use Rattle.bp_rows.specs.declared.resolution.Unit.TheVariants as units
+use Rattle.bp_t6.specs.Strips.{page_of as plain_image}
+use Rattle.bp_t6.specs.Written.{strip_of}
+
+-- its strip: the rows coded, the end of the facsimile block and zero bits to the byte (ITU-T T.6, 2.2.4)
+unfoldable pub strip : Image → List ℕ
+strip p = strip_of p
+
+-- the number of a unit of length (TIFF 6.0, section 8, ResolutionUnit)
+abbrev pub unit_number : LengthUnit → ℕ
+unit_number units.None = 1
+unit_number units.Inch = 2
+unit_number units.Centimetre = 3
+
+-- so many lines, each of that many pixels
+abbrev pub is_grid : ℕ → ℕ → List (List Bool) → Bool
+is_grid width height lines =
+    (length lines == height) && list_all (λ line. length line == width) lines
+
+-- sides that a page may have, and lines of these sides
+abbrev pub has_lines : ℕ → ℕ → List (List Bool) → Bool
+has_lines width height lines = sides_are_allowed width height && is_grid width height lines
+
+-- each of the values before each of the lists
+abbrev pub each_before : {A : Type 0} → List A → List (List A) → List (List A)
+each_before [] lists = []
+each_before (value ∷ values) lists = map (λ l. value ∷ l) lists ++ each_before values lists
+
+-- all lists of so many of the values
+abbrev pub all_lists : {A : Type 0} → List A → ℕ → List (List A)
+all_lists values zero = [] ∷ []
+all_lists values (suc n) = each_before values (all_lists values n)
+
+-- all lines of these sides
+unfoldable pub all_lines : ℕ → ℕ → List (List (List Bool))
+all_lines width height = all_lists (all_lists (false ∷ true ∷ []) width) height
+
+-- these lines have these sides, and these bytes are their strip
+abbrev pub is_strip : ℕ → ℕ → List ℕ → List (List Bool) → Bool
+is_strip width height bytes lines =
+    is_grid width height lines && bytes_eq (strip (plain_image width height lines)) bytes
+
+-- the lines of these sides whose strip these bytes are, if a page may have the sides and there are any
+unfoldable pub lines_of : ℕ → ℕ → List ℕ → Option (List (List Bool))
+lines_of width height bytes =
+    if sides_are_allowed width height then find (is_strip width height bytes) (all_lines width height) else None

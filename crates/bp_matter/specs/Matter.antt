@@ -1,0 +1,79 @@
+-- The matter: what its tables hold, wherever they lie in memory.
+use Rattle.std.specs.Prelude.{ℕ, List}
+use Rattle.bp_core.specs.Sorted.{two_keys}
+use Rattle.bp_matter.specs.declared.rows.StaffRow.{StaffRow}
+use Rattle.bp_matter.specs.declared.rows.FieldRow.{FieldRow}
+use Rattle.bp_matter.specs.declared.rows.DocRow.{DocRow}
+use Rattle.bp_matter.specs.declared.rows.PageRow.{PageRow}
+use Rattle.bp_matter.specs.declared.rows.CallRow.{CallRow}
+use Rattle.bp_matter.specs.declared.rows.DocBox.{DocBox}
+use Rattle.bp_matter.specs.declared.rows.DocHeld.{DocHeld}
+use Rattle.bp_matter.specs.declared.rows.DocEntry.{DocEntry}
+use Rattle.bp_matter.specs.declared.rows.PrefixRow.{PrefixRow}
+use Rattle.bp_matter.specs.declared.rows.ProductionRow.{ProductionRow}
+use Rattle.bp_matter.specs.declared.rows.BatchRow.{BatchRow}
+use Rattle.bp_matter.specs.declared.rows.PageWords.{PageWords}
+use Rattle.bp_matter.specs.declared.rows.BoxRow.{BoxRow}
+use Rattle.bp_matter.specs.declared.rows.HeldRow.{HeldRow}
+
+pub record Matter : Type 0 where
+  pub staff : List StaffRow
+  pub fields : List FieldRow
+  pub docs : List DocRow
+  pub pages : List PageRow
+  pub calls : List CallRow
+  pub boxes : List DocBox
+  pub held : List DocHeld
+  pub entries : List DocEntry
+  pub prefixes : List PrefixRow
+  pub productions : List ProductionRow
+  pub batches : List BatchRow
+  pub words : List PageWords
+
+-- the matter, and how many rows can be added to each list without taking memory
+pub record Shown : Type 0 where
+  pub matter : Matter
+  pub spare : ℕ
+
+abbrev pub staff_key : StaffRow → ℕ
+staff_key row = row.staff.0
+
+abbrev pub field_key : FieldRow → ℕ
+field_key row = row.field
+
+abbrev pub doc_key : DocRow → ℕ
+doc_key row = row.doc.0
+
+abbrev pub page_key : PageRow → ℕ
+page_key row = two_keys row.doc.0 row.page.0
+
+abbrev pub call_key : CallRow → ℕ
+call_key row = row.doc.0
+
+abbrev pub box_key : DocBox → ℕ
+box_key row = two_keys row.doc.0 row.row.num
+
+abbrev pub held_key : DocHeld → ℕ
+held_key row = two_keys row.doc.0 row.row.field
+
+abbrev pub entry_key : DocEntry → ℕ
+entry_key row = row.doc.0
+
+abbrev pub prefix_key : PrefixRow → ℕ
+prefix_key row = row.num
+
+abbrev pub production_key : ProductionRow → ℕ
+production_key row = row.num
+
+abbrev pub batch_key : BatchRow → ℕ
+batch_key row = row.num
+
+abbrev pub words_key : PageWords → ℕ
+words_key row = two_keys row.doc.0 row.page.0
+
+-- within a document or an item
+abbrev pub box_number : BoxRow → ℕ
+box_number row = row.num
+
+abbrev pub held_number : HeldRow → ℕ
+held_number row = row.field

@@ -1,0 +1,188 @@
+// Whether rows are the productions of a matter.
+ghost use Rattle.std.specs.List.{list_all, list_any};
+ghost use Rattle.std.specs.Prelude.{IfOk, IsTrue, None, Some, if◌then◌else◌, length, nat_le, vec_len, ◌&&◌, ◌<◌, ◌==◌, ◌^◌, ◌≡◌, ◌≤◌};
+ghost use Rattle.std.specs.Str.{bytes_eq};
+ghost use Rattle.bp_core.specs.Sorted.{ascends};
+ghost use Rattle.bp_matter.specs.Written.{production_written};
+ghost use Rattle.bp_matter.specs.Matter.{doc_key, page_key};
+ghost use Rattle.bp_matter.specs.ValidProductions.{ProductionFacts, has_prefix, marked_on, production_fits, production_id, production_volume, stand_once};
+ghost use Rattle.bp_matter.specs.ValidRows.{all_differ};
+
+use super::items::{are_whole, items_fit};
+use super::numbers::is_numbered;
+use super::requests::request_fits;
+use crate::limits::MAX_PRODUCTIONS;
+use crate::rows::{DocRow, FieldRow, Item, PageRow, PrefixRow, ProductionRow};
+use bp_core::{OutOfMemory, Text};
+use std::alloc::Global;
+
+fn has_ids_differ(rows: &[ProductionRow], text: &Text) -> bool
+    ensures { result ≡ list_any (λ other. bytes_eq (production_id other) text.now) rows.now }
+{
+    rows.iter()
+        .any(|other| other.production.request.id == *text)
+}
+
+fn ids_differ(rows: &[ProductionRow]) -> bool
+    ensures { result ≡ all_differ production_id rows.now }
+{
+    let mut rest = rows;
+    while let Some((first, others)) = rest.split_first() {
+        if has_ids_differ(others, &first.production.request.id) {
+            return false;
+        }
+        rest = others;
+    }
+    true
+}
+
+fn has_volumes_differ(rows: &[ProductionRow], text: &Text) -> bool
+    ensures { result ≡ list_any (λ other. bytes_eq (production_volume other) text.now) rows.now }
+{
+    rows.iter()
+        .any(|other| other.production.request.volume == *text)
+}
+
+fn volumes_differ(rows: &[ProductionRow]) -> bool
+    ensures { result ≡ all_differ production_volume rows.now }
+{
+    let mut rest = rows;
+    while let Some((first, others)) = rest.split_first() {
+        if has_volumes_differ(others, &first.production.request.volume) {
+            return false;
+        }
+        rest = others;
+    }
+    true
+}
+
+fn production_fits(
+    fields: &[FieldRow],
+    docs: &[DocRow],
+    pages: &[PageRow],
+    row: &ProductionRow,
+) -> bool
+    requires docs { IsTrue (ascends doc_key 0 docs.now) }
+    requires pages { IsTrue (ascends page_key 0 pages.now) }
+    ensures { result ≡ production_fits fields.now docs.now pages.now row.now }
+{
+    let items = row.production.items.as_slice();
+    request_fits(fields, docs.len(), &row.production.request)
+        && !row.production.items.is_empty()
+        && items_fit(fields.len(), docs, pages, items)
+        && are_whole(docs, items)
+}
+
+fn same_prefix(kept: &PrefixRow, row: &ProductionRow) -> bool
+    ensures { result ≡ (bytes_eq kept.now.prefix.text row.now.production.request.prefix.text && (kept.now.prefix.width == row.now.production.request.prefix.width)) }
+{
+    kept.prefix.text == row.production.request.prefix.text
+        && kept.prefix.width == row.production.request.prefix.width
+}
+
+fn has_prefix(prefixes: &[PrefixRow], row: &ProductionRow) -> bool
+    ensures { result ≡ has_prefix prefixes.now row.now }
+{
+    prefixes.iter().any(|kept| same_prefix(kept, row))
+}
+
+fn productions_fit(
+    fields: &[FieldRow],
+    docs: &[DocRow],
+    pages: &[PageRow],
+    rows: &[ProductionRow],
+) -> bool
+    requires docs { IsTrue (ascends doc_key 0 docs.now) }
+    requires pages { IsTrue (ascends page_key 0 pages.now) }
+    ensures { result ≡ list_all (production_fits fields.now docs.now pages.now) rows.now }
+{
+    rows.iter()
+        .all(|row| production_fits(fields, docs, pages, row))
+}
+
+fn prefixes_kept(prefixes: &[PrefixRow], rows: &[ProductionRow]) -> bool
+    ensures { result ≡ list_all (has_prefix prefixes.now) rows.now }
+{
+    rows.iter().all(|row| has_prefix(prefixes, row))
+}
+
+pub(crate) fn productions_few(rows: &[ProductionRow]) -> bool
+    ensures { result ≡ nat_le (length rows.now) MAX_PRODUCTIONS }
+{
+    rows.len() <= MAX_PRODUCTIONS
+}
+
+// Whether these documents have no mark yet, each of which gets one.
+fn mark_items(marks: &mut Vec<bool>, items: &[Item]) -> bool
+    ensures same { vec_len marks.new ≡ vec_len marks.old }
+    ensures marks { marked_on (Some marks.old.items) items.now ≡ (if result then Some marks.new.items else None) }
+{
+    let mut rest = items;
+    while let Some((first, others)) = rest.split_first() {
+        let doc = first.doc.0 as usize;
+        if doc < marks.len() {
+            if marks[doc] {
+                return false;
+            }
+            marks[doc] = true;
+        }
+        rest = others;
+    }
+    true
+}
+
+// Whether no document stands in two items.
+fn stand_once(
+    alloc: Global,
+    docs: usize,
+    productions: &[ProductionRow],
+) -> Result<bool, OutOfMemory>
+    requires { docs < 2 ^ 32 }
+    ensures { IfOk result (λ once. once ≡ stand_once docs productions.now) }
+{
+    let mut marks = vec![in alloc; false; docs + 1]?;
+    let mut rest = productions;
+    while let Some((first, others)) = rest.split_first() {
+        if !mark_items(&mut marks, first.production.items.as_slice()) {
+            return Ok(false);
+        }
+        rest = others;
+    }
+    Ok(true)
+}
+
+pub(crate) fn productions_valid(
+    alloc: Global,
+    fields: &[FieldRow],
+    docs: &[DocRow],
+    pages: &[PageRow],
+    prefixes: &[PrefixRow],
+    productions: &[ProductionRow],
+) -> Result<bool, OutOfMemory>
+    requires docs { IsTrue (ascends doc_key 0 docs.now) }
+    requires few { length docs.now ≤ 10000 }
+    requires pages { IsTrue (ascends page_key 0 pages.now) }
+    requires written { IsTrue (list_all production_written productions.now) }
+    ensures fact { IfOk result (λ good. IsTrue good → ProductionFacts fields.now docs.now pages.now prefixes.now productions.now) }
+    ensures back { IfOk result (λ good. ProductionFacts fields.now docs.now pages.now prefixes.now productions.now → IsTrue good) }
+{
+    if !is_numbered(productions, 1) {
+        return Ok(false);
+    }
+    if !productions_few(productions) {
+        return Ok(false);
+    }
+    if !ids_differ(productions) {
+        return Ok(false);
+    }
+    if !volumes_differ(productions) {
+        return Ok(false);
+    }
+    if !prefixes_kept(prefixes, productions) {
+        return Ok(false);
+    }
+    if !productions_fit(fields, docs, pages, productions) {
+        return Ok(false);
+    }
+    stand_once(alloc, docs.len(), productions)
+}

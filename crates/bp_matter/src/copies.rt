@@ -1,0 +1,193 @@
+// Equal values in memory of their own.
+ghost use Rattle.std.specs.Prelude.{◌≡◌, IfOk};
+
+use crate::calls::Call;
+use crate::rows::{BoxList, Entry, HeldList, Item, ItemList, Production, Request};
+use bp_bates::Prefix;
+use bp_core::{ListOf, OutOfMemory, Text, TextList};
+use std::alloc::Global;
+
+impl Production {
+    /// An equal production.
+    pub fn copy(&self, alloc: Global) -> Result<Production, OutOfMemory>
+        ensures { IfOk result (λ production. production ≡ self.now) }
+    {
+        Ok(Production {
+            request: copy_request(alloc, &self.request)?,
+            items: copy_items(alloc, &self.items)?,
+            span: self.span,
+        })
+    }
+}
+
+impl Call {
+    /// An equal call.
+    pub fn copy(&self, alloc: Global) -> Result<Call, OutOfMemory>
+        ensures { IfOk result (λ call. call ≡ self.now) }
+    {
+        match self {
+            Call::AddStaff { name, role, digest } => Ok(Call::AddStaff {
+                name: copy_text(name)?,
+                role: *role,
+                digest: *digest,
+            }),
+            Call::SeeDoc { doc } => Ok(Call::SeeDoc { doc: *doc }),
+            Call::SeePage { doc, page } => Ok(Call::SeePage {
+                doc: *doc,
+                page: *page,
+            }),
+            Call::SeeWords { doc, page } => Ok(Call::SeeWords {
+                doc: *doc,
+                page: *page,
+            }),
+            Call::SetCall {
+                doc,
+                responsive,
+                treatment,
+                designation,
+            } => Ok(Call::SetCall {
+                doc: *doc,
+                responsive: *responsive,
+                treatment: *treatment,
+                designation: copy_text(designation)?,
+            }),
+            Call::PutBox {
+                doc,
+                num,
+                page,
+                rect,
+                basis,
+            } => Ok(Call::PutBox {
+                doc: *doc,
+                num: *num,
+                page: *page,
+                rect: *rect,
+                basis: *basis,
+            }),
+            Call::DropBox { doc, num } => Ok(Call::DropBox {
+                doc: *doc,
+                num: *num,
+            }),
+            Call::HoldField { doc, field, basis } => Ok(Call::HoldField {
+                doc: *doc,
+                field: copy_text(field)?,
+                basis: *basis,
+            }),
+            Call::FreeField { doc, field } => Ok(Call::FreeField {
+                doc: *doc,
+                field: copy_text(field)?,
+            }),
+            Call::PutEntry {
+                doc,
+                date,
+                author,
+                recipients,
+                description,
+            } => Ok(Call::PutEntry {
+                doc: *doc,
+                date: copy_text(date)?,
+                author: copy_text(author)?,
+                recipients: copy_text(recipients)?,
+                description: copy_text(description)?,
+            }),
+            Call::Confirm { doc } => Ok(Call::Confirm { doc: *doc }),
+            Call::SendBack { doc } => Ok(Call::SendBack { doc: *doc }),
+            Call::Freeze { request } => Ok(Call::Freeze {
+                request: copy_request(alloc, request)?,
+            }),
+            Call::GetProduction { id } => Ok(Call::GetProduction { id: copy_text(id)? }),
+        }
+    }
+}
+
+fn copy_text(text: &Text) -> Result<Text, OutOfMemory>
+    ensures { IfOk result (λ copy. copy ≡ text.now) }
+{
+    Ok(text.clone()?)
+}
+
+fn copy_texts(alloc: Global, texts: &TextList) -> Result<TextList, OutOfMemory>
+    ensures { IfOk result (λ copies. copies ≡ texts.now) }
+{
+    let mut copies = Vec::new(alloc);
+    for text in texts.as_slice() {
+        copies.push(copy_text(text)?)?;
+    }
+    Ok(ListOf::from_vec(copies))
+}
+
+fn copy_request(alloc: Global, request: &Request) -> Result<Request, OutOfMemory>
+    ensures { IfOk result (λ copy. copy ≡ request.now) }
+{
+    let prefix = Prefix {
+        text: copy_text(&request.prefix.text)?,
+        width: request.prefix.width,
+    };
+    Ok(Request {
+        id: copy_text(&request.id)?,
+        volume: copy_text(&request.volume)?,
+        prefix,
+        from: request.from,
+        to: request.to,
+        fields: copy_texts(alloc, &request.fields)?,
+    })
+}
+
+fn copy_boxes(alloc: Global, rows: &BoxList) -> Result<BoxList, OutOfMemory>
+    ensures { IfOk result (λ copies. copies ≡ rows.now) }
+{
+    let mut copies = Vec::new(alloc);
+    for row in rows.as_slice() {
+        copies.push(*row)?;
+    }
+    Ok(ListOf::from_vec(copies))
+}
+
+fn copy_held(alloc: Global, rows: &HeldList) -> Result<HeldList, OutOfMemory>
+    ensures { IfOk result (λ copies. copies ≡ rows.now) }
+{
+    let mut copies = Vec::new(alloc);
+    for row in rows.as_slice() {
+        copies.push(*row)?;
+    }
+    Ok(ListOf::from_vec(copies))
+}
+
+fn copy_entry(entry: &Option<Entry>) -> Result<Option<Entry>, OutOfMemory>
+    ensures { IfOk result (λ copy. copy ≡ entry.now) }
+{
+    match entry {
+        None => Ok(None),
+        Some(entry) => Ok(Some(Entry {
+            date: copy_text(&entry.date)?,
+            author: copy_text(&entry.author)?,
+            recipients: copy_text(&entry.recipients)?,
+            description: copy_text(&entry.description)?,
+        })),
+    }
+}
+
+fn copy_item(alloc: Global, item: &Item) -> Result<Item, OutOfMemory>
+    ensures { IfOk result (λ copy. copy ≡ item.now) }
+{
+    Ok(Item {
+        doc: item.doc,
+        parent: item.parent,
+        treatment: item.treatment,
+        boxes: copy_boxes(alloc, &item.boxes)?,
+        held: copy_held(alloc, &item.held)?,
+        entry: copy_entry(&item.entry)?,
+        designation: copy_text(&item.designation)?,
+        span: item.span,
+    })
+}
+
+fn copy_items(alloc: Global, items: &ItemList) -> Result<ItemList, OutOfMemory>
+    ensures { IfOk result (λ copies. copies ≡ items.now) }
+{
+    let mut copies = Vec::new(alloc);
+    for item in items.as_slice() {
+        copies.push(copy_item(alloc, item)?)?;
+    }
+    Ok(ListOf::from_vec(copies))
+}

@@ -1,0 +1,37 @@
+//! The matter: its tables, always valid, and the rows that keep them.
+#![tactic(auto)]
+
+mod batches;
+mod calls;
+mod checking;
+mod copies;
+mod images;
+mod kinds;
+pub mod laws;
+mod limits;
+mod lists;
+mod lookups;
+mod marks;
+mod parts;
+mod reading;
+mod rows;
+mod tables;
+mod taking;
+#[cfg(test)]
+mod tests;
+mod texts;
+mod writing;
+
+pub use batches::{Batch, BatchDoc, BatchDocList, BatchPage, BatchPageList};
+pub use calls::{Call, DocView, Reply};
+pub use limits::{
+    MAX_BATCHES, MAX_BOX, MAX_DESCRIPTION, MAX_DESIGNATION, MAX_DOCUMENTS, MAX_FIELDS, MAX_ID,
+    MAX_NAME, MAX_PAGES, MAX_PIXELS, MAX_PRODUCTIONS, MAX_STAFF,
+};
+pub use rows::{
+    BatchRow, BoxList, BoxRow, CallRow, DocBox, DocEntry, DocHeld, DocRow, Entry, FieldRow,
+    HeldList, HeldRow, Item, ItemList, PageRow, PageWords, PrefixRow, Production, ProductionRow,
+    Request, StaffRow, State,
+};
+pub use tables::Tables;
+pub use taking::read_tables;

@@ -1,0 +1,66 @@
+// The lists of rows, before it is known whether they are the tables of a matter.
+ghost use Rattle.std.specs.Prelude.{◌≡◌, ◌++◌, IfOk};
+ghost use Rattle.bp_matter.specs.KeptRows.{rows_of};
+ghost use Rattle.bp_matter.specs.ReadRows.{runs};
+ghost use Rattle.bp_matter.specs.Lists.{matter_of};
+ghost use Rattle.bp_matter.specs.Valid.{AreWritten};
+
+use crate::kinds::take_rows;
+use crate::rows::{
+    BatchRow, CallRow, DocBox, DocEntry, DocHeld, DocRow, FieldRow, PageRow, PageWords, PrefixRow,
+    ProductionRow, StaffRow,
+};
+use bp_core::{OutOfMemory, Row};
+use std::alloc::Global;
+
+#[derive(Drop)]
+pub(crate) struct Lists {
+    pub(crate) staff: Vec<StaffRow>,
+    pub(crate) fields: Vec<FieldRow>,
+    pub(crate) docs: Vec<DocRow>,
+    pub(crate) pages: Vec<PageRow>,
+    pub(crate) calls: Vec<CallRow>,
+    pub(crate) boxes: Vec<DocBox>,
+    pub(crate) held: Vec<DocHeld>,
+    pub(crate) entries: Vec<DocEntry>,
+    pub(crate) prefixes: Vec<PrefixRow>,
+    pub(crate) productions: Vec<ProductionRow>,
+    pub(crate) batches: Vec<BatchRow>,
+    pub(crate) words: Vec<PageWords>,
+}
+
+/// The rows of each kind in turn, and what is left.
+pub(crate) fn take_lists(alloc: Global, rows: &[Row]) -> Result<(Lists, &[Row]), OutOfMemory>
+    ensures lists { IfOk result (λ x. matter_of x.0 ≡ (runs rows.now).0) }
+    ensures rest { IfOk result (λ x. x.1.now ≡ (runs rows.now).1) }
+    ensures parts { IfOk result (λ x. rows.now ≡ rows_of (matter_of x.0) ++ x.1.now) }
+    ensures written { IfOk result (λ x. AreWritten (matter_of x.0)) }
+{
+    let (staff, rest) = take_rows(alloc, rows)?;
+    let (fields, rest) = take_rows(alloc, rest)?;
+    let (docs, rest) = take_rows(alloc, rest)?;
+    let (pages, rest) = take_rows(alloc, rest)?;
+    let (calls, rest) = take_rows(alloc, rest)?;
+    let (boxes, rest) = take_rows(alloc, rest)?;
+    let (held, rest) = take_rows(alloc, rest)?;
+    let (entries, rest) = take_rows(alloc, rest)?;
+    let (prefixes, rest) = take_rows(alloc, rest)?;
+    let (productions, rest) = take_rows(alloc, rest)?;
+    let (batches, rest) = take_rows(alloc, rest)?;
+    let (words, rest) = take_rows(alloc, rest)?;
+    let lists = Lists {
+        staff,
+        fields,
+        docs,
+        pages,
+        calls,
+        boxes,
+        held,
+        entries,
+        prefixes,
+        productions,
+        batches,
+        words,
+    };
+    Ok((lists, rest))
+}

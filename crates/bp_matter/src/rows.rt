@@ -1,0 +1,304 @@
+// The rows of the tables.
+use bp_bates::{Prefix, Span};
+use bp_core::{
+    Basis, DocNo, Keyed, ListOf, PageNo, Rect, Role, StaffNo, Text, TextList, Treatment, two_keys,
+};
+use bp_rows::Page;
+use bp_text::WordList;
+
+pub type BoxList = ListOf<BoxRow>;
+
+pub type HeldList = ListOf<HeldRow>;
+
+pub type ItemList = ListOf<Item>;
+
+/// A member of the staff.
+#[derive(Debug, Drop)]
+pub struct StaffRow {
+    pub staff: StaffNo,
+    pub role: Role,
+    pub digest: [u8; 32],
+    pub name: Text,
+}
+
+/// A field of the load files.
+#[derive(Debug, Drop)]
+pub struct FieldRow {
+    pub field: u32,
+    pub name: Text,
+}
+
+/// A document. Its values are those of the first fields, in their order.
+#[derive(Debug, Drop)]
+pub struct DocRow {
+    pub doc: DocNo,
+    pub parent: DocNo,
+    pub pages: u32,
+    pub batch: u32,
+    pub id: Text,
+    pub values: TextList,
+}
+
+/// A page of a document.
+#[derive(Debug, Drop)]
+pub struct PageRow {
+    pub doc: DocNo,
+    pub page: PageNo,
+    pub image: Page,
+}
+
+/// How far the review of a document has come.
+#[derive(Clone, Copy, Debug, PartialEq, Eq)]
+pub enum State {
+    Uncalled,
+    /// Called; the number is that of the last editor.
+    First(StaffNo),
+    /// Called by the first, and confirmed by the second.
+    Confirmed(StaffNo, StaffNo),
+}
+
+/// What was decided of a called document.
+#[derive(Debug, Drop)]
+pub struct CallRow {
+    pub doc: DocNo,
+    pub state: State,
+    pub responsive: bool,
+    pub treatment: Treatment,
+    pub designation: Text,
+}
+
+/// A box of a document or of an item.
+#[derive(Clone, Copy, Debug, PartialEq, Eq)]
+pub struct BoxRow {
+    pub num: u32,
+    pub page: PageNo,
+    pub rect: Rect,
+    pub basis: Basis,
+}
+
+#[derive(Clone, Copy, Debug, PartialEq, Eq)]
+pub struct DocBox {
+    pub doc: DocNo,
+    pub row: BoxRow,
+}
+
+/// A field of a document or of an item that is held back.
+#[derive(Clone, Copy, Debug, PartialEq, Eq)]
+pub struct HeldRow {
+    pub field: u32,
+    pub basis: Basis,
+}
+
+#[derive(Clone, Copy, Debug, PartialEq, Eq)]
+pub struct DocHeld {
+    pub doc: DocNo,
+    pub row: HeldRow,
+}
+
+/// What is said of a document in the privilege log.
+#[derive(Debug, PartialEq, Eq, Drop)]
+pub struct Entry {
+    pub date: Text,
+    pub author: Text,
+    pub recipients: Text,
+    pub description: Text,
+}
+
+#[derive(Debug, Drop)]
+pub struct DocEntry {
+    pub doc: DocNo,
+    pub entry: Entry,
+}
+
+/// A prefix of labels, and the number that its next label has.
+#[derive(Debug, Drop)]
+pub struct PrefixRow {
+    pub num: u32,
+    pub prefix: Prefix,
+    pub next: u64,
+}
+
+/// What a production was asked for.
+#[derive(Debug, PartialEq, Eq, Drop)]
+pub struct Request {
+    pub id: Text,
+    pub volume: Text,
+    pub prefix: Prefix,
+    pub from: DocNo,
+    pub to: DocNo,
+    pub fields: TextList,
+}
+
+/// A document of a production, as it stood when it was frozen.
+#[derive(Debug, PartialEq, Eq, Drop)]
+pub struct Item {
+    pub doc: DocNo,
+    pub parent: DocNo,
+    pub treatment: Treatment,
+    pub boxes: BoxList,
+    pub held: HeldList,
+    pub entry: Option<Entry>,
+    pub designation: Text,
+    pub span: Span,
+}
+
+#[derive(Debug, PartialEq, Eq, Drop)]
+pub struct Production {
+    pub request: Request,
+    pub items: ItemList,
+    pub span: Span,
+}
+
+#[derive(Debug, Drop)]
+pub struct ProductionRow {
+    pub num: u32,
+    pub production: Production,
+}
+
+/// A batch that was imported.
+#[derive(Debug, Drop)]
+pub struct BatchRow {
+    pub num: u32,
+    pub digest: [u8; 32],
+    pub documents: u32,
+    pub pages: u32,
+    pub name: Text,
+}
+
+/// The words of a page.
+#[derive(Debug, Drop)]
+pub struct PageWords {
+    pub doc: DocNo,
+    pub page: PageNo,
+    pub words: WordList,
+}
+
+impl Keyed for StaffRow {
+    ghost key_of = { λ row. row.staff.0 };
+
+    fn key(&self) -> u128 {
+        let number = self.staff.0;
+        u128::from(number)
+    }
+}
+
+impl Keyed for FieldRow {
+    ghost key_of = { λ row. row.field };
+
+    fn key(&self) -> u128 {
+        let number = self.field;
+        u128::from(number)
+    }
+}
+
+impl Keyed for DocRow {
+    ghost key_of = { λ row. row.doc.0 };
+
+    fn key(&self) -> u128 {
+        let number = self.doc.0;
+        u128::from(number)
+    }
+}
+
+impl Keyed for CallRow {
+    ghost key_of = { λ row. row.doc.0 };
+
+    fn key(&self) -> u128 {
+        let number = self.doc.0;
+        u128::from(number)
+    }
+}
+
+impl Keyed for BoxRow {
+    ghost key_of = { λ row. row.num };
+
+    fn key(&self) -> u128 {
+        let number = self.num;
+        u128::from(number)
+    }
+}
+
+impl Keyed for HeldRow {
+    ghost key_of = { λ row. row.field };
+
+    fn key(&self) -> u128 {
+        let number = self.field;
+        u128::from(number)
+    }
+}
+
+impl Keyed for DocEntry {
+    ghost key_of = { λ row. row.doc.0 };
+
+    fn key(&self) -> u128 {
+        let number = self.doc.0;
+        u128::from(number)
+    }
+}
+
+impl Keyed for PrefixRow {
+    ghost key_of = { λ row. row.num };
+
+    fn key(&self) -> u128 {
+        let number = self.num;
+        u128::from(number)
+    }
+}
+
+impl Keyed for ProductionRow {
+    ghost key_of = { λ row. row.num };
+
+    fn key(&self) -> u128 {
+        let number = self.num;
+        u128::from(number)
+    }
+}
+
+impl Keyed for BatchRow {
+    ghost key_of = { λ row. row.num };
+
+    fn key(&self) -> u128 {
+        let number = self.num;
+        u128::from(number)
+    }
+}
+
+impl Keyed for PageRow {
+    ghost use Rattle.bp_core.specs.Sorted.{two_keys};
+
+    ghost key_of = { λ row. two_keys row.doc.0 row.page.0 };
+
+    fn key(&self) -> u128 {
+        two_keys(self.doc.0, self.page.0)
+    }
+}
+
+impl Keyed for DocBox {
+    ghost use Rattle.bp_core.specs.Sorted.{two_keys};
+
+    ghost key_of = { λ row. two_keys row.doc.0 row.row.num };
+
+    fn key(&self) -> u128 {
+        two_keys(self.doc.0, self.row.num)
+    }
+}
+
+impl Keyed for DocHeld {
+    ghost use Rattle.bp_core.specs.Sorted.{two_keys};
+
+    ghost key_of = { λ row. two_keys row.doc.0 row.row.field };
+
+    fn key(&self) -> u128 {
+        two_keys(self.doc.0, self.row.field)
+    }
+}
+
+impl Keyed for PageWords {
+    ghost use Rattle.bp_core.specs.Sorted.{two_keys};
+
+    ghost key_of = { λ row. two_keys row.doc.0 row.page.0 };
+
+    fn key(&self) -> u128 {
+        two_keys(self.doc.0, self.page.0)
+    }
+}

@@ -1,0 +1,92 @@
+// The tables of a matter, always valid.
+ghost use Rattle.std.specs.Prelude.{◌≡◌, ◌≤◌, ◌<◌, length, IfOk};
+ghost use Rattle.std.specs.List.{find};
+ghost use Rattle.std.specs.Option.{option_copied};
+ghost use Rattle.std.specs.Str.{bytes_eq};
+ghost use Rattle.bp_core.specs.Sorted.{find_key};
+ghost use Rattle.bp_matter.specs.Matter.{call_key, entry_key};
+ghost use Rattle.bp_matter.specs.KeptRows.{rows_of};
+ghost use Rattle.bp_matter.specs.Valid.{IsValid};
+
+use crate::kinds::add_four;
+use crate::rows::{
+    BatchRow, CallRow, DocBox, DocEntry, DocHeld, DocRow, FieldRow, PageRow, PageWords, PrefixRow,
+    ProductionRow, StaffRow,
+};
+use bp_core::{DocNo, ListOf, OutOfMemory, RowList, find_row};
+use std::alloc::Global;
+use std::marker::Model;
+
+/// The tables of a matter, one list for each kind of row.
+#[derive(Debug, Drop)]
+pub struct Tables {
+    pub staff: Vec<StaffRow>,
+    pub fields: Vec<FieldRow>,
+    pub docs: Vec<DocRow>,
+    pub pages: Vec<PageRow>,
+    pub calls: Vec<CallRow>,
+    pub boxes: Vec<DocBox>,
+    pub held: Vec<DocHeld>,
+    pub entries: Vec<DocEntry>,
+    pub prefixes: Vec<PrefixRow>,
+    pub productions: Vec<ProductionRow>,
+    pub batches: Vec<BatchRow>,
+    pub words: Vec<PageWords>,
+}
+
+impl Model for Tables {
+    ghost use Rattle.std.specs.Prelude.{◌-◌, min, vec_len};
+    ghost use Rattle.std.specs.Vec.{vec_capacity};
+    ghost use Rattle.bp_matter.specs.Matter.{Matter, Shown};
+    ghost use Rattle.bp_matter.specs.Valid.{IsValid};
+
+    ghost Value = { Shown };
+
+    ghost view = { λ t. record {
+      matter = record { staff = t.staff.items; fields = t.fields.items; docs = t.docs.items; pages = t.pages.items; calls = t.calls.items; boxes = t.boxes.items; held = t.held.items; entries = t.entries.items; prefixes = t.prefixes.items; productions = t.productions.items; batches = t.batches.items; words = t.words.items };
+      spare = min (vec_capacity t.staff - vec_len t.staff) (min (vec_capacity t.fields - vec_len t.fields) (min (vec_capacity t.docs - vec_len t.docs) (min (vec_capacity t.pages - vec_len t.pages) (min (vec_capacity t.calls - vec_len t.calls) (min (vec_capacity t.boxes - vec_len t.boxes) (min (vec_capacity t.held - vec_len t.held) (min (vec_capacity t.entries - vec_len t.entries) (min (vec_capacity t.prefixes - vec_len t.prefixes) (min (vec_capacity t.productions - vec_len t.productions) (min (vec_capacity t.batches - vec_len t.batches) (vec_capacity t.words - vec_len t.words)))))))))));
+    } };
+
+    ghost invariant = { λ t. IsValid (record { staff = t.staff.items; fields = t.fields.items; docs = t.docs.items; pages = t.pages.items; calls = t.calls.items; boxes = t.boxes.items; held = t.held.items; entries = t.entries.items; prefixes = t.prefixes.items; productions = t.productions.items; batches = t.batches.items; words = t.words.items }) };
+}
+
+impl Tables {
+    /// The kept rows, in ascending order of key.
+    pub fn rows(&self, alloc: Global) -> Result<RowList, OutOfMemory>
+        ensures { IfOk result (λ rows. rows ≡ rows_of self.now.matter) }
+    {
+        let mut rows = Vec::new(alloc);
+        add_four(
+            alloc,
+            &mut rows,
+            &self.staff,
+            &self.fields,
+            &self.docs,
+            &self.pages,
+        )?;
+        add_four(
+            alloc,
+            &mut rows,
+            &self.calls,
+            &self.boxes,
+            &self.held,
+            &self.entries,
+        )?;
+        add_four(
+            alloc,
+            &mut rows,
+            &self.prefixes,
+            &self.productions,
+            &self.batches,
+            &self.words,
+        )?;
+        Ok(ListOf::from_vec(rows))
+    }
+
+    /// Says that the tables are valid.
+    pub fn know_valid(&self)
+        ensures { IsValid self.now.matter }
+    {
+        let _staff = &self.staff;
+    }
+}

@@ -1,0 +1,293 @@
+// Kept rows as bytes, written out from their format.
+use super::*;
+use bp_core::{
+    Bytes, DocNo, ListOf, OutOfMemory, Refusal, Row, Rule, RuleKind, StaffNo, Text, Treatment,
+};
+use std::alloc::Global;
+use std::test::Fail;
+
+// The digest of nobody's key.
+const ZEROS: [u8; 32] = [0; 32];
+
+// 8 by 1 pixels, white, 200 to the inch: its T.6 strip is 80 08 00 80.
+const PAGE: [u8; 30] = [
+    1, 8, 0, 0, 0, 1, 0, 0, 0, 200, 0, 0, 0, 1, 0, 0, 0, 200, 0, 0, 0, 1, 0, 0, 0, 2, 0x80, 0x08,
+    0x00, 0x80,
+];
+
+// What a production was asked for, and its two items: document 1 produced, document 2 with a box.
+const PRODUCTION: [u8; 157] = [
+    1, 1, 0, 0, 0, b'R', 1, 0, 0, 0, b'V', 3, 0, 0, 0, b'A', b'B', b'-', 4, 1, 0, 0, 0, 2, 0, 0, 0,
+    0, 0, 0, 0, 2, 0, 0, 0, // the items
+    1, 0, 0, 0, 1, 0, 0, 0, 0, 0, 0, 0, 0, 0, 0, 0, 0, 0, 0, 0, 0, 0, // of document 1
+    1, 0, 0, 0, 0, 0, 0, 0, 2, 0, 0, 0, 0, 0, 0, 0, // its span
+    2, 0, 0, 0, 1, 0, 0, 0, 1, 1, 0, 0, 0, // of document 2, with one box
+    1, 0, 0, 0, 1, 0, 0, 0, 0, 0, 0, 0, 0, 0, 0, 0, 8, 0, 0, 0, 1, 0, 0, 0, 0, // the box
+    1, 0, 0, 0, 1, 0, 0, 0, 0, // a held field
+    1, 0, 0, 0, 0, 0, 0, 0, 0, 0, 0, 0, 0, 0, 0, 0, 0, // its entry
+    0, 0, 0, 0, 3, 0, 0, 0, 0, 0, 0, 0, 3, 0, 0, 0, 0, 0, 0, 0,
+];
+
+fn push(
+    alloc: Global,
+    rows: &mut Vec<Row>,
+    key: (u8, u32, u32),
+    parts: [&[u8]; 3],
+) -> Result<(), OutOfMemory> {
+    let mut body = Vec::new(alloc);
+    for part in parts {
+        body.extend_from_slice(part)?;
+    }
+    let (kind, k1, k2) = key;
+    let body = Bytes::from_vec(body);
+    rows.push(Row { kind, k1, k2, body })?;
+    Ok(())
+}
+
+// A valid matter with a row of each kind: two documents of one family.
+fn matter(alloc: Global) -> Result<Vec<Row>, OutOfMemory> {
+    let mut rows = Vec::new(alloc);
+    let none: &[u8] = &[];
+    let words: &[u8] = &[1, 0, 0, 0, 0];
+    push(
+        alloc,
+        &mut rows,
+        (1, 1, 0),
+        [&[1, 2], &ZEROS, &[1, 0, 0, 0, b'L']],
+    )?;
+    push(
+        alloc,
+        &mut rows,
+        (2, 1, 0),
+        [&[1, 1, 0, 0, 0, b'F'], none, none],
+    )?;
+    push(
+        alloc,
+        &mut rows,
+        (3, 1, 0),
+        [
+            &[1, 1, 0, 0, 0, 2, 0, 0, 0, 1, 0, 0, 0],
+            &[1, 0, 0, 0, b'A'],
+            &[1, 0, 0, 0, 1, 0, 0, 0, b'v'],
+        ],
+    )?;
+    push(
+        alloc,
+        &mut rows,
+        (3, 2, 0),
+        [
+            &[1, 1, 0, 0, 0, 1, 0, 0, 0, 1, 0, 0, 0],
+            &[1, 0, 0, 0, b'B'],
+            &[0, 0, 0, 0],
+        ],
+    )?;
+    push(alloc, &mut rows, (4, 1, 1), [&PAGE, none, none])?;
+    push(alloc, &mut rows, (4, 1, 2), [&PAGE, none, none])?;
+    push(alloc, &mut rows, (4, 2, 1), [&PAGE, none, none])?;
+    push(
+        alloc,
+        &mut rows,
+        (5, 2, 0),
+        [
+            &[1, 1, 1, 0, 0, 0, 0, 0, 0, 0],
+            &[1, 1],
+            &[1, 0, 0, 0, b'C'],
+        ],
+    )?;
+    push(
+        alloc,
+        &mut rows,
+        (6, 2, 1),
+        [
+            &[1, 1, 0, 0, 0],
+            &[0, 0, 0, 0, 0, 0, 0, 0, 8, 0, 0, 0, 1, 0, 0, 0],
+            &[0],
+        ],
+    )?;
+    push(alloc, &mut rows, (7, 2, 1), [&[1, 2], none, none])?;
+    push(
+        alloc,
+        &mut rows,
+        (8, 2, 0),
+        [
+            &[1, 0, 0, 0, 0, 0, 0, 0, 0],
+            &[0, 0, 0, 0],
+            &[1, 0, 0, 0, b'd'],
+        ],
+    )?;
+    push(
+        alloc,
+        &mut rows,
+        (9, 1, 0),
+        [
+            &[1, 4],
+            &[4, 0, 0, 0, 0, 0, 0, 0],
+            &[3, 0, 0, 0, b'A', b'B', b'-'],
+        ],
+    )?;
+    push(alloc, &mut rows, (10, 1, 0), [&PRODUCTION, none, none])?;
+    push(
+        alloc,
+        &mut rows,
+        (11, 1, 0),
+        [&[1], &ZEROS, &[2, 0, 0, 0, 3, 0, 0, 0, 1, 0, 0, 0, b'B']],
+    )?;
+    push(alloc, &mut rows, (12, 1, 1), [words, none, none])?;
+    push(alloc, &mut rows, (12, 1, 2), [words, none, none])?;
+    push(
+        alloc,
+        &mut rows,
+        (12, 2, 1),
+        [
+            &[1, 1, 0, 0, 0, 7, 0, 0, 0],
+            &[1, 0, 0, 0, 0, 0, 0, 0, 4, 0, 0, 0, 1, 0, 0, 0],
+            &[1, 0, 0, 0, b'w'],
+        ],
+    )?;
+    Ok(rows)
+}
+
+// KeptRowBad, with the key of a row.
+fn bad(row: &Row) -> Refusal {
+    Refusal::Rule(Rule {
+        kind: RuleKind::KeptRowBad,
+        line: 0,
+        a: u64::from(row.kind),
+        b: u64::from(row.k1) * 4_294_967_296 + u64::from(row.k2),
+    })
+}
+
+// KeptRowBad, with 0 and 0.
+const INVALID: Refusal = Refusal::Rule(Rule {
+    kind: RuleKind::KeptRowBad,
+    line: 0,
+    a: 0,
+    b: 0,
+});
+
+fn refusal(alloc: Global, rows: Vec<Row>) -> Option<Refusal> {
+    match read_tables(alloc, &ListOf::from_vec(rows)) {
+        Ok(_) => None,
+        Err(refusal) => Some(refusal),
+    }
+}
+
+// The matter with another body in the row at this place: the first bytes of it, and one more.
+fn cut(
+    alloc: Global,
+    at: usize,
+    len: usize,
+    last: Option<u8>,
+) -> Result<Option<Refusal>, OutOfMemory> {
+    let mut rows = matter(alloc)?;
+    let mut body = Vec::new(alloc);
+    if let Some(row) = rows.get(at) {
+        for byte in row.body.as_slice().iter().take(len) {
+            body.push(*byte)?;
+        }
+    }
+    if let Some(byte) = last {
+        body.push(byte)?;
+    }
+    if let Some(row) = rows.get_mut(at) {
+        row.body = Bytes::from_vec(body);
+    }
+    Ok(refusal(alloc, rows))
+}
+
+#[test]
+fn kept_rows_come_back(rt: HostRuntime) -> Result<(), Fail> {
+    let alloc = rt.alloc();
+    let rows = ListOf::from_vec(matter(alloc)?);
+    let tables = read_tables(alloc, &rows)?;
+    assert!(rt; tables.rows(alloc)? == rows);
+    assert_eq!(rt; tables.documents(), 2);
+    Ok(())
+}
+
+// Each shorter body, and each longer by one byte, of each of the seventeen rows.
+#[test]
+fn a_body_cut_short_or_too_long_is_refused(rt: HostRuntime) -> Result<(), Fail> {
+    let alloc = rt.alloc();
+    let rows = matter(alloc)?;
+    for at in 0..rows.len() {
+        let row = &rows[at];
+        let len = row.body.len();
+        for shorter in 0..len {
+            assert_eq!(rt; cut(alloc, at, shorter, None)?, Some(bad(row)));
+        }
+        assert_eq!(rt; cut(alloc, at, len, Some(0))?, Some(bad(row)));
+    }
+    Ok(())
+}
+
+#[test]
+fn two_bad_rows_name_the_least_key(rt: HostRuntime) -> Result<(), Fail> {
+    let alloc = rt.alloc();
+    let mut rows = Vec::new(alloc);
+    push(alloc, &mut rows, (13, 0, 0), [&[1], &[], &[]])?;
+    push(alloc, &mut rows, (7, 9, 4), [&[1, 4], &[], &[]])?;
+    push(alloc, &mut rows, (7, 9, 5), [&[0, 0], &[], &[]])?;
+    let least = bad(&rows[1]);
+    assert_eq!(rt; refusal(alloc, rows), Some(least));
+    Ok(())
+}
+
+// A matter without rows has no lead.
+#[test]
+fn rows_of_no_valid_matter_are_refused(rt: HostRuntime) -> Result<(), Fail> {
+    let alloc = rt.alloc();
+    assert_eq!(rt; refusal(alloc, Vec::new(alloc)), Some(INVALID));
+    let mut rows = matter(alloc)?;
+    rows.reverse();
+    assert_eq!(rt; refusal(alloc, rows), Some(INVALID));
+    for at in 0..17 {
+        let mut rows = matter(alloc)?;
+        if at < rows.len() {
+            let _row = rows.remove(at);
+        }
+        // without its call, its box, its held field or its entry a matter of an uncalled document is valid
+        let valid = matches!(at, 7 | 8 | 9 | 10);
+        assert_eq!(rt; refusal(alloc, rows).is_none(), valid);
+    }
+    Ok(())
+}
+
+fn asks_to_be_shared<T: Send + Sync>(_value: &T) {}
+
+#[test]
+fn tables_may_be_shared_and_looked_up(rt: HostRuntime) -> Result<(), Fail> {
+    let alloc = rt.alloc();
+    let tables = read_tables(alloc, &ListOf::from_vec(matter(alloc)?))?;
+    asks_to_be_shared(&tables);
+    assert_eq!(rt; tables.lead_digest(), ZEROS);
+    assert_eq!(rt; tables.doc_pages(DocNo(1)), Some(2));
+    assert_eq!(rt; tables.doc_pages(DocNo(3)), None);
+    assert_eq!(rt; tables.state(DocNo(1)), Some(State::Uncalled));
+    assert_eq!(rt; tables.state(DocNo(2)), Some(State::First(StaffNo(1))));
+    assert_eq!(rt; tables.boxes_on(DocNo(2)).len(), 1);
+    let id = Text::from_string(String::from_str(alloc, "R")?);
+    match tables.production(&id) {
+        Some(found) => assert!(rt; found.copy(alloc)? == *found),
+        None => assert!(rt; false),
+    }
+    Ok(())
+}
+
+#[test]
+fn a_copied_call_is_equal(rt: HostRuntime) -> Result<(), Fail> {
+    let alloc = rt.alloc();
+    let designation = Text::from_string(String::from_str(alloc, "CONFIDENTIAL")?);
+    let call = Call::SetCall {
+        doc: DocNo(2),
+        responsive: true,
+        treatment: Treatment::Redact,
+        designation,
+    };
+    let Call::SetCall { designation, .. } = call.copy(alloc)? else {
+        assert!(rt; false);
+        return Ok(());
+    };
+    assert_eq!(rt; designation.as_str(), "CONFIDENTIAL");
+    Ok(())
+}

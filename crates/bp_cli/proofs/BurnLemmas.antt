@@ -18,7 +18,8 @@ use Rattle.bp_tiff.specs.Tiff.{tiff_of}
 use Rattle.bp_tiff.specs.PageRules.{IsPageRule}
 use Rattle.bp_tiff.specs.PageRules as page
 use Rattle.bp_tiff.specs.Read.{TiffReads, TiffFault, TiffAnswers}
-use Rattle.bp_t6.specs.Strips.{IfRule}
+use Rattle.std.specs.Option.{ok_or}
+use Rattle.bp_core.specs.Answers.{Answers, IfRule}
 use Rattle.bp_outside.specs.Source.{FileMap, SourceView, ReadOver, after_read}
 use Rattle.bp_outside.specs.Folder.{FolderView, PutsPart, after_refusal, file, with_file}
 use Rattle.bp_outside.specs.declared.refusals.ReadRefusal.{ReadRefusal}
@@ -35,9 +36,9 @@ use Rattle.bp_core.specs.declared.refusals.Refusal.{Refusal}
 use Rattle.bp_core.specs.declared.refusals.Refusal.TheVariants as refusals
 use Rattle.bp_rows.specs.Limits.{sides_are_imported}
 use Rattle.bp_cli.specs.Burn.{BurnLine, BurnPaths, paths_of, path_refused, lacks_a_side, burn_page, burn_read, FileAnswers, PathAnswers, BurnsAt, BurnComes, burn_done, burn_gives, counted_line}
-use Rattle.bp_cli.specs.Burning.{page_put, NamesPaths, MeetsPageRule, BurnsBytes, PutsPage}
+use Rattle.bp_cli.specs.Burning.{page_put, NamesPath, NamesPaths, MeetsPageRule, BurnsBytes, PutsPage}
 use Rattle.bp_cli.specs.Commands.{burn, IsOutcome}
-use Rattle.bp_cli.specs.Stops.{StopsFor, StopsForFolder, StopAnswers, read_stop}
+use Rattle.bp_cli.specs.Stops.{StopsFor, StopsForFolder, read_stop}
 
 -- ---- files that a source doesn't tell
 
@@ -129,21 +130,17 @@ box_rule source false true t limit x rule calm broken = same_kind source (bare_r
 box_rule source false false true limit x rule calm broken = cc
 box_rule source false false false limit x rule calm broken = same_kind source (bare_rule kinds.BoxOutside) rule (same_rule (bare_rule kinds.BoxOutside) rule broken) refl
 
-page_met : (area : Rect) (bytes : List ℕ) (p : Image) (rule : Rule) → TiffReads bytes p → burn_page area p ≡ Err rule → MeetsPageRule area bytes rule
+-- a page was read, and a rule met
+pub page_met : (area : Rect) (bytes : List ℕ) (p : Image) (rule : Rule) → TiffReads bytes p → Err rule ≡ burn_page area p → MeetsPageRule area bytes rule
 page_met area bytes p rule reads met = record {
-  comes = record { answer = Ok p; found = reads; gives = met };
+  comes = record { answer = Ok p; found = reads; gives = sym met };
   calm = λ source. box_rule source (not (sides_are_imported p.width p.height)) (lacks_a_side area) (lies_inside area p.width p.height)
-      (page_limit_rule p.width p.height) (burned p (area ∷ [])) rule refl met;
+      (page_limit_rule p.width p.height) (burned p (area ∷ [])) rule refl (sym met);
 }
 
--- a page was read, and the box burned or a rule met
-pub page_burned : (area : Rect) (bytes : List ℕ) (p : Image) (r : Result Image Rule) (s : Result Image Stop) → TiffReads bytes p → r ≡ burn_page area p → StopAnswers s r → BurnsBytes area bytes s
-page_burned area bytes p r (Ok q) reads is answers = record { answer = Ok p; found = reads; gives = sym is ∙ answers }
-page_burned area bytes p r (Err (stops.Broken rule)) reads is answers = page_met area bytes p rule reads (sym is ∙ answers)
-page_burned area bytes p r (Err stops.OutOfMemory) reads is answers = tt
-page_burned area bytes p r (Err stops.WordsRefused) reads is answers = answers
-page_burned area bytes p r (Err stops.SourceFault) reads is answers = answers
-page_burned area bytes p r (Err stops.FolderFault) reads is answers = answers
+-- or the box burned
+pub page_burned : (area : Rect) (bytes : List ℕ) (p q : Image) → TiffReads bytes p → Ok q ≡ burn_page area p → BurnsBytes area bytes (Ok q)
+page_burned area bytes p q reads is = record { answer = Ok p; found = reads; gives = sym is }
 
 -- a file was refused
 pub file_refused : (area : Rect) (bytes : List ℕ) (refusal : Refusal) (stop : Stop) → IfRule (TiffFault bytes) refusal → IfRule (λ rule. IsPageRule rule.kind) refusal → StopsFor refusal stop → BurnsBytes area bytes (Err stop)
@@ -153,16 +150,20 @@ file_refused area bytes (refusals.Rule rule) stop fault kind is =
 file_refused area bytes refusals.OutOfMemory stop fault kind is =
     subst (λ (s : Stop). BurnsBytes area bytes (Err s)) (sym is) tt
 
--- a file that isn't too long answers as its bytes do
+-- a file answers by its length and its bytes
+abbrev too_long_rule : Rule
+too_long_rule = bare_rule kinds.FileTooLong
+
+abbrev FileAnswersIf : Bool → List ℕ → Result Image Rule → Type 0
+FileAnswersIf long bytes answer = elim long [ | true ↦ answer ≡ Err too_long_rule | false ↦ TiffAnswers bytes answer ]
+
 short_answers : (bytes : List ℕ) (answer : Result Image Rule) → length bytes ≤ FILE_LIMIT → TiffAnswers bytes answer → FileAnswers bytes answer
 short_answers bytes answer short is =
-    let P : Bool → Type 0 = λ long. elim long [ | true ↦ answer ≡ Err (bare_rule kinds.FileTooLong) | false ↦ TiffAnswers bytes answer ] in
-    subst P (sym (le-ltb FILE_LIMIT (length bytes) short)) is
+    subst (λ (long : Bool). FileAnswersIf long bytes answer) (sym (le-ltb FILE_LIMIT (length bytes) short)) is
 
-long_answers : (bytes : List ℕ) → FILE_LIMIT < length bytes → FileAnswers bytes (Err (bare_rule kinds.FileTooLong))
-long_answers bytes long =
-    let P : Bool → Type 0 = λ b. elim b [ | true ↦ Err (bare_rule kinds.FileTooLong) ≡ Err (bare_rule kinds.FileTooLong) | false ↦ TiffAnswers bytes (Err (bare_rule kinds.FileTooLong)) ] in
-    subst P (sym (lt-ltb FILE_LIMIT (length bytes) long)) refl
+long_answers : (bytes : List ℕ) (answer : Result Image Rule) → FILE_LIMIT < length bytes → answer ≡ Err too_long_rule → FileAnswers bytes answer
+long_answers bytes answer long is =
+    subst (λ (b : Bool). FileAnswersIf b bytes answer) (sym (lt-ltb FILE_LIMIT (length bytes) long)) is
 
 pub made_page : (b : BurnLine) (paths : BurnPaths) (before : World) (source' : SourceView) (bytes : List ℕ) (r : Result Image Stop) → paths_of b ≡ Some paths → length bytes ≤ FILE_LIMIT → IfSome before.source.files (λ files. map.get files paths.from ≡ Some bytes) → source' ≡ before.source → BurnsBytes b.area bytes r → Makes (IsOutcome (burn b) before) (page_put b.form paths.to) before.source r source'
 made_page b paths before source' bytes (Ok p) named short there stays it =
@@ -180,20 +181,17 @@ made_page b paths before source' bytes (Err stops.FolderFault) named short there
 longer : (n : ℕ) → (bytes : List ℕ) × (n < length bytes)
 longer n = let zero_byte : ℕ = 0 in (replicate (n + 1) zero_byte, omega (arith, length-replicate (n + 1) zero_byte))
 
-abbrev too_long_rule : Rule
-too_long_rule = bare_rule kinds.FileTooLong
-
 too_long_there : (b : BurnLine) (paths : BurnPaths) (before : World) (files : FileMap) (found : Option (List ℕ)) → paths_of b ≡ Some paths → before.source.files ≡ Some files → map.get files paths.from ≡ found → IsSomeAnd found (λ bytes. FILE_LIMIT < length bytes) → IsOutcome (burn b) before (refused too_long_rule)
 too_long_there b paths before files None named is get long = elim long [ ]
 too_long_there b paths before files (Some bytes) named is get long =
     let P : Option FileMap → Type 0 = λ o. IfSome o (λ fs. map.get fs paths.from ≡ Some bytes) in
-    outcome_is b paths before (Some bytes) (Err too_long_rule) (refused too_long_rule) named (long_answers bytes long) (subst P (sym is) get) refl
+    outcome_is b paths before (Some bytes) (Err too_long_rule) (refused too_long_rule) named (long_answers bytes (Err too_long_rule) long refl) (subst P (sym is) get) refl
 
 too_long : (b : BurnLine) (paths : BurnPaths) (before : World) (told : Option FileMap) → paths_of b ≡ Some paths → before.source.files ≡ told → IfSome told (λ files. IsSomeAnd (map.get files paths.from) (λ bytes. FILE_LIMIT < length bytes)) → IsOutcome (burn b) before (refused too_long_rule)
 too_long b paths before (Some files) named is long = too_long_there b paths before files (map.get files paths.from) named is refl long
 too_long b paths before None named is long =
     let P : Option FileMap → Type 0 = λ o. IfSome o (λ fs. map.get fs paths.from ≡ Some (longer FILE_LIMIT).0) in
-    outcome_is b paths before (Some (longer FILE_LIMIT).0) (Err too_long_rule) (refused too_long_rule) named (long_answers (longer FILE_LIMIT).0 (longer FILE_LIMIT).1) (subst P (sym is) tt) refl
+    outcome_is b paths before (Some (longer FILE_LIMIT).0) (Err too_long_rule) (refused too_long_rule) named (long_answers (longer FILE_LIMIT).0 (Err too_long_rule) (longer FILE_LIMIT).1 refl) (subst P (sym is) tt) refl
 
 pub refused_read : (b : BurnLine) (paths : BurnPaths) (before : World) (source' : SourceView) (refusal : ReadRefusal) → paths_of b ≡ Some paths → IfSome before.source.files (ReadOver paths.from FILE_LIMIT (Err refusal)) → source' ≡ after_read before.source (Err refusal) → Makes (IsOutcome (burn b) before) (page_put b.form paths.to) before.source (Err (read_stop refusal)) source'
 refused_read b paths before source' reads.Absent named there after = (outcome_is b paths before None (Err (bare_rule kinds.FileAbsent)) (refused (bare_rule kinds.FileAbsent)) named refl there refl, after)
@@ -246,6 +244,20 @@ pub made_stops : (b : BurnLine) (gives : Image → Outcome) (before : World) (so
 made_stops b gives before source' stop (Ok line) is same made = absurd same
 made_stops b gives before source' stop (Err s) is same made =
     subst (λ (t : Stop). Ends (IsOutcome (burn b) before) before (Err t) (world source' before.folder)) (sym same) (made_stop b gives before source' stop made)
+
+-- ---- a word that names a path, or none
+
+not_named : (o : Option (List ℕ)) (rule : Rule) → ok_or o path_refused ≡ Err rule → (o ≡ None) × (rule ≡ path_refused)
+not_named None rule same = (refl, cc)
+not_named (Some path) rule same = cc
+
+pub path_refusal : (o : Option (List ℕ)) (refusal : Refusal) (stop : Stop) → Answers {X = List ℕ} (λ path. path) (Err refusal) (ok_or o path_refused) → StopsFor refusal stop → NamesPath o (Err stop)
+path_refusal o (refusals.Rule rule) stop answered is = subst (λ (s : Stop). NamesPath o (Err s)) (sym is) (not_named o rule answered)
+path_refusal o refusals.OutOfMemory stop answered is = subst (λ (s : Stop). NamesPath o (Err s)) (sym is) tt
+
+pub path_answer : (o : Option (List ℕ)) (path : List ℕ) → ok_or o path_refused ≡ Ok path → o ≡ Some path
+path_answer None path same = cc
+path_answer (Some p) path same = cc
 
 -- a word named no path
 path_stop : (b : BurnLine) (before : World) (stop : Stop) → NamesPaths b (Err stop) → Ends (IsOutcome (burn b) before) before (Err stop) before

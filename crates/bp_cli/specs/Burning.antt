@@ -20,6 +20,15 @@ use Rattle.bp_cli.specs.Endings.{Outcome, Ending, after_kind, failed_folder}
 abbrev pub paths_seen : Paths → BurnPaths
 paths_seen paths = record { from = paths.from; to = paths.to }
 
+-- the path that a word names, or the rule where it names none
+abbrev pub NamesPath : Option (List ℕ) → Result (List ℕ) Stop → Type 0
+NamesPath named (Ok path) = named ≡ Some path
+NamesPath named (Err (stops.Broken rule)) = (named ≡ None) × (rule ≡ path_refused)
+NamesPath named (Err stops.OutOfMemory) = Unit {0}
+NamesPath named (Err stops.WordsRefused) = ⊥
+NamesPath named (Err stops.SourceFault) = ⊥
+NamesPath named (Err stops.FolderFault) = ⊥
+
 -- the paths of the line, or the rule where a word names none
 abbrev pub NamesPaths : BurnLine → Result Paths Stop → Type 0
 NamesPaths b (Ok paths) = paths_of b ≡ Some (paths_seen paths)

@@ -1,11 +1,14 @@
 // The command `burn`.
 ghost use Rattle.std.specs.Prelude.{◌≡◌, Some, IfOk};
 ghost use Rattle.std.specs.Option.{option_map};
+ghost use Rattle.std.specs.Str.{chars};
+ghost use Rattle.bp_core.specs.Paths.{path_in};
 ghost use Rattle.bp_outside.specs.Folder.{FolderView};
+ghost use Rattle.bp_tiff.specs.Parts.{file_in};
 ghost use Rattle.bp_tiff.specs.Tiff.{tiff_of};
 ghost use Rattle.bp_cli.specs.Words.{word_bytes};
 ghost use Rattle.bp_cli.specs.Burn.{form_of, box_of, burn_of, burn_seen, paths_of, burn_page, counted_line};
-ghost use Rattle.bp_cli.specs.Burning.{paths_seen, page_put, NamesPaths, BurnsBytes, PutsPage};
+ghost use Rattle.bp_cli.specs.Burning.{paths_seen, page_put, NamesPath, NamesPaths, BurnsBytes, PutsPage};
 ghost use Rattle.bp_cli.specs.Commands.{burn, IsOutcome};
 ghost use Rattle.bp_cli.specs.Endings.{world, Ends, Makes};
 ghost use Rattle.bp_cli.specs.Stops.{read_stop};
@@ -16,7 +19,7 @@ use bp_burn::burn_in_place;
 use bp_core::{Bytes, OutOfMemory, Rect, Rule, RuleKind, Text, path_of};
 use bp_outside::{Folder, ReadRefusal, Source, put_parts};
 use bp_rows::{Page, import_sides};
-use bp_tiff::{Form, read_tiff, tiff_parts};
+use bp_tiff::{Form, TiffParts, read_tiff, tiff_parts};
 use std::alloc::Global;
 
 /// The most bytes that a file may have which is read.
@@ -108,9 +111,18 @@ pub fn burn_box<S: Source, F: Folder>(
 fn burn_paths(alloc: Global, asked: &Burn<'_>) -> Result<BurnPaths, Stop>
     ensures { NamesPaths (burn_seen asked.now) result }
 {
-    let from = path_of(alloc, asked.from)?;
-    let to = path_of(alloc, asked.to)?;
+    let from = path_named(alloc, asked.from)?;
+    let to = path_named(alloc, asked.to)?;
     Ok(BurnPaths { from, to })
+}
+
+fn path_named(alloc: Global, word: &str) -> Result<Text, Stop>
+    ensures { NamesPath (path_in (chars word.now)) result }
+{
+    match path_of(alloc, word) {
+        Ok(path) => Ok(path),
+        Err(refusal) => Err(Stop::from(refusal)),
+    }
 }
 
 // The page of the file at IN with the box burned.
@@ -150,7 +162,10 @@ fn burned(alloc: Global, area: Rect, bytes: &[u8]) -> Result<Page, Stop>
     ensures { BurnsBytes area bytes.now result }
 {
     match read_tiff(alloc, bytes) {
-        Ok(page) => burned_in(area, page).map_err(Stop::Broken),
+        Ok(page) => match burned_in(area, page) {
+            Ok(burned) => Ok(burned),
+            Err(rule) => Err(Stop::Broken(rule)),
+        },
         Err(refusal) => Err(Stop::from(refusal)),
     }
 }
@@ -185,9 +200,20 @@ fn put_page<F: Folder>(
         PutsPage to (tiff_of form page.now) (F.shows folder.old) result (F.shows folder.new) }
 {
     let file = tiff_parts(alloc, form, page)?;
+    put_file_parts(alloc, &paths.to, &file, folder)
+}
+
+fn put_file_parts<F: Folder>(
+    alloc: Global,
+    to: &Text,
+    file: &TiffParts<'_>,
+    folder: &mut F,
+) -> Result<Bytes, Stop>
+    ensures { PutsPage to.now (file_in file.now) (F.shows folder.old) result (F.shows folder.new) }
+{
     let (head, strip) = (file.head.as_slice(), file.strip.as_slice());
     let line = line_of_count(alloc, head.len() + strip.len())?;
-    match put_parts(alloc, folder, paths.to.as_str(), head, strip) {
+    match put_parts(alloc, folder, to.as_str(), head, strip) {
         Ok(()) => Ok(line),
         Err(refusal) => Err(Stop::from(refusal)),
     }

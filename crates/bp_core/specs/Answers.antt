@@ -10,3 +10,8 @@ abbrev pub Answers : {X V : Type 0} → (X → V) → Result X Refusal → Resul
 Answers view (Ok x) defined = defined ≡ Ok (view x)
 Answers view (Err (refusals.Rule rule)) defined = defined ≡ Err rule
 Answers view (Err refusals.OutOfMemory) defined = Unit {0}
+
+-- a refusal by a rule says this of it; of want of memory nothing is said
+abbrev pub IfRule : (Rule → Type 0) → Refusal → Type 0
+IfRule P (refusals.Rule rule) = P rule
+IfRule P refusals.OutOfMemory = Unit {0}

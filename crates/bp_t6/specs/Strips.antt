@@ -47,11 +47,6 @@ pub record SaysFault (bits : List Bool) (width height first : ℕ) (rule : Broke
   pub fault : StripFault bits width height kind row at
   pub says : rule ≡ fault_rule kind (first + row) at
 
--- a refusal by a rule says which it is
-abbrev pub IfRule : (BrokenRule → Type 0) → Refusal → Type 0
-IfRule P (refusals.Rule rule) = P rule
-IfRule P refusals.OutOfMemory = Unit {0}
-
 -- by the sides, or by the first fault of the strip
 abbrev pub IsRefused : List Bool → ℕ → ℕ → Refusal → Type 0
 IsRefused bits width height (refusals.Rule rule) =

@@ -9,7 +9,8 @@ ghost use Rattle.bp_codes.specs.Span.{span_bits};
 ghost use Rattle.bp_t6.specs.Read.{StripReads};
 ghost use Rattle.bp_t6.specs.Faults.{StripFault};
 ghost use Rattle.bp_core.specs.declared.rules.RuleKind.{RuleKind};
-ghost use Rattle.bp_t6.specs.Strips.{AppendsLines, SaysFault, IfRule, IsRefused, OrNoMemory, refusal_for, fault_rule, page_of};
+ghost use Rattle.bp_t6.specs.Strips.{AppendsLines, SaysFault, IsRefused, OrNoMemory, refusal_for, fault_rule, page_of};
+ghost use Rattle.bp_core.specs.Answers.{IfRule};
 
 use crate::laws::reading_law;
 use crate::line_reader::read_row;

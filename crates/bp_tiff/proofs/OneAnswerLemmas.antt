@@ -3,7 +3,6 @@ use Rattle.std.proofs.Common.{ℕ, zero, suc, ◌≡◌, ◌+◌, inl, inr, Bool
 use Rattle.bp_codes.specs.Bits.{bits_of}
 use Rattle.bp_core.specs.declared.rules.Rule.{Rule}
 use Rattle.bp_core.specs.declared.rules.RuleKind.{RuleKind}
-use Rattle.bp_core.specs.Answers.{Answers}
 use Rattle.bp_core.specs.declared.refusals.Refusal.{Refusal}
 use Rattle.bp_core.specs.declared.refusals.Refusal.TheVariants as refusals
 use Rattle.bp_rows.specs.Image.{Image}
@@ -12,7 +11,8 @@ use Rattle.bp_t6.specs.Read.{StripReads}
 use Rattle.bp_tiff.specs.declared.layout.Coding.{Coding}
 use Rattle.bp_tiff.specs.declared.layout.Layout.{Layout}
 use Rattle.bp_tiff.specs.Layout.{layout_of}
-use Rattle.bp_t6.specs.Strips.{fault_rule, IfRule}
+use Rattle.bp_t6.specs.Strips.{fault_rule}
+use Rattle.bp_core.specs.Answers.{Answers, IfRule}
 use Rattle.bp_tiff.specs.Pixels.{inked, CodedHolds, PackedHolds, CodedBreaks, PackedBreaks}
 use Rattle.bp_tiff.specs.Read.{StripsHold, StripsBreak, page_of, TiffReads, TiffFault, TiffAnswers}
 

@@ -36,7 +36,7 @@ use Rattle.bp_rows.specs.declared.resolution.Res.{Res}
 use Rattle.bp_core.specs.declared.rules.RuleKind.TheVariants as kinds
 use Rattle.bp_core.specs.declared.refusals.Refusal.{Refusal}
 use Rattle.bp_core.specs.declared.refusals.Refusal.TheVariants as refusals
-use Rattle.bp_t6.specs.Strips.{IfRule}
+use Rattle.bp_core.specs.Answers.{IfRule}
 
 -- ---- steps of which the first that breaks a rule is the answer
 

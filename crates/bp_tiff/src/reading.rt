@@ -1,12 +1,11 @@
 // Page files read.
 ghost use Rattle.std.specs.Prelude.{◌≡◌, ℕ, ◌+◌, ◌*◌, ◌≤◌, ◌<◌, not, true, false, Result, length, IsTrue, IfOk, IfErr, if◌then◌else◌};
 ghost use Rattle.bp_codes.specs.declared.span.Fill.TheVariants.{High, Low};
-ghost use Rattle.bp_core.specs.Answers.{Answers};
 ghost use Rattle.bp_core.specs.declared.rules.Rule.{Rule};
 ghost use Rattle.bp_rows.specs.Bits.{row_bytes};
 ghost use Rattle.bp_rows.specs.Image.{Image};
 ghost use Rattle.bp_rows.specs.Limits.{sides_are_allowed};
-ghost use Rattle.bp_t6.specs.Strips.{IfRule};
+ghost use Rattle.bp_core.specs.Answers.{Answers, IfRule};
 ghost use Rattle.bp_tiff.specs.Appending.{kept_fill, lines_in};
 ghost use Rattle.bp_tiff.specs.PageRules.{IsPageRule};
 ghost use Rattle.bp_tiff.specs.Pixels.{value_in, packed_values};

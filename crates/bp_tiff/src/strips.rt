@@ -1,7 +1,7 @@
 // The rows of the strips, put one behind another.
 ghost use Rattle.std.specs.Prelude.{◌≡◌, ◌+◌, ◌*◌, ◌≤◌, ◌<◌, ◌^◌, ◌++◌, [], length, take, drop, OnOk, IfErr};
 ghost use Rattle.bp_rows.specs.Bits.{row_bytes};
-ghost use Rattle.bp_t6.specs.Strips.{IfRule};
+ghost use Rattle.bp_core.specs.Answers.{IfRule};
 ghost use Rattle.bp_tiff.specs.Appending.{AppendsStrip, HasRead, lines_in};
 ghost use Rattle.bp_tiff.specs.Layout.{IsLaid};
 ghost use Rattle.bp_tiff.specs.Pixels.{PackedBreaks};

@@ -3,7 +3,7 @@ use Rattle.bp_core.specs.declared.rules.Rule.{Rule}
 use Rattle.bp_core.specs.declared.refusals.Refusal.{Refusal}
 use Rattle.bp_core.specs.declared.refusals.Refusal.TheVariants as refusals
 use Rattle.bp_rows.specs.Bits.{row_bytes}
-use Rattle.bp_t6.specs.Strips.{IfRule}
+use Rattle.bp_core.specs.Answers.{IfRule}
 use Rattle.bp_tiff.specs.Layout.{strips_due}
 use Rattle.bp_tiff.proofs.InTurnLemmas.{before_end, read_more, breaks_here, rows_all, all_held}
 use Rattle.bp_tiff.proofs.strips.put_strips.Goals as goal

@@ -53,6 +53,24 @@ const BLACK_G4: [u8; 204] = [
     0x26, 0xA2, 0x80, 0x08, 0x00, 0x80, // horizontal, no white, 8 black; EOFB
 ];
 
+// A black page of 8 by 3: the highest byte first, the first bit low, 0 is black, three strips, no
+// resolution.
+const STRANGE: [u8; 140] = [
+    0x4D, 0x4D, 0x00, 0x2A, 0x00, 0x00, 0x00, 0x08, 0x00, 0x08, // header, count of entries
+    0x01, 0x00, 0x00, 0x03, 0x00, 0x00, 0x00, 0x01, 0x00, 0x08, 0x00, 0x00, // ImageWidth
+    0x01, 0x01, 0x00, 0x03, 0x00, 0x00, 0x00, 0x01, 0x00, 0x03, 0x00, 0x00, // ImageLength
+    0x01, 0x03, 0x00, 0x03, 0x00, 0x00, 0x00, 0x01, 0x00, 0x04, 0x00, 0x00, // Compression
+    0x01, 0x06, 0x00, 0x03, 0x00, 0x00, 0x00, 0x01, 0x00, 0x01, 0x00, 0x00, // Photometric
+    0x01, 0x0A, 0x00, 0x03, 0x00, 0x00, 0x00, 0x01, 0x00, 0x02, 0x00, 0x00, // FillOrder
+    0x01, 0x11, 0x00, 0x04, 0x00, 0x00, 0x00, 0x03, 0x00, 0x00, 0x00, 0x6E, // StripOffsets
+    0x01, 0x16, 0x00, 0x03, 0x00, 0x00, 0x00, 0x01, 0x00, 0x01, 0x00, 0x00, // RowsPerStrip
+    0x01, 0x17, 0x00, 0x03, 0x00, 0x00, 0x00, 0x03, 0x00, 0x00, 0x00, 0x7A, // StripByteCounts
+    0x00, 0x00, 0x00, 0x00, // no next directory
+    0x00, 0x00, 0x00, 0x80, 0x00, 0x00, 0x00, 0x84, 0x00, 0x00, 0x00, 0x88, // three offsets
+    0x00, 0x04, 0x00, 0x04, 0x00, 0x04, // three lengths
+    0x01, 0x10, 0x00, 0x01, 0x01, 0x10, 0x00, 0x01, 0x01, 0x10, 0x00, 0x01, // three strips
+];
+
 const WORKED: &str = "burn a.tif 0 0 8 1 b.tif plain";
 
 fn row(alloc: Global, path: &str, bytes: &[u8]) -> Result<FileRow, AllocError> {
@@ -118,13 +136,15 @@ fn words_of(alloc: Global, line: &str) -> Result<Vec<String>, AllocError> {
     Ok(words)
 }
 
-// A source with the white page at a.tif, a black one at k.tif, one of three black rows at
-// r.tif, and the one byte `x` at x.tif.
+// A source with the white page at a.tif, a black one at k.tif and in Group 4 at g.tif, one of three
+// black rows at r.tif and as a stranger writes it at c.tif, and the one byte `x` at x.tif.
 fn source_of(alloc: Global, failing: &[u64]) -> Result<MemSource, Fail> {
     let rows = vec![in alloc;
         row(alloc, "a.tif", &WHITE)?,
         row(alloc, "k.tif", &file_of(alloc, 0xFF)?)?,
         row(alloc, "r.tif", &black_rows(alloc)?)?,
+        row(alloc, "g.tif", &BLACK_G4)?,
+        row(alloc, "c.tif", &STRANGE)?,
         row(alloc, "x.tif", b"x")?,
     ]?;
     let files = FileList::from_vec(rows);
@@ -162,6 +182,9 @@ fn a_box_is_burned(rt: HostRuntime) -> Result<(), Fail> {
         // What the box covers was black here, and nothing else may tell.
         ("burn k.tif 0 0 8 1 b.tif plain", 0xFF),
         ("burn k.tif 3 0 1 1 b.tif plain", 0xFF),
+        ("burn g.tif 3 0 1 1 b.tif plain", 0xFF),
+        // Paths are made of the words.
+        ("burn .\\a.tif 0 0 8 1 ./b.tif plain", 0xFF),
     ] {
         let seen = ran(alloc, line, &NOTHING_FAILS)?;
         assert_eq!(rt; seen.status, 0, "{line}");
@@ -183,13 +206,18 @@ fn a_box_is_burned(rt: HostRuntime) -> Result<(), Fail> {
 #[test]
 fn rows_that_were_black_are_burned(rt: HostRuntime) -> Result<(), Fail> {
     let alloc = rt.alloc();
-    let seen = ran(alloc, "burn r.tif 2 0 4 3 b.tif plain", &NOTHING_FAILS)?;
-    assert_eq!(rt; seen.status, 0);
-    assert_eq!(rt; seen.out.written(), b"burned 189\n".as_slice());
-    let [file] = seen.folder.files() else {
-        return Err(Fail::from("not one file"));
-    };
-    assert_eq!(rt; file.bytes.as_slice(), black_rows(alloc)?.as_slice());
+    for line in [
+        "burn r.tif 2 0 4 3 b.tif plain",
+        "burn c.tif 0 0 1 1 d.tif plain",
+    ] {
+        let seen = ran(alloc, line, &NOTHING_FAILS)?;
+        assert_eq!(rt; seen.status, 0, "{line}");
+        assert_eq!(rt; seen.out.written(), b"burned 189\n".as_slice(), "{line}");
+        let [file] = seen.folder.files() else {
+            return Err(Fail::from("not one file"));
+        };
+        assert_eq!(rt; file.bytes.as_slice(), black_rows(alloc)?.as_slice(), "{line}");
+    }
     Ok(())
 }
 
@@ -231,11 +259,19 @@ fn a_broken_rule_is_named(rt: HostRuntime) -> Result<(), Fail> {
         ),
         (
             "burn x.tif 0 0 0 1 b.tif plain",
-            "refused 88 FormNotBuilt 0 0 0\n",
+            "refused 80 TiffHead 0 0 0\n",
         ),
         (
-            "burn c.tif 0 0 0 1 b.tif plain",
+            "burn n.tif 0 0 0 1 b.tif plain",
             "refused 54 FileAbsent 0 0 0\n",
+        ),
+        (
+            "burn ../a.tif 0 0 1 1 b.tif plain",
+            "refused 63 PathRefused 0 0 0\n",
+        ),
+        (
+            "burn n.tif 0 0 0 1 /b.tif plain",
+            "refused 63 PathRefused 0 0 0\n",
         ),
     ] {
         let seen = ran(alloc, line, &NOTHING_FAILS)?;
@@ -290,10 +326,11 @@ fn a_fault_of_the_source_leaves_nothing(rt: HostRuntime) -> Result<(), Fail> {
     Ok(())
 }
 
-// A call that fails has added half of what it would have taken.
+// The calls are create, append of what stands before the strip, of the strip, and finish. A call that
+// fails has added half of what it would have taken.
 #[test]
 fn a_fault_of_the_folder_leaves_a_prefix(rt: HostRuntime) -> Result<(), Fail> {
-    for (call, length) in [(0u64, 0usize), (1, 93), (2, 187)] {
+    for (call, length) in [(0u64, 0usize), (1, 93), (2, 186), (3, 187)] {
         let calls = [call];
         let failing = Failing {
             folder: &calls,

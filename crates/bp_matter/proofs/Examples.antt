@@ -1,8 +1,7 @@
 -- Worked examples of the definitions in specs/, each run by the check: a small matter that is valid, what breaks each of its
 -- facts, and its kept rows, written out from their format.
-use Rattle.std.proofs.Common.{◌≡◌, ℕ, Bool, true, false, List, [], ◌∷◌, ◌++◌, length, Some, None, refl, replicate}
-use Rattle.std.specs.Prelude.{codes, nat_le}
-use Rattle.std.specs.List.{list_all}
+use Rattle.std.proofs.Common.{◌≡◌, ℕ, true, false, [], ◌∷◌, ◌++◌, Some, None, refl, replicate}
+use Rattle.std.specs.Prelude.{codes}
 use Rattle.bp_core.specs.declared.review.Basis.TheVariants.{Ac, Pi}
 use Rattle.bp_core.specs.declared.review.Role.TheVariants.{Reviewer, Second, Lead}
 use Rattle.bp_core.specs.declared.review.Treatment.TheVariants.{Produce, Redact, Withhold}
@@ -14,10 +13,9 @@ use Rattle.bp_rows.specs.declared.resolution.Unit.TheVariants.{Inch}
 use Rattle.bp_bates.specs.declared.prefixes.Prefix.{Prefix}
 use Rattle.bp_text.specs.declared.words.Word.{Word}
 use Rattle.bp_matter.specs.Images.{strip}
-use Rattle.bp_matter.specs.Fields.{word, long, text}
-use Rattle.bp_matter.specs.Bodies.{staff_body, field_body, doc_body, page_body, call_body, box_body, held_body, entry_body, prefix_body, batch_body, words_body}
-use Rattle.bp_matter.specs.Matter.{Matter, staff_key, doc_key, page_key, words_key, call_key, box_key, prefix_key}
-use Rattle.bp_matter.specs.Texts.{is_text, is_designation, is_volume, is_id, is_value, is_field_name, is_id_of_doc, is_word_text, is_column_name}
+use Rattle.bp_matter.specs.Fields.{word, long}
+use Rattle.bp_matter.specs.Bodies.{staff_body, doc_body, page_body, call_body, box_body, held_body, prefix_body, words_body}
+use Rattle.bp_matter.specs.Matter.{Matter, staff_key, doc_key, page_key, words_key, call_key}
 use Rattle.bp_matter.specs.Valid.{IsValid}
 use Rattle.bp_matter.specs.ValidRows.{is_numbered, all_differ}
 use Rattle.bp_matter.specs.ValidStaff.{begins_with_lead, staff_digest, staff_fits}

@@ -3,6 +3,7 @@ pub mod CheckLemmas
 pub mod CodecLemmas
 mod Examples
 pub mod FieldLemmas
+pub mod FormLemmas
 pub mod ImageLemmas
 pub mod MarkLemmas
 pub mod NumberedLemmas

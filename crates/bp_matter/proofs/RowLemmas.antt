@@ -67,7 +67,7 @@ two_numbers kind n read v e =
     ]
 
 -- reading a whole body
-whole_codec : {V : Type 0} {P : V → Type 0} {write : V → List ℕ} {read : List ℕ → Read V} → Codec P write read → Whole P write (λ bytes. whole (read bytes))
+pub whole_codec : {V : Type 0} {P : V → Type 0} {write : V → List ℕ} {read : List ℕ → Read V} → Codec P write read → Whole P write (λ bytes. whole (read bytes))
 whole_codec one = record { takes = λ bytes v h e. whole_takes one bytes v h e; again = λ v p. whole_again one v p }
 
 -- a row of a kind with one number, or with two, from the law of its body

@@ -1,4 +1,5 @@
--- What holds of every batch: what a valid matter asks of the rows that it becomes, but for the limits of the matter.
+-- What holds of every batch: what a valid matter asks of the rows that it becomes, but for the
+-- limits of the matter.
 use Rattle.std.specs.Prelude.{ℕ, ◌+◌, ◌==◌, ◌&&◌, ◌||◌, Bool, true, List, [], ◌∷◌, length, nat_le, IsTrue}
 use Rattle.std.specs.List.{list_all}
 use Rattle.bp_core.specs.Rectangle.{lies_inside}
@@ -11,13 +12,15 @@ use Rattle.bp_matter.specs.Written.{are_few, image_written, is_short, is_word, w
 use Rattle.bp_matter.specs.declared.batches.BatchDoc.{BatchDoc}
 use Rattle.bp_matter.specs.declared.batches.BatchPage.{BatchPage}
 
+-- what contracts see of a batch
 pub record BatchShown : Type 0 where
   pub name : List ℕ
   pub digest : List ℕ
   pub fields : List (List ℕ)
   pub docs : List BatchDoc
 
--- each document is a parent itself, or has the parent of the document before it; places count from n
+-- each document is a parent itself, or has the parent of the document before it; places count
+-- from n
 abbrev pub parents_stand : ℕ → ℕ → List BatchDoc → Bool
 parents_stand n before [] = true
 parents_stand n before (doc ∷ docs) =
@@ -47,11 +50,13 @@ pages_in (doc ∷ docs) = length doc.pages + pages_in docs
 abbrev pub batch_page_written : BatchPage → Bool
 batch_page_written p = image_written p.page && are_few word_written p.words
 
+-- and so have its documents
 abbrev pub batch_doc_written : BatchDoc → Bool
 batch_doc_written doc =
     is_word doc.parent && is_short doc.id && are_few is_short doc.values
     && list_all batch_page_written doc.pages
 
+-- what always holds of a batch
 pub record IsBatch (b : BatchShown) : Type 0 where
   pub name : IsTrue (is_batch_name b.name)
   pub digest : IsTrue (length b.digest == 32)

@@ -1,21 +1,6 @@
--- The bodies of kept rows: how each row of the tables is written. Each begins with the version, which is 1.
-use Rattle.std.specs.Prelude.{ℕ, ◌*◌, ◌^◌, Bool, true, false, List, [], ◌∷◌, ◌++◌, length, map, nat_le, nat_lt, ◌==◌, ◌&&◌, not, Option, Some, None, encode_utf8_all}
-use Rattle.std.specs.Int.{w32, w64, to_le_bytes}
-use Rattle.std.specs.List.{flat_map, list_all}
-use Rattle.std.specs.Str.{all_scalars}
-use Rattle.bp_core.specs.declared.kept.Row.{Row}
-use Rattle.bp_core.specs.declared.rectangle.Rect.{Rect}
-use Rattle.bp_core.specs.declared.review.Basis.{Basis}
-use Rattle.bp_core.specs.declared.review.Basis.TheVariants.{Ac, Wp, Pi, Ts}
-use Rattle.bp_core.specs.declared.review.Role.{Role}
-use Rattle.bp_core.specs.declared.review.Role.TheVariants.{Reviewer, Second, Lead, Clerk, Receiver}
-use Rattle.bp_core.specs.declared.review.Treatment.{Treatment}
-use Rattle.bp_core.specs.declared.review.Treatment.TheVariants.{Produce, Redact, Withhold}
-use Rattle.bp_bates.specs.declared.prefixes.Prefix.{Prefix}
-use Rattle.bp_bates.specs.declared.spans.Span.{Span}
-use Rattle.bp_matter.specs.Matter.{Matter}
-use Rattle.bp_matter.specs.declared.rows.State.{State}
-use Rattle.bp_matter.specs.declared.rows.State.TheVariants.{Uncalled, First, Confirmed}
+-- The bodies of kept rows: how each row of the tables is written. Each begins with the version,
+-- which is 1.
+use Rattle.std.specs.Prelude.{ℕ, List, ◌++◌}
 use Rattle.bp_matter.specs.declared.rows.StaffRow.{StaffRow}
 use Rattle.bp_matter.specs.declared.rows.FieldRow.{FieldRow}
 use Rattle.bp_matter.specs.declared.rows.DocRow.{DocRow}
@@ -38,6 +23,7 @@ use Rattle.bp_text.specs.declared.words.Word.{Word}
 use Rattle.bp_matter.specs.declared.rows.PageWords.{PageWords}
 use Rattle.bp_matter.specs.Fields.{byte, word, long, text, list, flag, optional, role_number, basis, treatment, state, rect, span, prefix}
 
+-- parts that several bodies share
 abbrev pub entry_part : Entry → List ℕ
 entry_part e = text e.date ++ (text e.author ++ (text e.recipients ++ text e.description))
 
@@ -55,16 +41,22 @@ word_part w = word w.line ++ (rect w.rect ++ text w.text)
 
 abbrev pub item_part : Item → List ℕ
 item_part i =
-    word i.doc.0 ++ (word i.parent.0 ++ (treatment i.treatment ++ (list box_part i.boxes ++ (list held_part i.held ++ (optional entry_part i.entry ++ (text i.designation ++ span i.span))))))
+    word i.doc.0 ++ (word i.parent.0 ++ (treatment i.treatment ++ (list box_part i.boxes
+    ++ (list held_part i.held ++ (optional entry_part i.entry ++ (text i.designation
+    ++ span i.span))))))
 
 abbrev pub request_part : Request → List ℕ
-request_part r = text r.id ++ (text r.volume ++ (prefix r.prefix ++ (word r.from.0 ++ (word r.to.0 ++ list text r.fields))))
+request_part r =
+    text r.id ++ (text r.volume ++ (prefix r.prefix ++ (word r.from.0 ++ (word r.to.0
+    ++ list text r.fields))))
 
 -- the strip has no length before it: it is the rest
 abbrev pub image_part : Image → List ℕ
 image_part p =
-    word p.width ++ (word p.height ++ (word p.xres.num ++ (word p.xres.den ++ (word p.yres.num ++ (word p.yres.den ++ (byte (unit_number p.unit) ++ strip p))))))
+    word p.width ++ (word p.height ++ (word p.xres.num ++ (word p.xres.den ++ (word p.yres.num
+    ++ (word p.yres.den ++ (byte (unit_number p.unit) ++ strip p))))))
 
+-- the body of each kind of row
 abbrev pub staff_body : StaffRow → List ℕ
 staff_body row = byte 1 ++ (byte (role_number row.role) ++ (row.digest ++ text row.name))
 
@@ -72,13 +64,17 @@ abbrev pub field_body : FieldRow → List ℕ
 field_body row = byte 1 ++ text row.name
 
 abbrev pub doc_body : DocRow → List ℕ
-doc_body row = byte 1 ++ (word row.parent.0 ++ (word row.pages ++ (word row.batch ++ (text row.id ++ list text row.values))))
+doc_body row =
+    byte 1 ++ (word row.parent.0 ++ (word row.pages ++ (word row.batch ++ (text row.id
+    ++ list text row.values))))
 
 abbrev pub page_body : PageRow → List ℕ
 page_body row = byte 1 ++ image_part row.image
 
 abbrev pub call_body : CallRow → List ℕ
-call_body row = byte 1 ++ (state row.state ++ (flag row.responsive ++ (treatment row.treatment ++ text row.designation)))
+call_body row =
+    byte 1 ++ (state row.state ++ (flag row.responsive ++ (treatment row.treatment
+    ++ text row.designation)))
 
 abbrev pub box_body : DocBox → List ℕ
 box_body box = byte 1 ++ box_rest box.row
@@ -93,7 +89,8 @@ abbrev pub prefix_body : PrefixRow → List ℕ
 prefix_body row = byte 1 ++ (byte row.prefix.width ++ (long row.next ++ text row.prefix.text))
 
 abbrev pub production_body : ProductionRow → List ℕ
-production_body row = byte 1 ++ (request_part row.production.request ++ list item_part row.production.items)
+production_body row =
+    byte 1 ++ (request_part row.production.request ++ list item_part row.production.items)
 
 abbrev pub batch_body : BatchRow → List ℕ
 batch_body row = byte 1 ++ (row.digest ++ (word row.documents ++ (word row.pages ++ text row.name)))

@@ -1,9 +1,7 @@
 -- How fields are written in the body of a kept row. Numbers are little-endian.
-use Rattle.std.specs.Prelude.{ℕ, ◌*◌, ◌^◌, Bool, true, false, List, [], ◌∷◌, ◌++◌, length, map, nat_le, nat_lt, ◌==◌, ◌&&◌, not, Option, Some, None, encode_utf8_all}
+use Rattle.std.specs.Prelude.{ℕ, Bool, true, false, List, [], ◌∷◌, ◌++◌, length, Option, Some, None, encode_utf8_all}
 use Rattle.std.specs.Int.{w32, w64, to_le_bytes}
-use Rattle.std.specs.List.{flat_map, list_all}
-use Rattle.std.specs.Str.{all_scalars}
-use Rattle.bp_core.specs.declared.kept.Row.{Row}
+use Rattle.std.specs.List.{flat_map}
 use Rattle.bp_core.specs.declared.rectangle.Rect.{Rect}
 use Rattle.bp_core.specs.declared.review.Basis.{Basis}
 use Rattle.bp_core.specs.declared.review.Basis.TheVariants.{Ac, Wp, Pi, Ts}
@@ -13,35 +11,18 @@ use Rattle.bp_core.specs.declared.review.Treatment.{Treatment}
 use Rattle.bp_core.specs.declared.review.Treatment.TheVariants.{Produce, Redact, Withhold}
 use Rattle.bp_bates.specs.declared.prefixes.Prefix.{Prefix}
 use Rattle.bp_bates.specs.declared.spans.Span.{Span}
-use Rattle.bp_matter.specs.Matter.{Matter}
 use Rattle.bp_matter.specs.declared.rows.State.{State}
 use Rattle.bp_matter.specs.declared.rows.State.TheVariants.{Uncalled, First, Confirmed}
-use Rattle.bp_matter.specs.declared.rows.StaffRow.{StaffRow}
-use Rattle.bp_matter.specs.declared.rows.FieldRow.{FieldRow}
-use Rattle.bp_matter.specs.declared.rows.DocRow.{DocRow}
-use Rattle.bp_matter.specs.declared.rows.PageRow.{PageRow}
-use Rattle.bp_matter.specs.declared.rows.CallRow.{CallRow}
-use Rattle.bp_matter.specs.declared.rows.BoxRow.{BoxRow}
-use Rattle.bp_matter.specs.declared.rows.HeldRow.{HeldRow}
-use Rattle.bp_matter.specs.declared.rows.DocBox.{DocBox}
-use Rattle.bp_matter.specs.declared.rows.DocHeld.{DocHeld}
-use Rattle.bp_matter.specs.declared.rows.Entry.{Entry}
-use Rattle.bp_matter.specs.declared.rows.DocEntry.{DocEntry}
-use Rattle.bp_matter.specs.declared.rows.PrefixRow.{PrefixRow}
-use Rattle.bp_matter.specs.declared.rows.Request.{Request}
-use Rattle.bp_matter.specs.declared.rows.Item.{Item}
-use Rattle.bp_matter.specs.declared.rows.ProductionRow.{ProductionRow}
-use Rattle.bp_matter.specs.declared.rows.BatchRow.{BatchRow}
-use Rattle.bp_text.specs.declared.words.Word.{Word}
-use Rattle.bp_matter.specs.declared.rows.PageWords.{PageWords}
 
+-- a number of 8 bits
 abbrev pub byte : ℕ → List ℕ
 byte n = n ∷ []
 
--- kept closed, since it computes to four cells
+-- a number of 32 bits; kept closed, since it computes to four cells
 unfoldable pub word : ℕ → List ℕ
 word n = to_le_bytes w32 n
 
+-- a number of 64 bits
 unfoldable pub long : ℕ → List ℕ
 long n = to_le_bytes w64 n
 
@@ -53,10 +34,12 @@ text characters = word (length (encode_utf8_all characters)) ++ encode_utf8_all 
 abbrev pub list : {V : Type 0} → (V → List ℕ) → List V → List ℕ
 list write values = word (length values) ++ flat_map write values
 
+-- a truth value as a number
 abbrev pub flag_number : Bool → ℕ
 flag_number true = 1
 flag_number false = 0
 
+-- a truth value is one byte
 abbrev pub flag : Bool → List ℕ
 flag b = byte (flag_number b)
 
@@ -65,13 +48,16 @@ abbrev pub is_there : {V : Type 0} → Option V → Bool
 is_there None = false
 is_there (Some v) = true
 
+-- the value where there is one
 abbrev pub value_if : {V : Type 0} → (V → List ℕ) → Option V → List ℕ
 value_if write None = []
 value_if write (Some v) = write v
 
+-- a flag, and the value where there is one
 abbrev pub optional : {V : Type 0} → (V → List ℕ) → Option V → List ℕ
 optional write o = flag (is_there o) ++ value_if write o
 
+-- the number of a role
 abbrev pub role_number : Role → ℕ
 role_number Reviewer = 0
 role_number Second = 1
@@ -79,12 +65,14 @@ role_number Lead = 2
 role_number Clerk = 3
 role_number Receiver = 4
 
+-- the number of a ground
 abbrev pub basis_number : Basis → ℕ
 basis_number Ac = 0
 basis_number Wp = 1
 basis_number Pi = 2
 basis_number Ts = 3
 
+-- a ground is one byte
 abbrev pub basis : Basis → List ℕ
 basis held_for = byte (basis_number held_for)
 
@@ -96,14 +84,17 @@ treatment_number (Withhold Ac) = 2
 treatment_number (Withhold Wp) = 3
 treatment_number (Withhold _) = 255
 
+-- a treatment is one byte
 abbrev pub treatment : Treatment → List ℕ
 treatment t = byte (treatment_number t)
 
+-- the number of a state
 abbrev pub state_number : State → ℕ
 state_number Uncalled = 0
 state_number (First _) = 1
 state_number (Confirmed _ _) = 2
 
+-- who edited last; 0 for nobody
 abbrev pub editor_of : State → ℕ
 editor_of Uncalled = 0
 editor_of (First editor) = editor.0
@@ -114,14 +105,18 @@ abbrev pub confirmer_of : State → ℕ
 confirmer_of (Confirmed _ confirmer) = confirmer.0
 confirmer_of _ = 0
 
+-- a state, its last editor and its confirmer
 abbrev pub state : State → List ℕ
 state s = byte (state_number s) ++ (word (editor_of s) ++ word (confirmer_of s))
 
+-- a rectangle
 abbrev pub rect : Rect → List ℕ
 rect r = word r.left ++ (word r.top ++ (word r.width ++ word r.height))
 
+-- the first and the last number of a span
 abbrev pub span : Span → List ℕ
 span s = long s.first ++ long s.last
 
+-- a prefix and its width
 abbrev pub prefix : Prefix → List ℕ
 prefix p = text p.text ++ byte p.width

@@ -1,5 +1,5 @@
 -- The image of a page in its kept row: sides, resolutions, unit, and its T.6 strip.
-use Rattle.std.specs.Prelude.{ℕ, zero, suc, Bool, true, false, List, [], ◌∷◌, ◌++◌, length, map, ◌==◌, ◌&&◌, Option, Some, None, if◌then◌else◌}
+use Rattle.std.specs.Prelude.{ℕ, zero, suc, Bool, true, false, List, [], ◌∷◌, ◌++◌, length, map, ◌==◌, ◌&&◌, Option, None, if◌then◌else◌}
 use Rattle.std.specs.List.{find, list_all}
 use Rattle.std.specs.Str.{bytes_eq}
 use Rattle.bp_rows.specs.Image.{Image}
@@ -9,7 +9,8 @@ use Rattle.bp_rows.specs.declared.resolution.Unit.TheVariants as units
 use Rattle.bp_t6.specs.Strips.{page_of as plain_image}
 use Rattle.bp_t6.specs.Written.{strip_of}
 
--- its strip: the rows coded, the end of the facsimile block and zero bits to the byte (ITU-T T.6, 2.2.4)
+-- its strip: the rows coded, the end of the facsimile block and zero bits to the byte (ITU-T T.6,
+-- 2.2.4)
 unfoldable pub strip : Image → List ℕ
 strip p = strip_of p
 
@@ -47,7 +48,9 @@ abbrev pub is_strip : ℕ → ℕ → List ℕ → List (List Bool) → Bool
 is_strip width height bytes lines =
     is_grid width height lines && bytes_eq (strip (plain_image width height lines)) bytes
 
--- the lines of these sides whose strip these bytes are, if a page may have the sides and there are any
+-- the lines of these sides whose strip these bytes are, if a page may have the sides and there
+-- are any
 unfoldable pub lines_of : ℕ → ℕ → List ℕ → Option (List (List Bool))
 lines_of width height bytes =
-    if sides_are_allowed width height then find (is_strip width height bytes) (all_lines width height) else None
+    if sides_are_allowed width height
+    then find (is_strip width height bytes) (all_lines width height) else None

@@ -1,41 +1,22 @@
 -- The kept rows of a matter: a key of a kind and two numbers, and a body.
-use Rattle.std.specs.Prelude.{ℕ, ◌*◌, ◌^◌, Bool, true, false, List, [], ◌∷◌, ◌++◌, length, map, nat_le, nat_lt, ◌==◌, ◌&&◌, not, Option, Some, None, encode_utf8_all}
-use Rattle.std.specs.Int.{w32, w64, to_le_bytes}
-use Rattle.std.specs.List.{flat_map, list_all}
-use Rattle.std.specs.Str.{all_scalars}
+use Rattle.std.specs.Prelude.{List, ◌++◌, map}
 use Rattle.bp_core.specs.declared.kept.Row.{Row}
-use Rattle.bp_core.specs.declared.rectangle.Rect.{Rect}
-use Rattle.bp_core.specs.declared.review.Basis.{Basis}
-use Rattle.bp_core.specs.declared.review.Basis.TheVariants.{Ac, Wp, Pi, Ts}
-use Rattle.bp_core.specs.declared.review.Role.{Role}
-use Rattle.bp_core.specs.declared.review.Role.TheVariants.{Reviewer, Second, Lead, Clerk, Receiver}
-use Rattle.bp_core.specs.declared.review.Treatment.{Treatment}
-use Rattle.bp_core.specs.declared.review.Treatment.TheVariants.{Produce, Redact, Withhold}
-use Rattle.bp_bates.specs.declared.prefixes.Prefix.{Prefix}
-use Rattle.bp_bates.specs.declared.spans.Span.{Span}
 use Rattle.bp_matter.specs.Matter.{Matter}
-use Rattle.bp_matter.specs.declared.rows.State.{State}
-use Rattle.bp_matter.specs.declared.rows.State.TheVariants.{Uncalled, First, Confirmed}
 use Rattle.bp_matter.specs.declared.rows.StaffRow.{StaffRow}
 use Rattle.bp_matter.specs.declared.rows.FieldRow.{FieldRow}
 use Rattle.bp_matter.specs.declared.rows.DocRow.{DocRow}
 use Rattle.bp_matter.specs.declared.rows.PageRow.{PageRow}
 use Rattle.bp_matter.specs.declared.rows.CallRow.{CallRow}
-use Rattle.bp_matter.specs.declared.rows.BoxRow.{BoxRow}
-use Rattle.bp_matter.specs.declared.rows.HeldRow.{HeldRow}
 use Rattle.bp_matter.specs.declared.rows.DocBox.{DocBox}
 use Rattle.bp_matter.specs.declared.rows.DocHeld.{DocHeld}
-use Rattle.bp_matter.specs.declared.rows.Entry.{Entry}
 use Rattle.bp_matter.specs.declared.rows.DocEntry.{DocEntry}
 use Rattle.bp_matter.specs.declared.rows.PrefixRow.{PrefixRow}
-use Rattle.bp_matter.specs.declared.rows.Request.{Request}
-use Rattle.bp_matter.specs.declared.rows.Item.{Item}
 use Rattle.bp_matter.specs.declared.rows.ProductionRow.{ProductionRow}
 use Rattle.bp_matter.specs.declared.rows.BatchRow.{BatchRow}
-use Rattle.bp_text.specs.declared.words.Word.{Word}
 use Rattle.bp_matter.specs.declared.rows.PageWords.{PageWords}
 use Rattle.bp_matter.specs.Bodies.{staff_body, field_body, doc_body, page_body, call_body, box_body, held_body, entry_body, prefix_body, production_body, batch_body, words_body}
 
+-- the kept row of each kind of row
 abbrev pub staff_kept : StaffRow → Row
 staff_kept row = record { kind = 1; k1 = row.staff.0; k2 = 0; body = staff_body row }
 
@@ -75,6 +56,9 @@ words_kept row = record { kind = 12; k1 = row.doc.0; k2 = row.page.0; body = wor
 -- the kept rows of a matter, in ascending order of key
 abbrev pub rows_of : Matter → List Row
 rows_of m =
-    map staff_kept m.staff ++ (map field_kept m.fields ++ (map doc_kept m.docs ++ (map page_kept m.pages
-    ++ (map call_kept m.calls ++ (map box_kept m.boxes ++ (map held_kept m.held ++ (map entry_kept m.entries
-    ++ (map prefix_kept m.prefixes ++ (map production_kept m.productions ++ (map batch_kept m.batches ++ (map words_kept m.words)))))))))))
+    map staff_kept m.staff ++ (map field_kept m.fields ++ (map doc_kept m.docs
+    ++ (map page_kept m.pages
+    ++ (map call_kept m.calls ++ (map box_kept m.boxes ++ (map held_kept m.held
+    ++ (map entry_kept m.entries
+    ++ (map prefix_kept m.prefixes ++ (map production_kept m.productions
+    ++ (map batch_kept m.batches ++ (map words_kept m.words)))))))))))

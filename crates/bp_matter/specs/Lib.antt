@@ -2,6 +2,7 @@ pub mod Batches
 pub mod Bodies
 pub mod Confirming
 pub mod Fields
+pub mod Forms
 pub mod Images
 pub mod KeptRows
 pub mod Lists

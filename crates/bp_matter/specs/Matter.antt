@@ -16,6 +16,7 @@ use Rattle.bp_matter.specs.declared.rows.PageWords.{PageWords}
 use Rattle.bp_matter.specs.declared.rows.BoxRow.{BoxRow}
 use Rattle.bp_matter.specs.declared.rows.HeldRow.{HeldRow}
 
+-- the tables of a matter, a list for each kind of row
 pub record Matter : Type 0 where
   pub staff : List StaffRow
   pub fields : List FieldRow
@@ -35,6 +36,7 @@ pub record Shown : Type 0 where
   pub matter : Matter
   pub spare : ℕ
 
+-- the key of each kind of row in its list
 abbrev pub staff_key : StaffRow → ℕ
 staff_key row = row.staff.0
 
@@ -44,6 +46,7 @@ field_key row = row.field
 abbrev pub doc_key : DocRow → ℕ
 doc_key row = row.doc.0
 
+-- a page by its document and its number in it
 abbrev pub page_key : PageRow → ℕ
 page_key row = two_keys row.doc.0 row.page.0
 

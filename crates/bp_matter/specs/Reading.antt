@@ -1,4 +1,5 @@
--- Reading bodies from left to right: a value and the bytes after it, or nothing where no value is written so.
+-- Reading bodies from left to right: a value and the bytes after it, or nothing where no value is
+-- written so.
 use Rattle.std.specs.Prelude.{◌≡◌, ℕ, zero, suc, Bool, true, false, List, [], ◌∷◌, ◌++◌, length, take, drop, Option, Some, None, Result, Ok, Err, nat_lt, ◌==◌, ◌&&◌, not, if◌then◌else◌, option_and_then}
 use Rattle.std.specs.Int.{w32, w64, from_le_bytes}
 use Rattle.std.specs.Str.{chars, is_utf8}
@@ -39,10 +40,12 @@ use Rattle.bp_matter.specs.declared.rows.PageWords.{PageWords}
 use Rattle.bp_matter.specs.declared.reading.ReadFault.{ReadFault}
 use Rattle.bp_matter.specs.declared.reading.ReadFault.TheVariants as faults
 
+-- a value, and the bytes after it
 abbrev pub Read : Type 0 → Type 0
 Read V = Option (V × List ℕ)
 
 infixl 10 ◌>>=◌
+-- what the value of the first gives
 abbrev pub ◌>>=◌ : {A B : Type 0} → Option A → (A → Option B) → Option B
 o >>= f = option_and_then f o
 
@@ -51,27 +54,37 @@ abbrev pub Fails : {Y : Type 0} → ReadFault → Option Y → Type 0
 Fails faults.OutOfMemory read = Unit {0}
 Fails faults.Malformed read = read ≡ None
 
+-- the same of a value, seen by view
 abbrev pub Gives : {X Y : Type 0} → (X → Y) → Result X ReadFault → Option Y → Type 0
 Gives view (Ok x) read = read ≡ Some (view x)
 Gives view (Err fault) read = Fails fault read
 
 -- ---- fields
 
+-- a number of 8 bits
 abbrev pub byte_at : List ℕ → Read ℕ
 byte_at [] = None
 byte_at (b ∷ bytes) = Some (b, bytes)
 
+-- a number of 32 bits
 abbrev pub word_at : List ℕ → Read ℕ
-word_at bytes = if nat_lt (length bytes) 4 then None else Some (from_le_bytes w32 (take 4 bytes), drop 4 bytes)
+word_at bytes =
+    if nat_lt (length bytes) 4 then None
+    else Some (from_le_bytes w32 (take 4 bytes), drop 4 bytes)
 
+-- a number of 64 bits
 abbrev pub long_at : List ℕ → Read ℕ
-long_at bytes = if nat_lt (length bytes) 8 then None else Some (from_le_bytes w64 (take 8 bytes), drop 8 bytes)
+long_at bytes =
+    if nat_lt (length bytes) 8 then None
+    else Some (from_le_bytes w64 (take 8 bytes), drop 8 bytes)
 
 -- the characters of so many bytes
 abbrev pub characters_at : ℕ → List ℕ → Read (List ℕ)
 characters_at n bytes =
-    if nat_lt (length bytes) n then None else (if is_utf8 (take n bytes) then Some (chars (take n bytes), drop n bytes) else None)
+    if nat_lt (length bytes) n then None else (if is_utf8 (take n bytes)
+    then Some (chars (take n bytes), drop n bytes) else None)
 
+-- a text after its length
 unfoldable pub text_at : List ℕ → Read (List ℕ)
 text_at bytes = do
   n ← word_at bytes
@@ -88,22 +101,29 @@ value_of value bytes = do
 abbrev pub one_of : ℕ → Option (Unit {0})
 one_of n = if n == 1 then Some tt else None
 
+-- the values of a byte
 abbrev pub flag_of : ℕ → Option Bool
 flag_of n = if n == 0 then Some false else (if n == 1 then Some true else None)
 
 abbrev pub basis_of : ℕ → Option Basis
-basis_of n = if n == 0 then Some Ac else (if n == 1 then Some Wp else (if n == 2 then Some Pi else (if n == 3 then Some Ts else None)))
+basis_of n =
+    if n == 0 then Some Ac else (if n == 1 then Some Wp else (if n == 2 then Some Pi
+    else (if n == 3 then Some Ts else None)))
 
 abbrev pub treatment_of : ℕ → Option Treatment
 treatment_of n =
-    if n == 0 then Some Produce else (if n == 1 then Some Redact else (if n == 2 then Some (Withhold Ac) else (if n == 3 then Some (Withhold Wp) else None)))
+    if n == 0 then Some Produce else (if n == 1 then Some Redact else (if n == 2
+    then Some (Withhold Ac) else (if n == 3 then Some (Withhold Wp) else None)))
 
 abbrev pub role_of : ℕ → Option Role
 role_of n =
-    if n == 0 then Some Reviewer else (if n == 1 then Some Second else (if n == 2 then Some Lead else (if n == 3 then Some Clerk else (if n == 4 then Some Receiver else None))))
+    if n == 0 then Some Reviewer else (if n == 1 then Some Second else (if n == 2 then Some Lead
+    else (if n == 3 then Some Clerk else (if n == 4 then Some Receiver else None))))
 
 abbrev pub unit_of : ℕ → Option LengthUnit
-unit_of n = if n == 1 then Some units.None else (if n == 2 then Some units.Inch else (if n == 3 then Some units.Centimetre else None))
+unit_of n =
+    if n == 1 then Some units.None else (if n == 2 then Some units.Inch else (if n == 3
+    then Some units.Centimetre else None))
 
 -- so many bytes as they are
 abbrev pub bytes_at : ℕ → List ℕ → Read (List ℕ)
@@ -122,6 +142,7 @@ abbrev pub many_on : {V : Type 0} → List V → Read (List V) → Read (List V)
 many_on before None = None
 many_on before (Some x) = Some (before ++ x.0, x.1)
 
+-- a list after its count
 abbrev pub list_at : {V : Type 0} → (List ℕ → Read V) → List ℕ → Read (List V)
 list_at read bytes = do
   n ← word_at bytes
@@ -130,8 +151,11 @@ list_at read bytes = do
 -- a called state
 abbrev pub state_of : ℕ → ℕ → ℕ → Option State
 state_of n editor confirmer =
-    if (n == 1) && (confirmer == 0) then Some (First (record { 0 = editor })) else (if (n == 2) && not (confirmer == 0) then Some (Confirmed (record { 0 = editor }) (record { 0 = confirmer })) else None)
+    if (n == 1) && (confirmer == 0) then Some (First (record { 0 = editor })) else (if (n == 2)
+    && not (confirmer == 0)
+    then Some (Confirmed (record { 0 = editor }) (record { 0 = confirmer })) else None)
 
+-- a state of a call
 unfoldable pub state_at : List ℕ → Read State
 state_at bytes = do
   n ← byte_at bytes
@@ -147,11 +171,13 @@ value_there read true bytes = do
   v ← read bytes
   Some (Some v.0, v.1)
 
+-- a flag, and a value where it is 1
 unfoldable pub optional_at : {V : Type 0} → (List ℕ → Read V) → List ℕ → Read (Option V)
 optional_at read bytes = do
   there ← value_of flag_of bytes
   value_there read there.0 there.1
 
+-- parts that several bodies share
 unfoldable pub rect_at : List ℕ → Read Rect
 rect_at bytes = do
   left ← word_at bytes
@@ -174,13 +200,22 @@ prefix_at bytes = do
 
 -- ---- parts of bodies
 
+-- the parts of an entry
 unfoldable pub entry_fields_at : List ℕ → Read Entry
 entry_fields_at bytes = do
   date ← text_at bytes
   author ← text_at date.1
   recipients ← text_at author.1
   description ← text_at recipients.1
-  Some (record { date = date.0; author = author.0; recipients = recipients.0; description = description.0 }, description.1)
+  Some (
+    record {
+      date = date.0;
+      author = author.0;
+      recipients = recipients.0;
+      description = description.0;
+    },
+    description.1,
+  )
 
 -- the box of that number
 unfoldable pub box_rest_at : ℕ → List ℕ → Read BoxRow
@@ -190,17 +225,20 @@ box_rest_at num bytes = do
   basis ← value_of basis_of rect.1
   Some (record { num = num; page = record { 0 = page.0 }; rect = rect.0; basis = basis.0 }, basis.1)
 
+-- a box with its number
 unfoldable pub box_part_at : List ℕ → Read BoxRow
 box_part_at bytes = do
   num ← word_at bytes
   box_rest_at num.0 num.1
 
+-- a held field with its number
 unfoldable pub held_part_at : List ℕ → Read HeldRow
 held_part_at bytes = do
   field ← word_at bytes
   basis ← value_of basis_of field.1
   Some (record { field = field.0; basis = basis.0 }, basis.1)
 
+-- a word of a page
 unfoldable pub word_part_at : List ℕ → Read Word
 word_part_at bytes = do
   line ← word_at bytes
@@ -208,6 +246,7 @@ word_part_at bytes = do
   text ← text_at rect.1
   Some (record { line = line.0; rect = rect.0; text = text.0 }, text.1)
 
+-- an item of a production
 unfoldable pub item_at : List ℕ → Read Item
 item_at bytes = do
   doc ← word_at bytes
@@ -218,8 +257,21 @@ item_at bytes = do
   entry ← optional_at entry_fields_at held.1
   designation ← text_at entry.1
   span ← span_at designation.1
-  Some (record { doc = record { 0 = doc.0 }; parent = record { 0 = parent.0 }; treatment = treatment.0; boxes = boxes.0; held = held.0; entry = entry.0; designation = designation.0; span = span.0 }, span.1)
+  Some (
+    record {
+      doc = record { 0 = doc.0 };
+      parent = record { 0 = parent.0 };
+      treatment = treatment.0;
+      boxes = boxes.0;
+      held = held.0;
+      entry = entry.0;
+      designation = designation.0;
+      span = span.0;
+    },
+    span.1,
+  )
 
+-- what a production was asked for
 unfoldable pub request_at : List ℕ → Read Request
 request_at bytes = do
   id ← text_at bytes
@@ -228,7 +280,17 @@ request_at bytes = do
   from ← word_at prefix.1
   to ← word_at from.1
   fields ← list_at text_at to.1
-  Some (record { id = id.0; volume = volume.0; prefix = prefix.0; from = record { 0 = from.0 }; to = record { 0 = to.0 }; fields = fields.0 }, fields.1)
+  Some (
+    record {
+      id = id.0;
+      volume = volume.0;
+      prefix = prefix.0;
+      from = record { 0 = from.0 };
+      to = record { 0 = to.0 };
+      fields = fields.0;
+    },
+    fields.1,
+  )
 
 -- ---- bodies, of the rows of that key
 
@@ -238,7 +300,15 @@ staff_at staff bytes = do
   role ← value_of role_of version.1
   digest ← bytes_at 32 role.1
   name ← text_at digest.1
-  Some (record { staff = record { 0 = staff }; role = role.0; digest = digest.0; name = name.0 }, name.1)
+  Some (
+    record {
+      staff = record { 0 = staff };
+      role = role.0;
+      digest = digest.0;
+      name = name.0;
+    },
+    name.1,
+  )
 
 unfoldable pub field_at : ℕ → List ℕ → Read FieldRow
 field_at field bytes = do
@@ -254,7 +324,17 @@ doc_at doc bytes = do
   batch ← word_at pages.1
   id ← text_at batch.1
   values ← list_at text_at id.1
-  Some (record { doc = record { 0 = doc }; parent = record { 0 = parent.0 }; pages = pages.0; batch = batch.0; id = id.0; values = values.0 }, values.1)
+  Some (
+    record {
+      doc = record { 0 = doc };
+      parent = record { 0 = parent.0 };
+      pages = pages.0;
+      batch = batch.0;
+      id = id.0;
+      values = values.0;
+    },
+    values.1,
+  )
 
 -- an image whose strip is all that is left
 unfoldable pub image_at : List ℕ → Option Image
@@ -267,7 +347,17 @@ image_at bytes = do
   yres_den ← word_at yres_num.1
   unit ← value_of unit_of yres_den.1
   lines ← lines_of width.0 height.0 unit.1
-  Some (record { width = width.0; height = height.0; xres = record { num = xres_num.0; den = xres_den.0 }; yres = record { num = yres_num.0; den = yres_den.0 }; unit = unit.0; rows = lines })
+  Some (record {
+    width = width.0;
+    height = height.0;
+    xres = record {
+      num = xres_num.0;
+      den = xres_den.0;
+    };
+    yres = record { num = yres_num.0; den = yres_den.0 };
+    unit = unit.0;
+    rows = lines;
+  })
 
 unfoldable pub page_at : ℕ → ℕ → List ℕ → Option PageRow
 page_at doc page bytes = do
@@ -282,7 +372,16 @@ call_at doc bytes = do
   responsive ← value_of flag_of state.1
   treatment ← value_of treatment_of responsive.1
   designation ← text_at treatment.1
-  Some (record { doc = record { 0 = doc }; state = state.0; responsive = responsive.0; treatment = treatment.0; designation = designation.0 }, designation.1)
+  Some (
+    record {
+      doc = record { 0 = doc };
+      state = state.0;
+      responsive = responsive.0;
+      treatment = treatment.0;
+      designation = designation.0;
+    },
+    designation.1,
+  )
 
 unfoldable pub box_at : ℕ → ℕ → List ℕ → Read DocBox
 box_at doc num bytes = do
@@ -294,7 +393,16 @@ unfoldable pub held_at : ℕ → ℕ → List ℕ → Read DocHeld
 held_at doc field bytes = do
   version ← value_of one_of bytes
   basis ← value_of basis_of version.1
-  Some (record { doc = record { 0 = doc }; row = record { field = field; basis = basis.0 } }, basis.1)
+  Some (
+    record {
+      doc = record { 0 = doc };
+      row = record {
+        field = field;
+        basis = basis.0;
+      };
+    },
+    basis.1,
+  )
 
 unfoldable pub entry_at : ℕ → List ℕ → Read DocEntry
 entry_at doc bytes = do
@@ -308,14 +416,31 @@ prefix_row_at num bytes = do
   width ← byte_at version.1
   next ← long_at width.1
   text ← text_at next.1
-  Some (record { num = num; prefix = record { text = text.0; width = width.0 }; next = next.0 }, text.1)
+  Some (
+    record {
+      num = num;
+      prefix = record { text = text.0; width = width.0 };
+      next = next.0;
+    },
+    text.1,
+  )
 
 unfoldable pub production_at : ℕ → List ℕ → Read ProductionRow
 production_at num bytes = do
   version ← value_of one_of bytes
   request ← request_at version.1
   items ← list_at item_at request.1
-  Some (record { num = num; production = record { request = request.0; items = items.0; span = span_of items.0 } }, items.1)
+  Some (
+    record {
+      num = num;
+      production = record {
+        request = request.0;
+        items = items.0;
+        span = span_of items.0;
+      };
+    },
+    items.1,
+  )
 
 unfoldable pub batch_at : ℕ → List ℕ → Read BatchRow
 batch_at num bytes = do
@@ -324,7 +449,16 @@ batch_at num bytes = do
   documents ← word_at digest.1
   pages ← word_at documents.1
   name ← text_at pages.1
-  Some (record { num = num; digest = digest.0; documents = documents.0; pages = pages.0; name = name.0 }, name.1)
+  Some (
+    record {
+      num = num;
+      digest = digest.0;
+      documents = documents.0;
+      pages = pages.0;
+      name = name.0;
+    },
+    name.1,
+  )
 
 unfoldable pub words_at : ℕ → ℕ → List ℕ → Read PageWords
 words_at doc page bytes = do

@@ -67,6 +67,7 @@ is_value_character c =
     not (c == quote) && not (c == separator) && not (c == carriage_return)
     && not (c == newline_sign)
 
+-- a value of a DAT file
 abbrev pub is_value : List ℕ → Bool
 is_value text = list_all is_value_character text
 
@@ -74,13 +75,16 @@ is_value text = list_all is_value_character text
 abbrev pub is_name_character : ℕ → Bool
 is_name_character c = is_value_character c && not (c == newline)
 
+-- the name of a field
 abbrev pub is_field_name : List ℕ → Bool
 is_field_name text = list_all is_name_character text
 
--- the id of a document is a value of a DAT file and an image id of an OPT file, so it has no comma either
+-- the id of a document is a value of a DAT file and an image id of an OPT file, so it has no
+-- comma either
 abbrev pub is_id_of_doc_character : ℕ → Bool
 is_id_of_doc_character c = is_name_character c && not (c == comma)
 
+-- the id of a document has a character
 abbrev pub is_id_of_doc : List ℕ → Bool
 is_id_of_doc text = not (length text == 0) && list_all is_id_of_doc_character text
 
@@ -94,8 +98,10 @@ columns =
     codes "BEGDOC" ∷ codes "ENDDOC" ∷ codes "BEGATTACH" ∷ codes "ENDATTACH"
     ∷ codes "PAGECOUNT" ∷ codes "DESIGNATION" ∷ codes "WITHHELD" ∷ codes "TEXTPATH" ∷ []
 
+-- one of these columns, in UTF-8
 abbrev pub is_column : List ℕ → Bool
 is_column bytes = list_any (λ column. bytes_eq bytes column) columns
 
+-- the same of a text
 abbrev pub is_column_name : List ℕ → Bool
 is_column_name text = is_column (encode_utf8_all text)

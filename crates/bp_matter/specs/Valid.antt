@@ -1,4 +1,5 @@
--- What holds of every matter: a record of facts for each list, and one of what lists ask of one another. Each fact is
+-- What holds of every matter: a record of facts for each list, and one of what lists ask of one
+-- another. Each fact is
 -- a test, and each record names the other lists that it speaks of.
 use Rattle.std.specs.List.{list_all}
 use Rattle.std.specs.Prelude.{IsTrue, length}
@@ -17,6 +18,7 @@ use Rattle.bp_matter.specs.ValidProductions.{ProductionFacts}
 use Rattle.bp_matter.specs.ValidStaff.{StaffFacts}
 use Rattle.bp_matter.specs.ValidWords.{WordFacts}
 
+-- all that holds of a matter
 pub record IsValid (m : Matter) : Type 0 where
   pub staff : StaffFacts m.staff
   pub fields : FieldFacts m.fields

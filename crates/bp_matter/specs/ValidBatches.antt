@@ -8,12 +8,15 @@ use Rattle.bp_matter.specs.ValidRows.{all_differ, is_numbered}
 use Rattle.bp_matter.specs.declared.rows.BatchRow.{BatchRow}
 use Rattle.bp_matter.specs.declared.limits.TheConstants.{MAX_BATCHES}
 
+-- the name of a batch
 abbrev pub batch_name : BatchRow → List ℕ
 batch_name row = row.name
 
+-- it is one that an import takes
 abbrev pub batch_fits : BatchRow → Bool
 batch_fits row = is_batch_name row.name
 
+-- the batches of a matter
 pub record BatchFacts (batches : List BatchRow) : Type 0 where
   pub numbered : IsTrue (is_numbered batch_key 1 batches)
   pub few : IsTrue (nat_le (length batches) MAX_BATCHES)

@@ -19,13 +19,17 @@ use Rattle.bp_matter.specs.declared.rows.PageRow.{PageRow}
 abbrev pub numbers_due : Treatment → ℕ → ℕ
 numbers_due treatment pages = if is_withheld treatment then 1 else pages
 
+-- it has a box or a held field
 abbrev pub has_marks : Item → Bool
 has_marks i = not (length i.boxes == 0) || not (length i.held == 0)
 
 -- the log lists it
 abbrev pub is_logged : Item → Bool
-is_logged i = is_withheld i.treatment || list_any (λ box. is_privileged box.basis) i.boxes || list_any (λ held. is_privileged held.basis) i.held
+is_logged i =
+    is_withheld i.treatment || list_any (λ box. is_privileged box.basis) i.boxes
+    || list_any (λ held. is_privileged held.basis) i.held
 
+-- an entry that is there fits
 abbrev pub optional_fits : Option Entry → Bool
 optional_fits None = true
 optional_fits (Some e) = entry_fits e
@@ -33,23 +37,31 @@ optional_fits (Some e) = entry_fits e
 -- it has the parent and the pages of its document
 abbrev pub item_of : Option DocRow → Item → Bool
 item_of None i = false
-item_of (Some row) i = (i.parent.0 == row.parent.0) && (i.span.last + 1 == i.span.first + numbers_due i.treatment row.pages)
+item_of (Some row) i =
+    (i.parent.0 == row.parent.0)
+    && (i.span.last + 1 == i.span.first + numbers_due i.treatment row.pages)
 
+-- a held field is one of so many
 abbrev pub held_row_fits : ℕ → HeldRow → Bool
 held_row_fits fields held = names fields held.field
 
 -- what an item keeps of its document's marks lies in that document
 abbrev pub item_marks_fit : ℕ → List PageRow → Item → Bool
 item_marks_fit fields pages i =
-    ascends box_number 0 i.boxes && list_all (box_fits pages i.doc.0) i.boxes && ascends held_number 0 i.held && list_all (held_row_fits fields) i.held
+    ascends box_number 0 i.boxes && list_all (box_fits pages i.doc.0) i.boxes
+    && ascends held_number 0 i.held && list_all (held_row_fits fields) i.held
 
 -- marks only where it is Redact, an entry where the log lists it
 abbrev pub item_texts_fit : Item → Bool
-item_texts_fit i = (is_redact i.treatment || not (has_marks i)) && (not (is_logged i) || not (is_none i.entry)) && optional_fits i.entry
+item_texts_fit i =
+    (is_redact i.treatment || not (has_marks i)) && (not (is_logged i) || not (is_none i.entry))
+    && optional_fits i.entry
 
+-- an item of a matter with these documents and pages, and so many fields
 abbrev pub item_fits : ℕ → List DocRow → List PageRow → Item → Bool
 item_fits fields docs pages i =
-    item_of (find_key doc_key i.doc.0 docs) i && is_ground i.treatment && is_designation i.designation && item_marks_fit fields pages i && item_texts_fit i
+    item_of (find_key doc_key i.doc.0 docs) i && is_ground i.treatment
+    && is_designation i.designation && item_marks_fit fields pages i && item_texts_fit i
 
 -- the document after this one, where it is of the same family; else 0
 abbrev pub due_after : Option DocRow → Item → ℕ
@@ -64,4 +76,5 @@ is_due due i = if due == 0 then i.parent.0 == i.doc.0 else i.doc.0 == due
 abbrev pub are_whole : List DocRow → ℕ → ℕ → List Item → Bool
 are_whole docs due low [] = due == 0
 are_whole docs due low (i ∷ items) =
-    nat_le low i.doc.0 && is_due due i && are_whole docs (due_after (find_key doc_key (i.doc.0 + 1) docs) i) (i.doc.0 + 1) items
+    nat_le low i.doc.0 && is_due due i
+    && are_whole docs (due_after (find_key doc_key (i.doc.0 + 1) docs) i) (i.doc.0 + 1) items

@@ -20,8 +20,10 @@ has_rows key (suc n) k (row ∷ rows) = (key row == k) && has_rows key n (k + 1)
 -- one row for each page 1 to `pages` of each document, in order, and no other
 abbrev pub are_paged : {T : Type 0} → (T → ℕ) → List DocRow → List T → Bool
 are_paged key [] rows = length rows == 0
-are_paged key (doc ∷ docs) rows = has_rows key doc.pages (two_keys doc.doc.0 1) rows && are_paged key docs (drop doc.pages rows)
+are_paged key (doc ∷ docs) rows =
+    has_rows key doc.pages (two_keys doc.doc.0 1) rows && are_paged key docs (drop doc.pages rows)
 
+-- the pixels of all pages
 abbrev pub pixels_of : List PageRow → ℕ
 pixels_of [] = 0
 pixels_of (row ∷ rows) = row.image.width * row.image.height + pixels_of rows
@@ -35,9 +37,11 @@ abbrev pub inside_page : Option PageRow → Rect → Bool
 inside_page None rect = false
 inside_page (Some row) rect = lies_inside rect row.image.width row.image.height
 
+-- the page of a document
 abbrev pub page_at : List PageRow → ℕ → ℕ → Option PageRow
 page_at pages doc page = find_key page_key (two_keys doc page) pages
 
+-- the pages of a matter with these documents
 pub record PageFacts (docs : List DocRow) (pages : List PageRow) : Type 0 where
   pub ascend : IsTrue (ascends page_key 0 pages)
   pub paged : IsTrue (are_paged page_key docs pages)

@@ -11,39 +11,50 @@ use Rattle.bp_matter.specs.declared.rows.Item.{Item}
 use Rattle.bp_matter.specs.declared.rows.PrefixRow.{PrefixRow}
 use Rattle.bp_matter.specs.declared.rows.ProductionRow.{ProductionRow}
 
+-- the text of a prefix
 abbrev pub prefix_text : PrefixRow → List ℕ
 prefix_text row = row.prefix.text
 
 -- the last number taken is a number of the width
 abbrev pub prefix_fits : PrefixRow → Bool
 prefix_fits row =
-    is_good_prefix row.prefix.text row.prefix.width && (nat_le 1 row.next && nat_le row.next (largest_of row.prefix.width + 1))
+    is_good_prefix row.prefix.text row.prefix.width && (nat_le 1 row.next
+    && nat_le row.next (largest_of row.prefix.width + 1))
 
+-- a production has the prefix of this text
 abbrev pub is_under : List ℕ → ProductionRow → Bool
 is_under text row = bytes_eq row.production.request.prefix.text text
 
 -- The number after the spans of these items, where they follow one another from n on.
 abbrev pub after_items : ℕ → List Item → Option ℕ
 after_items n [] = Some n
-after_items n (i ∷ items) = if (i.span.first == n) && nat_le n i.span.last then after_items (i.span.last + 1) items else None
+after_items n (i ∷ items) =
+    if (i.span.first == n) && nat_le n i.span.last then after_items (i.span.last + 1) items
+    else None
 
 -- The same of all productions under a prefix, in order.
 abbrev pub after_productions : List ℕ → Option ℕ → List ProductionRow → Option ℕ
 after_productions text n [] = n
 after_productions text None (row ∷ rows) = None
 after_productions text (Some n) (row ∷ rows) =
-    after_productions text (if is_under text row then after_items n row.production.items else Some n) rows
+    after_productions text (if is_under text row then after_items n row.production.items
+    else Some n) rows
 
+-- that number was reached
 abbrev pub is_number : Option ℕ → ℕ → Bool
 is_number None n = false
 is_number (Some m) n = m == n
 
+-- the spans under a prefix are the numbers from 1 up to the next
 abbrev pub spans_reach : List ProductionRow → PrefixRow → Bool
-spans_reach productions row = is_number (after_productions row.prefix.text (Some 1) productions) row.next
+spans_reach productions row =
+    is_number (after_productions row.prefix.text (Some 1) productions) row.next
 
+-- some production has the prefix
 abbrev pub is_used : List ProductionRow → PrefixRow → Bool
 is_used productions row = list_any (is_under row.prefix.text) productions
 
+-- the prefixes of a matter with these productions
 pub record PrefixFacts (productions : List ProductionRow) (prefixes : List PrefixRow) : Type 0 where
   pub numbered : IsTrue (is_numbered prefix_key 1 prefixes)
   pub fit : IsTrue (list_all prefix_fits prefixes)

@@ -15,4 +15,5 @@ names count n = nat_le 1 n && nat_le n count
 -- no two are alike
 abbrev pub all_differ : {T : Type 0} → (T → List ℕ) → List T → Bool
 all_differ text [] = true
-all_differ text (row ∷ rows) = not (list_any (λ other. bytes_eq (text other) (text row)) rows) && all_differ text rows
+all_differ text (row ∷ rows) =
+    not (list_any (λ other. bytes_eq (text other) (text row)) rows) && all_differ text rows

@@ -44,9 +44,19 @@ impl Model for Batch {
 
     ghost Value = { BatchShown };
 
-    ghost view = { λ b. record { name = b.name; digest = b.digest; fields = b.fields; docs = b.docs } };
+    ghost view = { λ b. record {
+      name = b.name;
+      digest = b.digest;
+      fields = b.fields;
+      docs = b.docs;
+    } };
 
-    ghost invariant = { λ b. IsBatch (record { name = b.name; digest = b.digest; fields = b.fields; docs = b.docs }) };
+    ghost invariant = { λ b. IsBatch (record {
+      name = b.name;
+      digest = b.digest;
+      fields = b.fields;
+      docs = b.docs;
+    }) };
 }
 
 impl Batch {

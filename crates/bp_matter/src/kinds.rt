@@ -38,7 +38,8 @@ pub trait Kind: Keyed + Sized + Drop {
     /// The row of the tables that this is kept for, if it is one of this kind.
     fn read(alloc: Global, row: &Row) -> Result<Option<Self>, OutOfMemory>
         ensures value { IfOk result (λ found. found ≡ read_of row.now) }
-        ensures written { IfOk result (λ found. IfSome found (λ value. (row.now ≡ kept_of value) × IsTrue (is_written value))) };
+        ensures written { IfOk result (λ found. IfSome found (λ value.
+            (row.now ≡ kept_of value) × IsTrue (is_written value))) };
 }
 
 // What a slice of bytes is known to hold, for who got it from a call.
@@ -536,7 +537,9 @@ pub(crate) fn add_four<A: Kind, B: Kind, C: Kind, D: Kind>(
     requires b { IsTrue (list_all B.is_written b.now) }
     requires c { IsTrue (list_all C.is_written c.now) }
     requires d { IsTrue (list_all D.is_written d.now) }
-    ensures { OnOk result (kept.new.items ≡ kept.old.items ++ (map A.kept_of a.now ++ (map B.kept_of b.now ++ (map C.kept_of c.now ++ map D.kept_of d.now)))) }
+    ensures { OnOk result (kept.new.items ≡ kept.old.items
+        ++ (map A.kept_of a.now ++ (map B.kept_of b.now
+        ++ (map C.kept_of c.now ++ map D.kept_of d.now)))) }
 {
     add_rows(alloc, kept, a)?;
     add_rows(alloc, kept, b)?;

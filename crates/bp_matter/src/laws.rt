@@ -1,5 +1,7 @@
-//! The laws of kept rows. The function does nothing: its contract is the law.
-ghost use Rattle.std.specs.Prelude.{◌≡◌};
+//! The laws of kept rows. The functions do nothing: the contract of each is the law.
+ghost use Rattle.std.specs.Prelude.{◌≡◌, ◌<◌, ◌^◌, ℕ, slice_index};
+ghost use Rattle.bp_core.specs.declared.kept.Row.{Row};
+ghost use Rattle.bp_matter.specs.Forms.{FormsOf};
 ghost use Rattle.bp_matter.specs.KeptRows.{rows_of};
 ghost use Rattle.bp_matter.specs.Matter.{Matter};
 ghost use Rattle.bp_matter.specs.Valid.{IsValid};
@@ -9,6 +11,17 @@ use bp_t6::laws::strip_law;
 /// Valid matters with equal kept rows are equal.
 pub fn rows_law()
     ensures { (m n : Matter) → IsValid m → IsValid n → rows_of m ≡ rows_of n → m ≡ n }
+{
+    strip_law();
+}
+
+/// What it means that the body of a kept row is of its form: of each kind, that it is the body of some row.
+pub fn form_law()
+    ensures { (row : Row) →
+        ((i : ℕ) → slice_index row.body i < 256) →
+        row.k1 < 2 ^ 32 →
+        row.k2 < 2 ^ 32 →
+        FormsOf row }
 {
     strip_law();
 }

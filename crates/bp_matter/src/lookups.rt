@@ -15,7 +15,8 @@ use bp_core::{DocNo, PageNo, Text, find_row, two_keys};
 impl Tables {
     /// The production of this id.
     pub fn production(&self, id: &Text) -> Option<&Production>
-        ensures { option_copied result ≡ of_row (λ row. row.production) (production_with id.now self.now.matter) }
+        ensures { option_copied result
+            ≡ of_row (λ row. row.production) (production_with id.now self.now.matter) }
     {
         match self.production_row(id) {
             Some(row) => Some(&row.production),

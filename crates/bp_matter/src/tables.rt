@@ -43,11 +43,48 @@ impl Model for Tables {
     ghost Value = { Shown };
 
     ghost view = { λ t. record {
-      matter = record { staff = t.staff.items; fields = t.fields.items; docs = t.docs.items; pages = t.pages.items; calls = t.calls.items; boxes = t.boxes.items; held = t.held.items; entries = t.entries.items; prefixes = t.prefixes.items; productions = t.productions.items; batches = t.batches.items; words = t.words.items };
-      spare = min (vec_capacity t.staff - vec_len t.staff) (min (vec_capacity t.fields - vec_len t.fields) (min (vec_capacity t.docs - vec_len t.docs) (min (vec_capacity t.pages - vec_len t.pages) (min (vec_capacity t.calls - vec_len t.calls) (min (vec_capacity t.boxes - vec_len t.boxes) (min (vec_capacity t.held - vec_len t.held) (min (vec_capacity t.entries - vec_len t.entries) (min (vec_capacity t.prefixes - vec_len t.prefixes) (min (vec_capacity t.productions - vec_len t.productions) (min (vec_capacity t.batches - vec_len t.batches) (vec_capacity t.words - vec_len t.words)))))))))));
+      matter = record {
+        staff = t.staff.items;
+        fields = t.fields.items;
+        docs = t.docs.items;
+        pages = t.pages.items;
+        calls = t.calls.items;
+        boxes = t.boxes.items;
+        held = t.held.items;
+        entries = t.entries.items;
+        prefixes = t.prefixes.items;
+        productions = t.productions.items;
+        batches = t.batches.items;
+        words = t.words.items;
+      };
+      spare = min (vec_capacity t.staff - vec_len t.staff)
+          (min (vec_capacity t.fields - vec_len t.fields)
+          (min (vec_capacity t.docs - vec_len t.docs)
+          (min (vec_capacity t.pages - vec_len t.pages)
+          (min (vec_capacity t.calls - vec_len t.calls)
+          (min (vec_capacity t.boxes - vec_len t.boxes)
+          (min (vec_capacity t.held - vec_len t.held)
+          (min (vec_capacity t.entries - vec_len t.entries)
+          (min (vec_capacity t.prefixes - vec_len t.prefixes)
+          (min (vec_capacity t.productions - vec_len t.productions)
+          (min (vec_capacity t.batches - vec_len t.batches)
+          (vec_capacity t.words - vec_len t.words)))))))))));
     } };
 
-    ghost invariant = { λ t. IsValid (record { staff = t.staff.items; fields = t.fields.items; docs = t.docs.items; pages = t.pages.items; calls = t.calls.items; boxes = t.boxes.items; held = t.held.items; entries = t.entries.items; prefixes = t.prefixes.items; productions = t.productions.items; batches = t.batches.items; words = t.words.items }) };
+    ghost invariant = { λ t. IsValid (record {
+      staff = t.staff.items;
+      fields = t.fields.items;
+      docs = t.docs.items;
+      pages = t.pages.items;
+      calls = t.calls.items;
+      boxes = t.boxes.items;
+      held = t.held.items;
+      entries = t.entries.items;
+      prefixes = t.prefixes.items;
+      productions = t.productions.items;
+      batches = t.batches.items;
+      words = t.words.items;
+    }) };
 }
 
 impl Tables {

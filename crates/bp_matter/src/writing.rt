@@ -173,8 +173,11 @@ pub(crate) fn put_word_part(out: &mut Vec<u8>, of: &Word) -> Result<(), OutOfMem
 }
 
 fn put_item_end(out: &mut Vec<u8>, item: &Item) -> Result<(), OutOfMemory>
-    requires { IsTrue (if_there entry_fields_written item.now.entry && (is_short item.now.designation && span_written item.now.span)) }
-    ensures { OnOk result (out.new.items ≡ out.old.items ++ (optional entry_part item.now.entry ++ (text item.now.designation ++ span item.now.span))) }
+    requires { IsTrue (if_there entry_fields_written item.now.entry
+        && (is_short item.now.designation && span_written item.now.span)) }
+    ensures { OnOk result (out.new.items ≡ out.old.items
+        ++ (optional entry_part item.now.entry
+        ++ (text item.now.designation ++ span item.now.span))) }
 {
     put_entry_if(out, &item.entry)?;
     put_text(out, &item.designation)?;
@@ -217,7 +220,8 @@ fn unit_number(of: Unit) -> u8
 
 fn put_image_end(alloc: Global, out: &mut Vec<u8>, of: &Page) -> Result<(), OutOfMemory>
     ensures { OnOk result (out.new.items ≡ out.old.items
-        ++ (word of.now.yres.num ++ (word of.now.yres.den ++ (byte (unit_number of.now.unit) ++ strip of.now)))) }
+        ++ (word of.now.yres.num ++ (word of.now.yres.den
+        ++ (byte (unit_number of.now.unit) ++ strip of.now)))) }
 {
     let yres = of.yres();
     put_word(out, yres.num)?;

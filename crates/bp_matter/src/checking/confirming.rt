@@ -146,7 +146,8 @@ fn states_hold(
     requires held { IsTrue (ascends held_key 0 held.now) }
     requires held_written { IsTrue (list_all held_written held.now) }
     requires entries { IsTrue (ascends entry_key 0 entries.now) }
-    ensures { result ≡ list_all (λ row. state_holds staff.now boxes.now held.now entries.now row row.state) calls.now }
+    ensures { result ≡ list_all
+        (λ row. state_holds staff.now boxes.now held.now entries.now row row.state) calls.now }
 {
     calls
         .iter()

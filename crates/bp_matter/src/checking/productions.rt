@@ -74,7 +74,9 @@ fn production_fits(
 }
 
 fn same_prefix(kept: &PrefixRow, row: &ProductionRow) -> bool
-    ensures { result ≡ (bytes_eq kept.now.prefix.text row.now.production.request.prefix.text && (kept.now.prefix.width == row.now.production.request.prefix.width)) }
+    ensures { let asked = row.now.production.request.prefix in
+        result ≡ (bytes_eq kept.now.prefix.text asked.text
+        && (kept.now.prefix.width == asked.width)) }
 {
     kept.prefix.text == row.production.request.prefix.text
         && kept.prefix.width == row.production.request.prefix.width
@@ -115,7 +117,8 @@ pub(crate) fn productions_few(rows: &[ProductionRow]) -> bool
 // Whether these documents have no mark yet, each of which gets one.
 fn mark_items(marks: &mut Vec<bool>, items: &[Item]) -> bool
     ensures same { vec_len marks.new ≡ vec_len marks.old }
-    ensures marks { marked_on (Some marks.old.items) items.now ≡ (if result then Some marks.new.items else None) }
+    ensures marks { marked_on (Some marks.old.items) items.now
+        ≡ (if result then Some marks.new.items else None) }
 {
     let mut rest = items;
     while let Some((first, others)) = rest.split_first() {
@@ -163,8 +166,10 @@ pub(crate) fn productions_valid(
     requires few { length docs.now ≤ 10000 }
     requires pages { IsTrue (ascends page_key 0 pages.now) }
     requires written { IsTrue (list_all production_written productions.now) }
-    ensures fact { IfOk result (λ good. IsTrue good → ProductionFacts fields.now docs.now pages.now prefixes.now productions.now) }
-    ensures back { IfOk result (λ good. ProductionFacts fields.now docs.now pages.now prefixes.now productions.now → IsTrue good) }
+    ensures fact { IfOk result (λ good. IsTrue good →
+        ProductionFacts fields.now docs.now pages.now prefixes.now productions.now) }
+    ensures back { IfOk result (λ good.
+        ProductionFacts fields.now docs.now pages.now prefixes.now productions.now → IsTrue good) }
 {
     if !is_numbered(productions, 1) {
         return Ok(false);

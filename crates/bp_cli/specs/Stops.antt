@@ -1,5 +1,5 @@
 -- Which stop each refusal of a call becomes.
-use Rattle.std.specs.Prelude.{◌≡◌, Result, Ok, Err}
+use Rattle.std.specs.Prelude.{◌≡◌}
 use Rattle.bp_core.specs.declared.rules.Rule.{Rule}
 use Rattle.bp_core.specs.declared.rules.RuleKind.TheVariants as kinds
 use Rattle.bp_core.specs.Rules.{bare_rule}
@@ -26,12 +26,3 @@ read_stop reads.Absent = stops.Broken (bare_rule kinds.FileAbsent)
 read_stop reads.TooLong = stops.Broken (bare_rule kinds.FileTooLong)
 read_stop reads.Failed = stops.SourceFault
 read_stop reads.OutOfMemory = stops.OutOfMemory
-
--- a call gave the defined answer, unless memory ran out
-abbrev pub StopAnswers : {V : Type 0} → Result V Stop → Result V Rule → Type 0
-StopAnswers (Ok x) defined = defined ≡ Ok x
-StopAnswers (Err (stops.Broken rule)) defined = defined ≡ Err rule
-StopAnswers (Err stops.OutOfMemory) defined = Unit {0}
-StopAnswers (Err stops.WordsRefused) defined = ⊥
-StopAnswers (Err stops.SourceFault) defined = ⊥
-StopAnswers (Err stops.FolderFault) defined = ⊥

@@ -1,5 +1,5 @@
 -- Unused bits cleared, a row at a time: carries `clear_ends` from one row to all, and to the page.
-use Rattle.std.proofs.Common.{ℕ, ◌≡◌, ◌≢◌, ◌+◌, ◌-◌, ◌*◌, ◌/◌, ◌%◌, ◌^◌, ◌<◌, ◌≤◌, zero, suc, Bool, true, false, cond, eqb, leb, ltb, ◌&&◌, List, length, get_or, set, sym, ap, subst, ◌∙◌, arith, ⊎_elim, ◌++◌, take, drop, refl}
+use Rattle.std.proofs.Common.{ℕ, ◌≡◌, ◌≢◌, ◌+◌, ◌-◌, ◌*◌, ◌/◌, ◌%◌, ◌^◌, ◌<◌, ◌≤◌, zero, suc, Bool, true, false, cond, eqb, leb, ltb, ◌&&◌, List, length, get_or, set, sym, ap, subst, ◌∙◌, arith, ⊎_elim, ◌++◌, take, drop}
 use Rattle.std.specs.Int.{bit_at}
 use Rattle.std.proofs.lemmas.Bool.{cases_eq, cases_lt, lt-ltb, le-ltb, le-leb}
 use Rattle.std.proofs.lemmas.Nat.Bits.{bit_at-zero, bit_at_cat_low, bit_at_cat_high}
@@ -7,7 +7,6 @@ use Rattle.std.proofs.lemmas.List.{length-set, get_or-set_same, get_or-set_other
 use Rattle.std.proofs.lemmas.List.{take-append-le, take_all}
 use Rattle.bp_rows.specs.declared.resolution.Res.{Res}
 use Rattle.bp_rows.specs.declared.resolution.Unit.{Unit as LengthUnit}
-use Rattle.bp_rows.specs.Image.{Image}
 use Rattle.bp_rows.specs.Bits.{row_bytes, black_at, place, rows_in, image_in, AreBytes}
 use Rattle.bp_rows.proofs.GridLemmas.{cell-grid_of, grid_of_is_grid, same_grids}
 use Rattle.bp_rows.proofs.ByteLemmas.{black_at-set_same, black_at-set_other}

@@ -18,7 +18,7 @@ use Rattle.bp_t6.specs.Read.{RowReads, LinesRead}
 use Rattle.bp_t6.specs.Faults.{RowFault, LinesFault, here, later, StripFault}
 use Rattle.bp_rows.specs.Changes.{Shows}
 use Rattle.bp_t6.specs.Reading.{IfFault, RowIsRead, RowStops}
-use Rattle.bp_t6.specs.Strips.{refusal_for, fault_rule, AppendsLines, SaysFault, IsRefused}
+use Rattle.bp_t6.specs.Strips.{refusal_for, AppendsLines, SaysFault, IsRefused}
 use Rattle.bp_core.specs.Answers.{IfRule}
 use Rattle.bp_t6.proofs.RunCodeLemmas.{flat_map-append}
 use Rattle.bp_rows.proofs.ShownLemmas.{shows_white}

@@ -18,9 +18,7 @@ use crate::reading::Stop;
 use crate::tables::CodeTables;
 use bp_codes::{BitSpan, Fill};
 use bp_core::{Refusal, Rule, RuleKind};
-use bp_rows::{
-    MAX_WIDTH, Page, Res, Unit, allowed_sides, bytes_of_row, bytes_of_strip, push_row,
-};
+use bp_rows::{MAX_WIDTH, Page, Res, Unit, allowed_sides, bytes_of_row, bytes_of_strip, push_row};
 use std::alloc::Global;
 use std::mem;
 

@@ -109,7 +109,7 @@ struct Refused {
     bit: u64,
 }
 
-static REFUSED: [Refused; 7] = [
+static REFUSED: [Refused; 14] = [
     // one white row, and the end of the block where the second is due
     Refused {
         strip: &[0x80, 0x08, 0x00, 0x80],
@@ -164,6 +164,62 @@ static REFUSED: [Refused; 7] = [
         row: 0,
         bit: 3,
     },
+    // horizontal, white 0 and black 8; then VL1, left of the first pixel
+    Refused {
+        strip: &[0x26, 0xA2, 0xA0],
+        rows: 2,
+        kind: RuleKind::T6BadPlace,
+        row: 1,
+        bit: 17,
+    },
+    // horizontal, 0 and 0, twice: the second stands still
+    Refused {
+        strip: &[0x26, 0xA1, 0xB9, 0x35, 0x0D, 0xC0],
+        rows: 1,
+        kind: RuleKind::T6BadPlace,
+        row: 0,
+        bit: 21,
+    },
+    // horizontal, white 2 and black 7
+    Refused {
+        strip: &[0x2E, 0x30],
+        rows: 1,
+        kind: RuleKind::T6BadPlace,
+        row: 0,
+        bit: 7,
+    },
+    // horizontal, white 2, and one bit
+    Refused {
+        strip: &[0x2E],
+        rows: 1,
+        kind: RuleKind::T6ShortData,
+        row: 0,
+        bit: 7,
+    },
+    // horizontal, white 2, and nine zeros
+    Refused {
+        strip: &[0x2E, 0x00],
+        rows: 1,
+        kind: RuleKind::T6BadCode,
+        row: 0,
+        bit: 7,
+    },
+    // horizontal, and thirteen zeros
+    Refused {
+        strip: &[0x20, 0x00],
+        rows: 1,
+        kind: RuleKind::T6BadCode,
+        row: 0,
+        bit: 3,
+    },
+    // horizontal, and five zeros
+    Refused {
+        strip: &[0x20],
+        rows: 1,
+        kind: RuleKind::T6ShortData,
+        row: 0,
+        bit: 3,
+    },
 ];
 
 #[test]
@@ -181,6 +237,16 @@ fn strips_are_refused_at_the_bit(rt: HostRuntime) {
             Err(refusal) => assert_eq!(rt; refusal, Refusal::Rule(want)),
         }
     }
+}
+
+// VL1 and V0 end a row with a black pixel; a horizontal step of 0 and 0 at the start of a row is read.
+#[test]
+fn steps_to_the_left_and_of_no_pixel_are_read(rt: HostRuntime) -> Result<(), Fail> {
+    for (strip, row) in [([0x50, 0x00, 0x00], 0x01u8), ([0x26, 0xA1, 0xBC], 0x00)] {
+        let page = read_strip(rt.alloc(), &strip, Fill::High, 8, 1)?;
+        assert_eq!(rt; page.strip(), [row].as_slice());
+    }
+    Ok(())
 }
 
 // Each byte from its low bit up, and sides that no page has.

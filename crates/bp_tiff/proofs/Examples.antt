@@ -1,6 +1,6 @@
 -- Worked examples of the definitions in specs/, each run by the check. The bytes are written out by
 -- hand from TIFF 6.0 and ITU-T T.6.
-use Rattle.std.proofs.Common.{ℕ, ◌≡◌, true, List, [], ◌∷◌, ◌++◌, Some, None, length, take, drop, replicate, refl}
+use Rattle.std.proofs.Common.{ℕ, ◌≡◌, true, List, [], ◌∷◌, None, length, replicate, refl}
 use Rattle.bp_codes.specs.CodeLists.{white_codes, black_codes, mode_codes}
 use Rattle.bp_rows.specs.declared.resolution.Res.{Res}
 use Rattle.bp_rows.specs.declared.resolution.Unit.TheVariants as units

@@ -1,5 +1,5 @@
 -- Which rules a page file can break: carried from each definition to the fault of the file.
-use Rattle.std.proofs.Common.{ℕ, ◌≡◌, ◌+◌, zero, suc, Bool, true, false, eqb, List, [], ◌∷◌, Option, Some, None, Result, Ok, Err, IfErr, refl, sym, subst, inl, inr, cond, ◌==◌, ◌*◌, ◌&&◌, ◌||◌, length, nat_le, nat_lt, if◌then◌else◌}
+use Rattle.std.proofs.Common.{ℕ, ◌≡◌, ◌+◌, zero, suc, Bool, true, false, List, Option, Some, None, Result, Ok, Err, IfErr, sym, subst, inl, inr, cond, ◌==◌, ◌*◌, ◌&&◌, ◌||◌, length, nat_le, nat_lt, if◌then◌else◌}
 use Rattle.std.specs.Option.{ok_or}
 use Rattle.bp_codes.specs.declared.code.NoCode.{NoCode}
 use Rattle.bp_codes.specs.declared.code.NoCode.TheVariants as codes
@@ -9,7 +9,6 @@ use Rattle.bp_core.specs.declared.rules.RuleKind.{RuleKind}
 use Rattle.bp_t6.specs.Faults as faults
 use Rattle.bp_t6.specs.Faults.{RunFault, ModeFault, RowFault, LinesFault, missing_code, mode_fault, due_codes}
 use Rattle.bp_t6.specs.Places.{Place}
-
 use Rattle.bp_tiff.specs.declared.directory.Directory.{Directory}
 use Rattle.bp_tiff.specs.declared.directory.FoundEntry.{FoundEntry}
 use Rattle.bp_tiff.specs.declared.layout.Coding.{Coding}

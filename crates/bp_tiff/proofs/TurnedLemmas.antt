@@ -1,12 +1,12 @@
 -- Carries bytes that were turned round or over to the values and the lines that they hold.
-use Rattle.std.proofs.Common.{ℕ, ◌≡◌, ◌+◌, ◌-◌, ◌≤◌, ⊎_elim, set, ◌*◌, ◌/◌, ◌%◌, ◌<◌, zero, suc, Bool, true, false, not, cond, eqb, List, [], ◌++◌, take, drop, length, get_or, map, refl, sym, ap, subst, ◌∙◌, arith, zero-add}
+use Rattle.std.proofs.Common.{ℕ, ◌≡◌, ◌+◌, ◌-◌, ⊎_elim, set, ◌*◌, ◌/◌, ◌%◌, ◌<◌, zero, suc, Bool, true, false, not, cond, eqb, List, length, get_or, refl, sym, ap, subst, ◌∙◌, arith}
 use Rattle.std.proofs.lemmas.Simd.{map-map}
 use Rattle.std.specs.Int.{bit_at, w8}
 use Rattle.std.proofs.lemmas.Nat.Bits.{bit_at_not, bit_at-lt}
 use Rattle.bp_codes.specs.declared.span.Fill.{Fill}
 use Rattle.bp_codes.specs.declared.span.Fill.TheVariants.{High, Low}
 use Rattle.bp_codes.specs.Bits.{bit, byte_bits}
-use Rattle.bp_rows.specs.Image.{Image, IsPage, IsGrid, grid_of}
+use Rattle.bp_rows.specs.Image.{grid_of}
 use Rattle.bp_rows.specs.Bits.{row_bytes, place}
 use Rattle.bp_rows.proofs.GridLemmas.{cell-grid_of, grid_of_is_grid, same_grids}
 use Rattle.bp_rows.proofs.PackedLemmas.{place_within, row_covers}

@@ -1,5 +1,5 @@
 -- The rows that a reader has put one behind another.
-use Rattle.std.specs.Prelude.{ℕ, ◌+◌, ◌*◌, ◌-◌, ◌≡◌, min, true, false, List, ◌++◌, length}
+use Rattle.std.specs.Prelude.{ℕ, ◌*◌, ◌-◌, ◌≡◌, min, true, false, List, ◌++◌, length}
 use Rattle.bp_codes.specs.declared.span.Fill.{Fill}
 use Rattle.bp_codes.specs.declared.span.Fill.TheVariants.{High}
 use Rattle.bp_core.specs.declared.rules.Rule.{Rule}

@@ -328,7 +328,7 @@ fn every_part_of_a_file_is_refused(rt: HostRuntime) {
 }
 
 // Other bytes in the G4 file, the rule that it then breaks, and the rule's values.
-const DAMAGES: [(&[(usize, u8)], RuleKind, u64, u64); 13] = [
+const DAMAGES: [(&[(usize, u8)], RuleKind, u64, u64); 17] = [
     (&[(0, 0)], RuleKind::TiffHead, 0, 0),
     (&[(178, 1)], RuleKind::TiffManyPages, 0, 0),
     (&[(18, 0)], RuleKind::PageLimit, 0, 1),
@@ -340,6 +340,17 @@ const DAMAGES: [(&[(usize, u8)], RuleKind, u64, u64); 13] = [
     (&[(126, 7)], RuleKind::TiffBounds, 273, 0),
     (&[(54, 5), (55, 0x80)], RuleKind::TiffCompression, 32_773, 0),
     (&[(10, 0xFF), (11, 0)], RuleKind::TiffMissing, 256, 0),
+    // a missing tag before the next one of another type, and a wrong number of values before the unit
+    (
+        &[(10, 0xFF), (11, 0), (24, 5)],
+        RuleKind::TiffMissing,
+        256,
+        0,
+    ),
+    (&[(144, 4)], RuleKind::TiffType, 283, 0),
+    (&[(122, 2), (174, 4)], RuleKind::TiffStrips, 0, 0),
+    // a strip of no bytes past the end
+    (&[(90, 205), (126, 0)], RuleKind::TiffBounds, 273, 0),
     // its codes: the strip ends in the first row; the run of 8 is longer than the row
     (&[(126, 1)], RuleKind::T6ShortData, 0, 3),
     (&[(18, 7)], RuleKind::T6BadPlace, 0, 11),

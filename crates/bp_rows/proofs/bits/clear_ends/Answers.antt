@@ -1,4 +1,4 @@
-use Rattle.std.proofs.Common.{◌≡◌, ◌+◌, ◌*◌, ◌≤◌, length, arith, sym}
+use Rattle.std.proofs.Common.{◌+◌, ◌*◌, ◌≤◌, length, arith}
 use Rattle.bp_rows.specs.Bits.{row_bytes}
 use Rattle.bp_rows.proofs.PackedLemmas.{rows_apart}
 use Rattle.bp_rows.proofs.ClearingLemmas.{cleared_more, masked_fit}

@@ -1,4 +1,4 @@
-use Rattle.std.proofs.Common.{ℕ, List, Bool, Ok, sym, ap, subst, inr, ◌∙◌}
+use Rattle.std.proofs.Common.{List, Bool, Ok, sym, ap, subst, inr, ◌∙◌}
 use Rattle.bp_codes.specs.Bits.{bits_of}
 use Rattle.bp_t6.specs.Read.{StripReads}
 use Rattle.bp_t6.specs.Strips.{page_of}

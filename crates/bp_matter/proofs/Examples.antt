@@ -1,6 +1,6 @@
 -- Worked examples of the definitions in specs/, each run by the check: a small matter that is valid, what breaks each of its
 -- facts, and its kept rows, written out from their format.
-use Rattle.std.proofs.Common.{◌≡◌, ℕ, true, false, [], ◌∷◌, ◌++◌, Some, None, refl, replicate}
+use Rattle.std.proofs.Common.{◌≡◌, ℕ, true, false, [], ◌∷◌, ◌++◌, Some, None, refl, replicate, ◌+◌, ◌*◌}
 use Rattle.std.specs.Prelude.{codes}
 use Rattle.bp_core.specs.declared.review.Basis.TheVariants.{Ac, Pi}
 use Rattle.bp_core.specs.declared.review.Role.TheVariants.{Reviewer, Second, Lead}
@@ -12,6 +12,13 @@ use Rattle.bp_rows.specs.Image.{Image, white_image}
 use Rattle.bp_rows.specs.declared.resolution.Unit.TheVariants.{Inch}
 use Rattle.bp_bates.specs.declared.prefixes.Prefix.{Prefix}
 use Rattle.bp_text.specs.declared.words.Word.{Word}
+use Rattle.bp_matter.specs.Batches.{BatchShown, IsBatch, parents_stand, batch_doc_fits, batch_page_fits}
+use Rattle.bp_matter.specs.LookUps.{production_with, state_of_doc}
+use Rattle.bp_matter.specs.Reading.{held_at}
+use Rattle.bp_matter.specs.ReadTables.{least_bad, bad_rule, kept_row_bad}
+use Rattle.bp_matter.specs.declared.batches.BatchDoc.{BatchDoc}
+use Rattle.bp_matter.specs.declared.batches.BatchPage.{BatchPage}
+use Rattle.bp_matter.specs.Texts.{is_text, is_designation, is_volume, is_id, is_value, is_field_name, is_id_of_doc, is_word_text}
 use Rattle.bp_matter.specs.Images.{strip}
 use Rattle.bp_matter.specs.Fields.{word, long}
 use Rattle.bp_matter.specs.Bodies.{staff_body, doc_body, page_body, call_body, box_body, held_body, prefix_body, words_body}
@@ -32,7 +39,7 @@ use Rattle.bp_matter.specs.Written.{production_written}
 use Rattle.bp_matter.specs.ValidPrefixes.{prefix_text, prefix_fits, is_used, spans_reach}
 use Rattle.bp_matter.specs.ValidBatches.{batch_name, batch_fits}
 use Rattle.bp_matter.specs.Confirming.{may_hold, state_holds, confirm_rule}
-use Rattle.bp_matter.specs.declared.rows.State.TheVariants.{First, Confirmed}
+use Rattle.bp_matter.specs.declared.rows.State.TheVariants.{Uncalled, First, Confirmed}
 use Rattle.bp_matter.specs.declared.rows.StaffRow.{StaffRow}
 use Rattle.bp_matter.specs.declared.rows.FieldRow.{FieldRow}
 use Rattle.bp_matter.specs.declared.rows.DocRow.{DocRow}
@@ -419,3 +426,116 @@ prefix_bytes = refl
 words_bytes : words_body (words_of 1 1) ≡ 1 ∷ 0 ∷ 0 ∷ 0 ∷ 0 ∷ []
 unfolding word
 words_bytes = refl
+
+-- ---- texts
+
+a_designation : is_designation (codes "CONFIDENTIAL 1.2_-") ≡ true
+a_designation = refl
+
+a_long_designation : is_designation (replicate 41 65) ≡ false
+a_long_designation = refl
+
+a_volume : is_volume (codes "VOL_001-A") ≡ true
+a_volume = refl
+
+a_small_volume : is_volume (codes "vol") ≡ false
+a_small_volume = refl
+
+a_long_id : is_id (replicate 33 97) ≡ false
+a_long_id = refl
+
+no_id : is_id [] ≡ false
+no_id = refl
+
+-- a value may have a newline, and the name of a field may not
+a_broken_value : is_value (65 ∷ 10 ∷ 66 ∷ []) ≡ true
+a_broken_value = refl
+
+a_signed_value : is_value (0xAE ∷ []) ≡ false
+a_signed_value = refl
+
+a_named_value : is_field_name (65 ∷ 10 ∷ []) ≡ false
+a_named_value = refl
+
+an_id_with_a_space : is_id_of_doc (65 ∷ 32 ∷ 49 ∷ []) ≡ true
+an_id_with_a_space = refl
+
+-- 201 bytes are too many for a name
+a_long_name : is_text 200 (replicate 201 65) ≡ false
+unfolding lib.Utf8.encode
+a_long_name = refl
+
+a_word_text : is_word_text (0xFE ∷ []) ≡ true
+a_word_text = refl
+
+a_word_with_tab : is_word_text (9 ∷ []) ≡ false
+a_word_with_tab = refl
+
+-- ---- a batch of two documents of one family
+
+abbrev some_page : BatchPage
+some_page = record { page = blank_page; words = a_word 0 ∷ [] }
+
+abbrev some_doc : BatchDoc
+some_doc = record { id = 65 ∷ []; parent = 1; values = [] ∷ []; pages = some_page ∷ [] }
+
+abbrev some_batch : BatchShown
+some_batch = record {
+  name = codes "B1";
+  digest = replicate 32 0;
+  fields = (65 ∷ []) ∷ [];
+  docs = some_doc ∷ record some_doc { id = 66 ∷ [] } ∷ [];
+}
+
+a_batch : IsBatch some_batch
+unfolding lib.Utf8.encode
+a_batch = record {
+  name = refl;
+  digest = refl;
+  fields = refl;
+  names_differ = refl;
+  families = refl;
+  docs = refl;
+  few_fields = refl;
+  few_docs = refl;
+  few_pages = refl;
+  written = refl;
+}
+
+strange_place : parents_stand 1 1 (some_doc ∷ record some_doc { parent = 3 } ∷ []) ≡ false
+strange_place = refl
+
+value_missing : batch_doc_fits 2 some_doc ≡ false
+value_missing = refl
+
+no_page_in_it : batch_doc_fits 1 (record some_doc { pages = [] }) ≡ false
+no_page_in_it = refl
+
+word_past_the_edge : batch_page_fits (record some_page { words = a_word 5 ∷ [] }) ≡ false
+word_past_the_edge = refl
+
+-- ---- look-ups
+
+by_id : production_with (82 ∷ []) sample ≡ Some frozen
+by_id = refl
+
+of_no_id : production_with (83 ∷ []) sample ≡ None
+of_no_id = refl
+
+called_doc : state_of_doc 2 sample ≡ Some (First (record { 0 = 1 }))
+called_doc = refl
+
+uncalled_doc : state_of_doc 1 sample ≡ Some Uncalled
+uncalled_doc = refl
+
+no_such_doc : state_of_doc 3 sample ≡ None
+no_such_doc = refl
+
+-- ---- two bad rows: the least key is named
+
+least_of_two : least_bad None (record { kind = 13; k1 = 0; k2 = 0; body = [] } ∷ record { kind = 7; k1 = 9; k2 = 4; body = 1 ∷ 4 ∷ [] } ∷ record { kind = 7; k1 = 9; k2 = 5; body = [] } ∷ []) ≡ Some (7 * 18446744073709551616 + (9 * 4294967296 + 4))
+unfolding held_at
+least_of_two = refl
+
+named : bad_rule (Some (7 * 18446744073709551616 + (9 * 4294967296 + 4))) ≡ kept_row_bad 7 (9 * 4294967296 + 4)
+named = refl

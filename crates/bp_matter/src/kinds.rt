@@ -49,14 +49,14 @@ fn know_bytes(bytes: &[u8])
     let _bytes = bytes;
 }
 
-/// What was read, if nothing is left.
+// What was read, if nothing is left.
 fn finish<T: Drop>(value: T, rest: &[u8]) -> Option<T>
     ensures { result ≡ (if length rest.now == 0 then Some value else None) }
 {
     if rest.is_empty() { Some(value) } else { None }
 }
 
-/// Nothing, where no row is written so.
+// Nothing, where no row is written so.
 fn unread<T>(fault: ReadFault) -> Result<Option<T>, OutOfMemory>
     ensures { IfOk result (λ found. (found ≡ None) × (fault ≡ Malformed)) }
 {
@@ -487,7 +487,7 @@ impl Kind for PageWords {
     }
 }
 
-/// The rows of this kind at the front, and what follows them.
+// The rows of this kind at the front, and what follows them.
 pub(crate) fn take_rows<T: Kind>(
     alloc: Global,
     rows: &[Row],
@@ -509,7 +509,7 @@ pub(crate) fn take_rows<T: Kind>(
     Ok((values, rest))
 }
 
-/// Adds the kept rows of these.
+// Adds the kept rows of these.
 pub(crate) fn add_rows<T: Kind>(
     alloc: Global,
     kept: &mut Vec<Row>,
@@ -524,7 +524,7 @@ pub(crate) fn add_rows<T: Kind>(
     Ok(())
 }
 
-/// Adds the kept rows of four lists.
+// Adds the kept rows of four lists.
 pub(crate) fn add_four<A: Kind, B: Kind, C: Kind, D: Kind>(
     alloc: Global,
     kept: &mut Vec<Row>,

@@ -29,7 +29,7 @@ pub(crate) struct Lists {
     pub(crate) words: Vec<PageWords>,
 }
 
-/// The rows of each kind in turn, and what is left.
+// The rows of each kind in turn, and what is left.
 pub(crate) fn take_lists(alloc: Global, rows: &[Row]) -> Result<(Lists, &[Row]), OutOfMemory>
     ensures lists { IfOk result (λ x. matter_of x.0 ≡ (runs rows.now).0) }
     ensures rest { IfOk result (λ x. x.1.now ≡ (runs rows.now).1) }

@@ -9,7 +9,7 @@ ghost use Rattle.bp_matter.specs.Confirming.{boxes_on, held_on};
 use crate::rows::{DocBox, DocHeld};
 use bp_core::{DocNo, rows_between, two_keys};
 
-/// The boxes of this document, in ascending order of number.
+// The boxes of this document, in ascending order of number.
 pub(crate) fn boxes_on(boxes: &[DocBox], doc: DocNo) -> &[DocBox]
     requires ascending { IsTrue (ascends box_key 0 boxes.now) }
     requires written { IsTrue (list_all box_written boxes.now) }
@@ -31,7 +31,7 @@ fn boxes_in(boxes: &[DocBox], doc: DocNo, first: u128, end: u128) -> &[DocBox]
     rows_between(boxes, first, end)
 }
 
-/// The held fields of this document, in ascending order of field.
+// The held fields of this document, in ascending order of field.
 pub(crate) fn held_on(held: &[DocHeld], doc: DocNo) -> &[DocHeld]
     requires ascending { IsTrue (ascends held_key 0 held.now) }
     requires written { IsTrue (list_all held_written held.now) }

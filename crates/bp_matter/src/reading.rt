@@ -160,7 +160,7 @@ fn take_long(bytes: &[u8]) -> Result<(u64, &[u8]), ReadFault>
     Ok((number, rest))
 }
 
-/// So many values one after the other.
+// So many values one after the other.
 fn take_many<T: Part>(alloc: Global, count: u32, bytes: &[u8]) -> Result<(Vec<T>, &[u8]), ReadFault>
     ensures { Gives (λ x. (x.0.items, x.1.now)) result (many_at T.read_at count bytes.now) }
 {
@@ -182,7 +182,7 @@ fn take_many<T: Part>(alloc: Global, count: u32, bytes: &[u8]) -> Result<(Vec<T>
     Ok((values, rest))
 }
 
-/// A list. Its count is never trusted with memory.
+// A list. Its count is never trusted with memory.
 fn take_list<T: Part>(alloc: Global, bytes: &[u8]) -> Result<(ListOf<T>, &[u8]), ReadFault>
     ensures { Gives (λ x. (x.0, x.1.now)) result (list_at T.read_at bytes.now) }
 {

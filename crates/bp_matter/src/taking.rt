@@ -88,7 +88,7 @@ fn no_form(fault: ReadFault) -> Result<bool, OutOfMemory>
     }
 }
 
-/// Whether the body is of the form of its kind.
+// Whether the body is of the form of its kind.
 fn is_formed(alloc: Global, row: &Row) -> Result<bool, OutOfMemory>
     ensures { IfOk result (λ formed. formed ≡ is_formed row.now) }
 {

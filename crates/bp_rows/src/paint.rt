@@ -1,5 +1,5 @@
 // Rows painted from the places of their changes.
-ghost use Rattle.std.specs.Prelude.{◌≡◌, ◌≤◌, ◌++◌, Bool, List, OnOk, length, replicate};
+ghost use Rattle.std.specs.Prelude.{◌≡◌, ◌≤◌, ◌++◌, Bool, List, OnOk, OnErr, length, replicate};
 ghost use Rattle.bp_rows.specs.Bits.{row_bytes};
 ghost use Rattle.bp_rows.specs.Packed.{packed_row};
 ghost use Rattle.bp_rows.specs.Changes.{Shows, Rises};
@@ -27,8 +27,8 @@ fn paint_row(row: &mut [u8], places: &[u32], width: u32)
     }
 }
 
-/// The packed row that the places show is added to a strip. `row` is lent for the work, and `white`
-/// is a white row.
+/// The packed row that the places show is added to a strip; where memory runs out, the strip stays as
+/// it was. `row` is lent for the work, and `white` is a white row.
 pub fn push_row(
     strip: &mut Vec<u8>,
     row: &mut Vec<u8>,
@@ -39,8 +39,9 @@ pub fn push_row(
     requires wide { width ≤ MAX_WIDTH }
     requires rises { Rises places.now width }
     requires white { white.now ≡ replicate (row_bytes width) 0 }
-    ensures { (line : List Bool) → Shows places.now width line
+    ensures added { (line : List Bool) → Shows places.now width line
         → OnOk result (strip.new.items ≡ strip.old.items ++ packed_row line) }
+    ensures kept { OnErr result (strip.new.items ≡ strip.old.items) }
 {
     row.clear();
     row.extend_from_slice(white)?;

@@ -39,6 +39,11 @@ pub record AppendsLines (bits : List Bool) (width height : ℕ) (old new : List 
   pub grid : IsGrid width height lines
   pub packed : new ≡ old ++ packed_rows lines
 
+-- what stood before still does, and something may stand behind it
+pub record StandsBehind (old new : List ℕ) : Type 0 where
+  pub more : List ℕ
+  pub joined : new ≡ old ++ more
+
 -- the rule says the fault of the strip, its row counted on from the first one
 pub record SaysFault (bits : List Bool) (width height first : ℕ) (rule : BrokenRule) : Type 0 where
   pub kind : RuleKind

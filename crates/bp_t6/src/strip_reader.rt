@@ -9,7 +9,7 @@ ghost use Rattle.bp_codes.specs.Span.{span_bits};
 ghost use Rattle.bp_t6.specs.Read.{StripReads};
 ghost use Rattle.bp_t6.specs.Faults.{StripFault};
 ghost use Rattle.bp_core.specs.declared.rules.RuleKind.{RuleKind};
-ghost use Rattle.bp_t6.specs.Strips.{AppendsLines, SaysFault, IsRefused, OrNoMemory, refusal_for, fault_rule, page_of};
+ghost use Rattle.bp_t6.specs.Strips.{AppendsLines, StandsBehind, SaysFault, IsRefused, OrNoMemory, refusal_for, fault_rule, page_of};
 ghost use Rattle.bp_core.specs.Answers.{IfRule};
 
 use crate::laws::reading_law;
@@ -47,7 +47,8 @@ impl StripReader {
     }
 
     /// Appends the packed rows of a strip of so many rows of that width, or refuses its first fault,
-    /// with its bit in the strip, and its row counted on from `first`.
+    /// with its bit in the strip, and its row counted on from `first`. What stood in `out` before stays;
+    /// after a refusal some rows may stand behind it.
     pub fn read_rows(
         &mut self,
         span: &BitSpan,
@@ -61,6 +62,7 @@ impl StripReader {
             AppendsLines (span_bits span.now) width rows out.old.items out.new.items) }
         ensures refused { IfErr result (
             IfRule (SaysFault (span_bits span.now) width rows first)) }
+        ensures kept { StandsBehind out.old.items out.new.items }
     {
         let white = white_row(width);
         self.above.clear();

@@ -96,7 +96,42 @@ fn small_pages_have_these_strips(rt: HostRuntime) -> Result<(), Fail> {
             case.width,
             case.from
         );
+        if strip.len() < 16 && case.width < 10_000 {
+            let read = read_strip(
+                rt.alloc(),
+                strip.as_slice(),
+                Fill::High,
+                case.width,
+                case.height,
+            )?;
+            assert!(rt;
+                read.strip() == page.strip(),
+                "{} {}",
+                case.width,
+                case.from
+            );
+        }
     }
+    Ok(())
+}
+
+// Columns of eight pixels in 400 rows: a strip of some kilobytes, and its page again.
+#[test]
+fn a_strip_of_some_kilobytes_is_read(rt: HostRuntime) -> Result<(), Fail> {
+    let res = Res { num: 200, den: 1 };
+    let mut page = Page::white(rt.alloc(), 200, 400, res, res, Unit::Inch)?;
+    if page.width() == 200 && page.height() == 400 {
+        for row in 0..400u32 {
+            for block in 0..12u32 {
+                page.blacken(row, 16 * block + row % 7, 16 * block + row % 7 + 8);
+            }
+        }
+    }
+    let strip = code_page(rt.alloc(), &page)?;
+    assert!(rt; strip.len() > 4_000);
+    assert!(rt; strip.len() < 60_000);
+    let read = read_strip(rt.alloc(), strip.as_slice(), Fill::High, 200, 400)?;
+    assert!(rt; read.strip() == page.strip());
     Ok(())
 }
 

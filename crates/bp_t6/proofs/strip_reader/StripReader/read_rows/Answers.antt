@@ -31,7 +31,7 @@ loop-row-preserved c = record {
   so = subst (λ (ps : List ℕ). LinesSoFar (span_bits c.args.span.now) c.args.width (c.loop-row.row + 1) c.in-Ok.next c.args.out.now.items c.push_row.new.strip.items ps) (sym (ap (λ v. v.items) c.swap.ensures.y_after))
       (one_more (span_bits c.args.span.now) c.args.width c.loop-row.row c.loop-row.at c.in-Ok.next _ c.loop-row.out.items c.loop-row.self.above.items c.read_row.new.line.items c.push_row.new.strip.items c.loop-row.invariant.so
       (λ over shows. c.in-Ok.ensures.read over (subst (λ (ps : List ℕ). Shows ps c.args.width over) (sym c.deref.ensures.value) shows))
-      (λ row shows. c.in_ok-push_row.ensures row (subst (λ (ps : List ℕ). Shows ps c.args.width row) (sym c.deref-in-loop-row.ensures.value) shows)));
+      (λ row shows. c.in_ok-push_row.ensures.added row (subst (λ (ps : List ℕ). Shows ps c.args.width row) (sym c.deref-in-loop-row.ensures.value) shows)));
 }
 
 pub returns-clause-read : goal.returns-clause-read

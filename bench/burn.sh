@@ -27,7 +27,7 @@ cc -O2 -o "$scratch/side_by_side" "$here/side_by_side.c"
 
 cd "$scratch"
 "$here/pages.sh" .
-printf 'P4\n8 1\n\125' | python3 "$top/examples/plain_page.py" 300 > small.tif
+printf 'P4\n8 1\n\125' | python3 "$here/plain_page.py" 300 > small.tif
 
 # label, rounds, page, box
 compare() {

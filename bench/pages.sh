@@ -1,7 +1,7 @@
 #!/bin/sh
 # Makes the pages of the benches as plain page files in a folder: letter-size pages of 2,550 by 3,300 pixels of each
 # kind that a coder meets, and one of the largest size. Words: the folder.
-#   letter    text, as it stands in examples/
+#   letter    text, the page of examples/letter.tif
 #   form      text in a table with rules
 #   halftone  clouds as a press prints them, in clustered dots
 #   dithered  the same clouds with their error diffused
@@ -13,7 +13,6 @@
 set -eu
 [ $# -eq 1 ] || { echo "usage: pages.sh FOLDER" >&2; exit 1; }
 here=$(CDPATH='' cd -- "$(dirname -- "$0")" && pwd)
-examples=$here/../examples
 
 for tool in groff gs ppmforge pamditherbw pbmtext pnmtile python3; do
     command -v "$tool" > /dev/null ||
@@ -25,9 +24,10 @@ cd "$1"
 scratch=$(mktemp -d)
 trap 'rm -rf "$scratch"' EXIT
 
-plain_page() { pamtopnm | python3 "$examples/plain_page.py" 300; }
+plain_page() { pamtopnm | python3 "$here/plain_page.py" 300; }
 
-cp "$examples/letter.tif" letter.tif
+tifftopnm -quiet "$here/../examples/letter.tif" > "$scratch/letter.pbm"
+plain_page < "$scratch/letter.pbm" > letter.tif
 
 groff -t -Tps -P-pletter "$here/form.roff" |
     gs -q -dSAFER -dBATCH -dNOPAUSE -sDEVICE=pbmraw -r300 -g2550x3300 -dFIXEDMEDIA -sOutputFile=- - | plain_page > form.tif
@@ -45,5 +45,4 @@ plain_page < "$scratch/random.pbm" > random.tif
 echo "This page was left blank." | pbmtext -builtin fixed | pnmenlarge 4 > "$scratch/line.pbm"
 pbmmake -white 2550 3300 | pnmpaste "$scratch/line.pbm" 900 3000 | plain_page > white.tif
 
-tifftopnm -quiet letter.tif > "$scratch/letter.pbm"
 pnmtile 20000 10000 "$scratch/letter.pbm" | plain_page > large.tif

@@ -10,7 +10,6 @@ import os
 import random
 import sys
 
-sys.path.insert(0, os.path.join(os.path.dirname(os.path.abspath(__file__)), "..", "examples"))
 sys.dont_write_bytecode = True
 from plain_page import plain_page  # noqa: E402
 

@@ -1,9 +1,11 @@
 #!/bin/sh
 # `burn` beside a peer on libtiff (burn_peer.c), run in turn: wall time, processor time and peak memory of the whole
-# command, each as product over peer, once both outputs hold equal pixels and fields. First from plain to plain, for pages
-# of 8 by 1, of letter size and of 20,000 by 10,000 pixels; then from plain to Group 4, for the pages of pages.sh. Then the
-# instructions that the product takes for each pixel of the largest page: from plain to plain more than 3 would mean that
-# something goes by the pixel. Words: the forms to write, plain and g4 where none is given.
+# command, each as product over peer, once both outputs hold equal pixels and fields. From plain to plain, for pages of
+# 8 by 1, of letter size and of 20,000 by 10,000 pixels; then from plain to Group 4, from Group 4 to plain and from Group 4
+# to Group 4, for the pages of pages.sh; those in Group 4 have strips of 64 rows, as examples/letter.tif. Each time then
+# the instructions that the product takes for each pixel of the largest page: from plain to plain more than 3 would mean
+# that something goes by the pixel.
+# Words: what to do, of plain-plain, plain-g4, g4-plain and g4-g4; all four where none is given.
 # Each run writes a new file.
 # Needs rt on PATH where the program isn't built; of Debian gcc, libtiff-dev, libtiff-tools, valgrind; and what pages.sh
 # needs.
@@ -14,7 +16,7 @@ program=$top/crates/bp_cli/out/bp_cli
 
 stop() { echo "burn.sh: $1" >&2; exit 1; }
 
-for tool in cc tiffcmp valgrind; do
+for tool in cc tiffcmp tiffcp valgrind; do
     command -v "$tool" > /dev/null || stop "needs $tool (Debian: gcc, libtiff-tools, valgrind)"
 done
 
@@ -26,45 +28,46 @@ cc -O2 -o "$scratch/burn_peer" "$here/burn_peer.c" -ltiff
 cc -O2 -o "$scratch/side_by_side" "$here/side_by_side.c"
 
 cd "$scratch"
-"$here/pages.sh" .
-printf 'P4\n8 1\n\125' | python3 "$here/plain_page.py" 300 > small.tif
+mkdir plain g4
+"$here/pages.sh" plain
+printf 'P4\n8 1\n\125' | python3 "$here/plain_page.py" 300 > plain/small.tif
+for page in letter form halftone dithered random white large; do tiffcp -c g4 -r 64 "plain/$page.tif" "g4/$page.tif"; done
 
 # label, rounds, page, box
 compare() {
-    label=$1; rounds=$2; shift 2
-    "$top/tivrenan" burn "$@" product.tif "$form" > printed || stop "the product failed on $1: $(cat printed)"
-    ./burn_peer "$@" peer.tif "$form" || stop "the peer failed on $1"
+    label=$1; rounds=$2; page=$from/$3.tif; shift 3
+    "$top/tivrenan" burn "$page" "$@" product.tif "$to" > printed || stop "the product failed on $page: $(cat printed)"
+    ./burn_peer "$page" "$@" peer.tif "$to" || stop "the peer failed on $page"
     # tiffcmp ends with 0 where a field differs, and then compares no pixels: it must also print nothing
     differs=$(tiffcmp out/product.tif peer.tif 2>&1 || echo "it failed")
-    [ -z "$differs" ] || stop "the two outputs differ on $1: $differs"
+    [ -z "$differs" ] || stop "the two outputs differ on $page: $differs"
     ./side_by_side "$label" "$rounds" out/product.tif peer.tif \
-        "$program" burn "$@" product.tif "$form" -- ./burn_peer "$@" peer.tif "$form"
+        "$program" burn "$page" "$@" product.tif "$to" -- ./burn_peer "$page" "$@" peer.tif "$to"
 }
 
 paragraph='320 1755 1910 370'
 most='1003 997 17995 8001'
 corner='0 0 1 1'
 
-[ $# -gt 0 ] || set -- plain g4
+[ $# -gt 0 ] || set -- plain-plain plain-g4 g4-plain g4-g4
 # shellcheck disable=SC2086 # a box is four words
-for form in "$@"; do
-    printf '%-18s%-29s%-29s%-29s%s\n' "plain to $form" "  median wall time" "  least wall time" \
+for way in "$@"; do
+    from=${way%-*} to=${way#*-}
+    case $way in plain-plain | plain-g4 | g4-plain | g4-g4) ;; *) stop "no way from and to: $way" ;; esac
+    printf '%-18s%-29s%-29s%-29s%s\n' "$from to $to" "  median wall time" "  least wall time" \
         "  median processor time" "  peak memory"
-    case $form in
-        plain)
-            compare "8 by 1" 300 small.tif 1 0 6 1
-            compare "2,550 by 3,300" 100 letter.tif $paragraph
-            compare "20,000 by 10,000" 15 large.tif $most
-            ;;
-        *)
-            compare "letter" 60 letter.tif $paragraph
-            for page in form halftone dithered random white; do compare "$page" 30 "$page.tif" $corner; done
-            compare "20,000 by 10,000" 9 large.tif $corner
-            ;;
-    esac
-    box=$most
-    [ "$form" = plain ] || box=$corner
-    valgrind --tool=callgrind --callgrind-out-file=/dev/null "$program" burn large.tif $box product.tif "$form" \
+    if [ "$way" = plain-plain ]; then
+        box=$most
+        compare "8 by 1" 300 small 1 0 6 1
+        compare "2,550 by 3,300" 100 letter $paragraph
+        compare "20,000 by 10,000" 15 large $box
+    else
+        box=$corner
+        compare "letter" 60 letter $paragraph
+        for page in form halftone dithered random white; do compare "$page" 30 "$page" $corner; done
+        compare "20,000 by 10,000" 9 large $box
+    fi
+    valgrind --tool=callgrind --callgrind-out-file=/dev/null "$program" burn "$from/large.tif" $box product.tif "$to" \
         > valgrind.log 2>&1 || stop "valgrind failed: $(tail -n 1 valgrind.log)"
     awk '/Collected/ { printf "20,000 by 10,000: %.3f instructions a pixel\n", $NF / 200000000 }' valgrind.log
 done

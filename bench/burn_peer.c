@@ -1,5 +1,6 @@
-/* The peer of `burn IN L T W H OUT FORM` on libtiff: reads the one strip of an uncompressed bilevel page, blackens the
- * box in its packed rows by whole bytes, and writes the page as one strip again: as it is, or in Group 4. */
+/* The peer of `burn IN L T W H OUT FORM` on libtiff: reads the strips of a bilevel page whose white is 0, uncompressed or
+ * in Group 4, blackens the box in its packed rows by whole bytes, and writes the page as one strip: as it is, or in
+ * Group 4. */
 #include <stdint.h>
 #include <stdio.h>
 #include <stdlib.h>
@@ -35,7 +36,8 @@ int main(int count, char **words) {
     uint32_t left = strtoul(words[2], NULL, 10), top = strtoul(words[3], NULL, 10);
     uint32_t wide = strtoul(words[4], NULL, 10), high = strtoul(words[5], NULL, 10);
 
-    TIFF *in = TIFFOpen(words[1], "rcm"); /* one strip stays one, and is read without a map of the file, which takes least */
+    /* strips stay as they are, and the file is read without a map of it, which takes least */
+    TIFF *in = TIFFOpen(words[1], "rcm");
     need(in != NULL, "cannot open the page");
     uint32_t width = 0, height = 0;
     uint16_t bits = 0, compression = 0, photometric = 0, unit = 0;
@@ -48,18 +50,23 @@ int main(int count, char **words) {
     TIFFGetField(in, TIFFTAG_XRESOLUTION, &xres);
     TIFFGetField(in, TIFFTAG_YRESOLUTION, &yres);
     TIFFGetField(in, TIFFTAG_RESOLUTIONUNIT, &unit);
-    need(bits == 1 && compression == COMPRESSION_NONE && photometric == PHOTOMETRIC_MINISWHITE &&
-             TIFFNumberOfStrips(in) == 1, "not an uncompressed bilevel page of one strip");
+    need(bits == 1 && (compression == COMPRESSION_NONE || compression == COMPRESSION_CCITTFAX4) &&
+             photometric == PHOTOMETRIC_MINISWHITE && !TIFFIsTiled(in), "not a bilevel page in strips");
     need(wide > 0 && high > 0 && left < width && wide <= width - left && top < height && high <= height - top,
          "the box is not on the page");
 
-    tmsize_t row_bytes = TIFFScanlineSize(in), size = TIFFStripSize(in);
-    uint8_t *strip = malloc(size);
-    need(strip != NULL, "out of memory");
-    need(TIFFReadEncodedStrip(in, 0, strip, size) == size, "cannot read the strip");
+    tmsize_t row_bytes = TIFFScanlineSize(in), size = row_bytes * height, read = 0;
+    uint8_t *page = malloc(size);
+    need(page != NULL, "out of memory");
+    for (uint32_t k = 0; k < TIFFNumberOfStrips(in); k++) {
+        tmsize_t part = TIFFReadEncodedStrip(in, k, page + read, size - read);
+        need(part > 0, "cannot read a strip");
+        read += part;
+    }
+    need(read == size, "the strips are too short");
     TIFFClose(in);
 
-    for (uint32_t y = top; y < top + high; y++) blacken(strip + y * row_bytes, left, left + wide);
+    for (uint32_t y = top; y < top + high; y++) blacken(page + y * row_bytes, left, left + wide);
 
     TIFF *out = TIFFOpen(words[6], "wl");
     need(out != NULL, "cannot open the new page");
@@ -75,9 +82,9 @@ int main(int count, char **words) {
     TIFFSetField(out, TIFFTAG_XRESOLUTION, xres);
     TIFFSetField(out, TIFFTAG_YRESOLUTION, yres);
     TIFFSetField(out, TIFFTAG_RESOLUTIONUNIT, unit);
-    need(TIFFWriteEncodedStrip(out, 0, strip, size) == size, "cannot write the strip");
+    need(TIFFWriteEncodedStrip(out, 0, page, size) == size, "cannot write the strip");
     need(TIFFFlush(out), "cannot write the new page");
     TIFFClose(out);
-    free(strip);
+    free(page);
     return 0;
 }

@@ -3,23 +3,34 @@
 # proved yet. Each run must end with 0 and the line of the whole file, or with 6: that memory ran out is never told as bad
 # words, a broken rule or a fault. Ends with a status other than 0 where one doesn't. A run can end with 0 though one of
 # its allocations was refused, where it does without; so the script ends after four runs in a row that end with 0.
-# Words: the form to write, `plain` where none is given. Needs rt and python3; each run takes about 20 seconds.
+# Words: the form to read and the one to write, plain or g4; `plain` where none is given.
+# Needs rt; each run takes about 20 seconds.
 set -eu
 cd "$(dirname "$0")/../crates/bp_cli"
-form=${1:-plain}
-case $form in
+from=${1:-plain} to=${2:-plain}
+case $to in
     plain) length=187 ;;
     g4) length=204 ;;
     *) echo "allocations.sh: the form is plain or g4" >&2; exit 1 ;;
 esac
 
+# a page of 8 by 1 pixels: the white one of the stored run, or a black one in Group 4
+black_in_g4() {
+    head -c 54 data/a.tif && printf '\4' && tail -c +56 data/a.tif | head -c 71
+    printf '\6' && tail -c +128 data/a.tif | head -c 59 && printf '\046\242\200\010\000\200'
+}
+
 trap 'rm -f a.tif' EXIT
-printf 'P4\n8 1\n\125' | python3 ../../examples/plain_page.py 300 > a.tif
+case $from in
+    plain) cp data/a.tif a.tif ;;
+    g4) black_in_g4 > a.tif ;;
+    *) echo "allocations.sh: the form is plain or g4" >&2; exit 1 ;;
+esac
 
 at=1
 ended_well=0
 while [ "$ended_well" -lt 4 ]; do
-    said=$(rt try --fail-alloc "$at" -- burn a.tif 0 0 8 1 b.tif "$form" 2>&1) || :
+    said=$(rt try --fail-alloc "$at" -- burn a.tif 0 0 8 1 b.tif "$to" 2>&1) || :
     status=$(printf '%s\n' "$said" | sed -n 's/^run=ended status=\([0-9]*\) .*/\1/p')
     case $status in
         6)

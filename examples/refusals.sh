@@ -2,7 +2,8 @@
 # Runs the program where something is wrong, and compares for each case the status, what is printed and all that then
 # stands in the folder with what is expected. Ends with status 1 where one differs. What can be seen through the launcher
 # is tried through it too: it passes all of it on.
-# Needs rt on PATH where the program isn't built. With strace (Debian: strace) also tries a disk that fails.
+# Needs rt on PATH where the program isn't built; netpbm (Debian's netpbm) and python3. With strace (Debian: strace) also
+# tries a disk that fails.
 set -eu
 cd "$(dirname "$0")"
 top=$(cd .. && pwd)
@@ -11,22 +12,62 @@ built=$top/crates/bp_cli/out/bp_cli
 scratch=$(mktemp -d)
 trap 'rm -rf "$scratch"' EXIT
 
+for tool in tifftopnm python3; do
+    command -v "$tool" > /dev/null || { echo "refusals.sh: needs $tool (Debian: netpbm, python3)" >&2; exit 1; }
+done
+
 # the launcher builds the program; these words are no command line
 "$top/tivrenan" build > /dev/null 2>&1 || [ $? -eq 1 ] || { echo "refusals.sh: the program can't be built" >&2; exit 1; }
 
-# a page of 8 by 1 pixels, all white; all of it burned; and the letter page with its first pixel burned
-cp "$top/crates/bp_cli/data/a.tif" "$scratch/white.tif"
-{ head -c 186 "$scratch/white.tif"; printf '\377'; } > "$scratch/black.tif"
-cp letter.tif "$scratch/letter.tif"
-{ head -c 186 letter.tif; printf '\200'; tail -c +188 letter.tif; } > "$scratch/pixel.tif"
+# What the folder holds: a page of 8 by 1 pixels, all white, also in a folder; the letter page in Group 4, and plain.
+# Beside it: the white page with all of it burned, and the letter page with its first pixel burned.
+mkdir -p "$scratch/files/a"
+cp "$top/crates/bp_cli/data/a.tif" "$scratch/files/white.tif"
+cp "$top/crates/bp_cli/data/a.tif" "$scratch/files/a/b.tif"
+cp letter.tif "$scratch/files/letter.tif"
+tifftopnm -quiet letter.tif | python3 "$top/bench/plain_page.py" 300 > "$scratch/files/plain.tif"
 cd "$scratch"
+{ head -c 186 files/white.tif; printf '\377'; } > black.tif
+{ head -c 186 files/plain.tif; printf '\200'; tail -c +188 files/plain.tif; } > pixel.tif
+
+# name, offset, byte in octal: the white page with that byte there
+damaged() { { head -c "$2" files/white.tif; printf "\\$3"; tail -c +$(($2 + 2)) files/white.tif; } > "files/$1.tif"; }
+
+# name, how many bytes, bytes as printf takes them: the white page in Group 4, with that strip
+t6() {
+    {
+        head -c 54 files/white.tif && printf '\4' && tail -c +56 files/white.tif | head -c 71
+        printf "\\$2" && tail -c +128 files/white.tif | head -c 59 && printf "$3"
+    } > "files/$1.tif"
+}
+
+printf x > files/x.tif
+: > files/empty.tif
+damaged many_entries 8 377
+damaged other_type 12 5
+damaged no_width 18 0
+damaged grey 42 10
+damaged lzw 54 5
+damaged colour 66 2
+damaged bit_order 78 3
+damaged no_strips 82 20
+damaged strip_behind 90 273
+damaged no_rows 114 0
+damaged short_strip 126 0
+damaged next_page 166 10
+t6 t6_white 1 '\200'
+t6 t6_nothing 0 ''
+t6 t6_end 3 '\000\020\001'
+t6 t6_extension 1 '\002'
+t6 t6_bad_code 2 '\000\000'
+t6 t6_past_the_edge 1 '\140'
 
 # what the folder holds at first
 furnish() {
     rm -rf "$1"
     mkdir -p "$1/out/folder"
-    cp white.tif letter.tif "$1"
-    head -c 10000 letter.tif > "$1/out/old.tif"
+    cp -r files/. "$1"
+    head -c 10000 files/letter.tif > "$1/out/old.tif"
 }
 
 # the ways to run the program; each writes what is printed to the file `line`
@@ -96,6 +137,45 @@ for program in "$built" "$top/tivrenan"; do
     check "a box one column too wide" plainly 2 'refused 13 BoxOutside 0 0 0' $same burn white.tif 0 0 9 1 b.tif plain
     check "a box one row too low" plainly 2 'refused 13 BoxOutside 0 0 0' $same burn white.tif 0 1 8 1 old.tif plain
 
+    # a path that is refused, or named in another way
+    for path in ../a.tif a/../white.tif a//b.tif /white.tif "$scratch/room/white.tif" 'a\..\white.tif' white.tif/ . .. C:white.tif; do
+        check "IN is $path" plainly 2 'refused 63 PathRefused 0 0 0' $same burn "$path" 0 0 8 1 b.tif plain
+        check "OUT is $path" plainly 2 'refused 63 PathRefused 0 0 0' $same burn white.tif 0 0 8 1 "$path" plain
+    done
+    check "a path refused and no such file" plainly 2 'refused 63 PathRefused 0 0 0' $same burn none.tif 0 0 8 1 ../b.tif plain
+    for path in a/b.tif a/./b.tif ./a/b.tif 'a\b.tif' '.\a\.\b.tif' ./white.tif; do
+        check "IN is $path" plainly 0 'burned 187' "$burned" burn "$path" 0 0 8 1 b.tif plain
+    done
+    for path in folder/b.tif folder/./b.tif ./folder/b.tif 'folder\b.tif' '.\folder\b.tif'; do
+        check "OUT is $path" plainly 0 'burned 187' 'cp ../black.tif out/folder/b.tif' burn white.tif 0 0 8 1 "$path" plain
+    done
+
+    # another file than a page that is read; the box has no width, which is looked at later
+    while read -r file rule; do
+        check "$file" plainly 2 "refused $rule" $same burn "$file.tif" 0 0 0 1 b.tif plain
+    done << 'END'
+x 80 TiffHead 0 0 0
+empty 80 TiffHead 0 0 0
+many_entries 81 TiffBounds 0 0 0
+strip_behind 81 TiffBounds 0 273 0
+no_strips 82 TiffMissing 0 273 0
+other_type 83 TiffType 0 256 0
+lzw 84 TiffCompression 0 5 0
+grey 85 TiffMeaning 0 258 0
+colour 85 TiffMeaning 0 262 0
+bit_order 85 TiffMeaning 0 266 0
+no_rows 85 TiffMeaning 0 278 0
+next_page 86 TiffManyPages 0 0 0
+short_strip 87 TiffStrips 0 0 0
+no_width 62 PageLimit 0 0 1
+t6_nothing 70 T6ShortData 0 0 0
+t6_end 71 T6EarlyEnd 0 0 0
+t6_extension 72 T6Extension 0 0 0
+t6_bad_code 73 T6BadCode 0 0 0
+t6_past_the_edge 74 T6BadPlace 0 0 0
+END
+    check "a page in Group 4" plainly 0 'burned 187' "$burned" burn t6_white.tif 0 0 8 1 b.tif plain
+
     # a source or a folder that fails
     check "a folder at IN" plainly 3 'source fault' $same burn out 0 0 8 1 old.tif plain
     check "a folder at OUT" plainly 4 'folder fault' $same burn white.tif 0 0 8 1 folder plain
@@ -138,15 +218,15 @@ else
     echo "refusals.sh: without strace no failing disk is tried" >&2
 fi
 
-# limit: the letter page under so many kilobytes of memory. The program does all, or says that memory ran out, or the
+# limit, IN: the letter page under so many kilobytes of memory. The program does all, or says that memory ran out, or the
 # system can't start it; OUT has all of the file, or a beginning of it, or nothing.
 check_memory() {
-    name="$1 kB of memory"
+    name="$1 kB of memory, $2"
     checks=$((checks + 1))
     furnish room
     ended=0
     # shellcheck disable=SC3045 # ulimit -v is none of POSIX, but dash, bash, ksh and busybox have it
-    (cd room && ulimit -v "$1" && exec "$program" burn letter.tif 0 0 1 1 b.tif plain > ../line) 2> errors || ended=$?
+    (cd room && ulimit -v "$1" && exec "$program" burn "$2" 0 0 1 1 b.tif plain > ../line) 2> errors || ended=$?
     printed=$(cat line)
     : >> room/out/b.tif
     size=$(($(wc -c < room/out/b.tif)))
@@ -163,13 +243,15 @@ check_memory() {
     fi
 }
 
-whole=0 lacking=0 limit=1024
-while [ "$whole" -lt 8 ] && [ "$limit" -lt 65536 ]; do
-    check_memory "$limit"
-    limit=$((limit + 16))
+for page in plain.tif letter.tif; do
+    whole=0 lacking=0 limit=1024
+    while [ "$whole" -lt 8 ] && [ "$limit" -lt 65536 ]; do
+        check_memory "$limit" "$page"
+        limit=$((limit + 16))
+    done
+    name="a row of memory limits, $page"
+    if [ "$whole" -eq 0 ] || [ "$lacking" -eq 0 ]; then differs "no limit is enough, or each is"; fi
 done
-name="a row of memory limits"
-if [ "$whole" -eq 0 ] || [ "$lacking" -eq 0 ]; then differs "no limit is enough, or each is"; fi
 
 echo "$checks cases, $failed not as expected"
 [ "$failed" -eq 0 ]

@@ -24,10 +24,10 @@ use Rattle.bp_cli.specs.Commands.{CommandLine, Matter, burn, AlikeFor, ComesTo}
 -- ---- one outcome
 
 abbrev ComesWith : BurnLine → Option BurnPaths → FileMap → Outcome → Type 0
-ComesWith b paths files o = elim paths [ | None ↦ o ≡ refused path_refused | Some ps ↦ BurnsAt b ps files o ]
+ComesWith b paths files o = elim paths [ None ↦ o ≡ refused path_refused | Some ps ↦ BurnsAt b ps files o ]
 
 abbrev FileAnswersIf : Bool → List ℕ → Result Image Rule → Type 0
-FileAnswersIf long bytes answer = elim long [ | true ↦ answer ≡ Err (bare_rule kinds.FileTooLong) | false ↦ TiffAnswers bytes answer ]
+FileAnswersIf long bytes answer = elim long [ true ↦ answer ≡ Err (bare_rule kinds.FileTooLong) | false ↦ TiffAnswers bytes answer ]
 
 file_one : OneAnswer → (long : Bool) (bytes : List ℕ) (a b : Result Image Rule) → FileAnswersIf long bytes a → FileAnswersIf long bytes b → a ≡ b
 file_one one true bytes a b x y = x ∙ sym y
@@ -89,7 +89,7 @@ pages_alike area p q agree =
 -- a file that is short enough answers with its page
 page_found : (bytes : List ℕ) (p : Image) → length bytes ≤ FILE_LIMIT → TiffReads bytes p → FileAnswers bytes (Ok p)
 page_found bytes p short reads =
-    let P : Bool → Type 0 = λ long. elim long [ | true ↦ Ok p ≡ Err (bare_rule kinds.FileTooLong) | false ↦ TiffAnswers bytes (Ok p) ] in
+    let P : Bool → Type 0 = λ long. elim long [ true ↦ Ok p ≡ Err (bare_rule kinds.FileTooLong) | false ↦ TiffAnswers bytes (Ok p) ] in
     subst P (sym (le-ltb FILE_LIMIT (length bytes) short)) reads
 
 path_found : (files : FileMap) (from : List ℕ) (text : List ℕ) (p : Image) → path_in text ≡ Some from → HasPage files text p → PathAnswers (map.get files from) (Ok p)

@@ -59,7 +59,7 @@ get-one_file path (Some bytes) =
 -- what comes of an answer at IN, where the line names its paths
 comes_of : (b : BurnLine) (paths : BurnPaths) (files : FileMap) (outcome : Outcome) → paths_of b ≡ Some paths → BurnsAt b paths files outcome → BurnComes b files outcome
 comes_of b paths files outcome named at =
-    let P : Option BurnPaths → Type 0 = λ o. elim o [ | None ↦ outcome ≡ refused path_refused | Some ps ↦ BurnsAt b ps files outcome ] in
+    let P : Option BurnPaths → Type 0 = λ o. elim o [ None ↦ outcome ≡ refused path_refused | Some ps ↦ BurnsAt b ps files outcome ] in
     subst P (sym named) at
 
 outcome_at : (b : BurnLine) (paths : BurnPaths) (before : World) (found : Option (List ℕ)) (answer : Result Image Rule) (told : Option FileMap) → paths_of b ≡ Some paths → PathAnswers found answer → before.source.files ≡ told → IfSome told (λ files. map.get files paths.from ≡ found) → IsOutcome (burn b) before (burn_gives b.form paths.to (burn_read b.area answer))
@@ -87,7 +87,7 @@ outcome_is b paths before found answer outcome named answers there is =
 
 no_path_over : (b : BurnLine) (files : FileMap) → paths_of b ≡ None → BurnComes b files (refused path_refused)
 no_path_over b files none =
-    let P : Option BurnPaths → Type 0 = λ o. elim o [ | None ↦ refused path_refused ≡ refused path_refused | Some ps ↦ BurnsAt b ps files (refused path_refused) ] in
+    let P : Option BurnPaths → Type 0 = λ o. elim o [ None ↦ refused path_refused ≡ refused path_refused | Some ps ↦ BurnsAt b ps files (refused path_refused) ] in
     subst P (sym none) refl
 
 no_path_outcome : (b : BurnLine) (before : World) (told : Option FileMap) → paths_of b ≡ None → before.source.files ≡ told → IsOutcome (burn b) before (refused path_refused)
@@ -155,7 +155,7 @@ abbrev too_long_rule : Rule
 too_long_rule = bare_rule kinds.FileTooLong
 
 abbrev FileAnswersIf : Bool → List ℕ → Result Image Rule → Type 0
-FileAnswersIf long bytes answer = elim long [ | true ↦ answer ≡ Err too_long_rule | false ↦ TiffAnswers bytes answer ]
+FileAnswersIf long bytes answer = elim long [ true ↦ answer ≡ Err too_long_rule | false ↦ TiffAnswers bytes answer ]
 
 short_answers : (bytes : List ℕ) (answer : Result Image Rule) → length bytes ≤ FILE_LIMIT → TiffAnswers bytes answer → FileAnswers bytes answer
 short_answers bytes answer short is =

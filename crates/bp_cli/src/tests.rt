@@ -216,7 +216,11 @@ fn rows_that_were_black_are_burned(rt: HostRuntime) -> Result<(), Fail> {
         let [file] = seen.folder.files() else {
             return Err(Fail::from("not one file"));
         };
-        assert_eq!(rt; file.bytes.as_slice(), black_rows(alloc)?.as_slice(), "{line}");
+        assert_eq!(rt;
+            file.bytes.as_slice(),
+            black_rows(alloc)?.as_slice(),
+            "{line}"
+        );
     }
     Ok(())
 }

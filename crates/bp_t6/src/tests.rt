@@ -115,17 +115,23 @@ fn small_pages_have_these_strips(rt: HostRuntime) -> Result<(), Fail> {
     Ok(())
 }
 
+// Blocks of eight pixels in a row, a little further right from row to row.
+fn blacken_columns(page: &mut Page, row: u32) {
+    for block in 0..12u32 {
+        let from = 16 * block + row % 7;
+        if row < page.height() && from + 8 <= page.width() {
+            page.blacken(row, from, from + 8);
+        }
+    }
+}
+
 // Columns of eight pixels in 400 rows: a strip of some kilobytes, and its page again.
 #[test]
 fn a_strip_of_some_kilobytes_is_read(rt: HostRuntime) -> Result<(), Fail> {
     let res = Res { num: 200, den: 1 };
     let mut page = Page::white(rt.alloc(), 200, 400, res, res, Unit::Inch)?;
-    if page.width() == 200 && page.height() == 400 {
-        for row in 0..400u32 {
-            for block in 0..12u32 {
-                page.blacken(row, 16 * block + row % 7, 16 * block + row % 7 + 8);
-            }
-        }
+    for row in 0..400u32 {
+        blacken_columns(&mut page, row);
     }
     let strip = code_page(rt.alloc(), &page)?;
     assert!(rt; strip.len() > 4_000);

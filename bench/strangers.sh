@@ -4,7 +4,8 @@
 # bytes, both orders of bits, both values of white, one strip and strips of 1, 7 and 64 rows, plain and Group 4. Each is
 # burned to plain and to Group 4, and both results are read by a public reader, netpbm's tifftopnm over libtiff: every
 # pixel of the box must be black, every other one as the same reader finds it in the stranger's file, and the resolutions
-# those that libtiff's tiffinfo finds there, 200 to the inch where there are none.
+# those that libtiff's tiffinfo finds there, 200 to the inch where there are none. And all forms of one page with the same
+# resolutions must give the same file.
 # Then some hostile files, each with the line that is due, the run time and the peak memory.
 # Ends with status 1 where something is not as expected.
 # Needs rt on PATH where the program isn't built; of Debian libtiff-tools, netpbm, imagemagick, groff, ghostscript, time
@@ -61,6 +62,10 @@ check() {
             differs "to $form: other pixels"
         elif [ "$(resolution out/page.tif)" != "$(resolution page.tif)" ]; then
             differs "to $form: other resolutions: $(resolution out/page.tif), expected $(resolution page.tif)"
+        elif [ "$pixels" != - ]; then
+            first=first/$pixels.$form.$(resolution page.tif | tr -d ' /')
+            [ -e "$first" ] || cp out/page.tif "$first"
+            cmp -s out/page.tif "$first" || differs "to $form: another file than of another form of the page"
         fi
         rm -f out/page.tif
     done
@@ -153,7 +158,7 @@ by_hand() {
     done < names
 }
 
-mkdir out
+mkdir out first
 tifftopnm -quiet "$here/../examples/letter.tif" | pamcut -left 340 -top 1770 -width 611 -height 150 | pamtopnm > letter.pbm
 groff -t -Tps -P-pletter "$here/form.roff" |
     gs -q -dSAFER -dBATCH -dNOPAUSE -sDEVICE=pbmraw -r100 -g850x1100 -dFIXEDMEDIA -sOutputFile=- - |
@@ -175,7 +180,7 @@ attacked() {
     hostile=$((hostile + 1))
     printed=$(/usr/bin/time -o measured -f '%e s, %M kB' "$program" burn hostile.tif 0 0 1 1 hostile.tif g4 || :)
     [ "$printed" = "$2" ] || differs "printed '$printed', expected '$2'"
-    printf '%-72s %-34s %9d bytes, %s\n' "$name" "$printed" "$(wc -c < hostile.tif)" "$(tail -n 1 measured)"
+    printf '%-69s  %-44s %6d bytes, %s\n' "$name" "$printed" "$(wc -c < hostile.tif)" "$(tail -n 1 measured)"
 }
 
 "$here/hostile_files.py" . > names

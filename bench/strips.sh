@@ -1,7 +1,8 @@
 #!/bin/sh
 # Compares the strips of `burn` with those of a peer on libtiff (burn_peer.c), byte for byte: for the pages of pages.sh,
 # and for a table of small pages (small_pages.py) of each width about 1 to 70, 2,560 and 5,120 pixels. Both burn the last
-# pixel of each page. Ends with status 1 where a strip differs.
+# pixel of each page; then `burn` reads the peer's file, burns that pixel again, and must write the same strip.
+# Ends with status 1 where a strip differs.
 # Words: the form, g4 where none is given; then a command to try in place of `burn`, which takes the words of `burn` and
 # writes the page below the folder out.
 # Needs rt on PATH where the program isn't built; of Debian gcc, libtiff-dev; and what pages.sh needs.
@@ -39,8 +40,10 @@ compare() {
     while read -r page left top; do
         "$burn" "$@" "$page" "$left" "$top" 1 1 "$page" "$form" > printed || stop "$burn failed on $page: $(cat printed)"
         "$scratch/burn_peer" "$page" "$left" "$top" 1 1 "peer/$page" "$form" || stop "the peer failed on $page"
+        "$burn" "$@" "peer/$page" "$left" "$top" 1 1 "again/$page" "$form" > printed ||
+            stop "$burn failed on the peer's $page: $(cat printed)"
     done < "$list"
-    "$scratch/strips" out peer < "$list" || exit 1
+    for folder in out out/again; do "$scratch/strips" "$folder" peer < "$list" || exit 1; done
 }
 
 burn=$1

@@ -31,13 +31,13 @@ cd "$scratch"
 { head -c 186 files/plain.tif; printf '\200'; tail -c +188 files/plain.tif; } > pixel.tif
 
 # name, offset, byte in octal: the white page with that byte there
-damaged() { { head -c "$2" files/white.tif; printf "\\$3"; tail -c +$(($2 + 2)) files/white.tif; } > "files/$1.tif"; }
+damaged() { { head -c "$2" files/white.tif; printf '%b' "\\0$3"; tail -c +$(($2 + 2)) files/white.tif; } > "files/$1.tif"; }
 
-# name, how many bytes, bytes as printf takes them: the white page in Group 4, with that strip
+# name, how many bytes, bytes as printf's %b takes them: the white page in Group 4, with that strip
 t6() {
     {
         head -c 54 files/white.tif && printf '\4' && tail -c +56 files/white.tif | head -c 71
-        printf "\\$2" && tail -c +128 files/white.tif | head -c 59 && printf "$3"
+        printf '%b' "\\0$2" && tail -c +128 files/white.tif | head -c 59 && printf '%b' "$3"
     } > "files/$1.tif"
 }
 
@@ -55,12 +55,12 @@ damaged strip_behind 90 273
 damaged no_rows 114 0
 damaged short_strip 126 0
 damaged next_page 166 10
-t6 t6_white 1 '\200'
+t6 t6_white 1 '\0200'
 t6 t6_nothing 0 ''
-t6 t6_end 3 '\000\020\001'
-t6 t6_extension 1 '\002'
-t6 t6_bad_code 2 '\000\000'
-t6 t6_past_the_edge 1 '\140'
+t6 t6_end 3 '\0000\0020\0001'
+t6 t6_extension 1 '\0002'
+t6 t6_bad_code 2 '\0000\0000'
+t6 t6_past_the_edge 1 '\0140'
 
 # what the folder holds at first
 furnish() {

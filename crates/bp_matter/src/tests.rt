@@ -223,6 +223,53 @@ fn a_body_cut_short_or_too_long_is_refused(rt: HostRuntime) -> Result<(), Fail> 
     Ok(())
 }
 
+// A byte by which a body is none of its form: the place of the row, that of the byte, and the byte.
+const SPOILED: [(usize, usize, u8); 17] = [
+    (0, 0, 0), // the version
+    (0, 1, 5), // a role
+    (0, 37, 255), // the length of a name
+    (0, 38, 255), // a text that isn't UTF-8
+    (3, 21, 255), // the count of values
+    (4, 25, 0), // a unit
+    (4, 25, 4), // another one
+    (4, 29, 0x81), // a strip that is read, and not written so
+    (7, 1, 0), // a call that is none
+    (7, 1, 2), // confirmed by nobody
+    (7, 1, 3), // a state
+    (7, 6, 1), // not confirmed, by somebody
+    (7, 10, 2), // a flag
+    (7, 11, 4), // a treatment
+    (8, 21, 4), // a ground
+    (12, 34, 255), // the count of items
+    (12, 52, 2), // the flag of an entry
+];
+
+// The matter with another byte in the body of the row at this place.
+fn spoil(alloc: Global, at: usize, place: usize, byte: u8) -> Result<Option<Refusal>, OutOfMemory> {
+    let mut rows = matter(alloc)?;
+    if let Some(row) = rows.get_mut(at) {
+        let mut body = Vec::new(alloc);
+        body.extend_from_slice(row.body.as_slice())?;
+        if let Some(old) = body.get_mut(place) {
+            *old = byte;
+        }
+        row.body = Bytes::from_vec(body);
+    }
+    Ok(refusal(alloc, rows))
+}
+
+#[test]
+fn a_byte_out_of_range_is_refused(rt: HostRuntime) -> Result<(), Fail> {
+    let alloc = rt.alloc();
+    let rows = matter(alloc)?;
+    for (at, place, byte) in SPOILED {
+        let expected = rows.get(at).map(|row| bad(row));
+        assert!(rt; expected.is_some());
+        assert_eq!(rt; spoil(alloc, at, place, byte)?, expected);
+    }
+    Ok(())
+}
+
 #[test]
 fn two_bad_rows_name_the_least_key(rt: HostRuntime) -> Result<(), Fail> {
     let alloc = rt.alloc();

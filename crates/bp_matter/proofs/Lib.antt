@@ -7,5 +7,6 @@ pub mod FormLemmas
 pub mod ImageLemmas
 pub mod MarkLemmas
 pub mod NumberedLemmas
+pub mod OrderLemmas
 pub mod RowLemmas
 pub mod RunLemmas

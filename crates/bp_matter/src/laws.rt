@@ -1,5 +1,6 @@
 //! The laws of kept rows. The functions do nothing: the contract of each is the law.
-ghost use Rattle.std.specs.Prelude.{◌≡◌, ◌<◌, ◌^◌, ℕ, slice_index};
+ghost use Rattle.std.specs.Prelude.{◌≡◌, ◌<◌, ◌^◌, IsTrue, ℕ, slice_index};
+ghost use Rattle.bp_core.specs.Sorted.{ascends, row_key};
 ghost use Rattle.bp_core.specs.declared.kept.Row.{Row};
 ghost use Rattle.bp_matter.specs.Forms.{FormsOf};
 ghost use Rattle.bp_matter.specs.KeptRows.{rows_of};
@@ -14,6 +15,11 @@ pub fn rows_law()
 {
     strip_law();
 }
+
+/// The kept rows of a valid matter stand in ascending order of key, none twice.
+pub fn order_law()
+    ensures { (m : Matter) → IsValid m → IsTrue (ascends row_key 0 (rows_of m)) }
+{}
 
 /// What it means that the body of a kept row is of its form: of each kind, that it is the body of some row.
 pub fn form_law()

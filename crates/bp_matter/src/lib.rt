@@ -1,9 +1,10 @@
 //! The matter: its tables, always valid, and the rows that keep them.
 //!
 //! `read_tables` gives the tables that rows are kept for, or the rule KeptRowBad; `Tables::rows` gives
-//! the rows again; `laws` says that equal rows are of equal tables. Their contracts cite `IsValid` of
-//! specs/Valid.antt, what holds of every matter, and `rows_of` of specs/KeptRows.antt. The look-ups of
-//! `Tables` find rows. `Call`, `Reply` and `Batch` are what crosses between this crate and those above.
+//! the rows again, in ascending order; `laws` says that equal rows are of equal tables. Their contracts
+//! cite `IsValid` of specs/Valid.antt, what holds of every matter, and `rows_of` of specs/KeptRows.antt.
+//! The look-ups of `Tables` find rows. `Call`, `Reply` and `Batch` are what crosses between this crate
+//! and those above.
 #![tactic(auto)]
 
 mod batches;

@@ -1,14 +1,15 @@
 // The tables of a matter, always valid.
-ghost use Rattle.std.specs.Prelude.{◌≡◌, ◌≤◌, ◌<◌, length, IfOk};
+ghost use Rattle.std.specs.Prelude.{◌≡◌, ◌≤◌, ◌<◌, length, IfOk, IsTrue};
 ghost use Rattle.std.specs.List.{find};
 ghost use Rattle.std.specs.Option.{option_copied};
 ghost use Rattle.std.specs.Str.{bytes_eq};
-ghost use Rattle.bp_core.specs.Sorted.{find_key};
+ghost use Rattle.bp_core.specs.Sorted.{ascends, find_key, row_key};
 ghost use Rattle.bp_matter.specs.Matter.{call_key, entry_key};
 ghost use Rattle.bp_matter.specs.KeptRows.{rows_of};
 ghost use Rattle.bp_matter.specs.Valid.{IsValid};
 
 use crate::kinds::add_four;
+use crate::laws::order_law;
 use crate::rows::{
     BatchRow, CallRow, DocBox, DocEntry, DocHeld, DocRow, FieldRow, PageRow, PageWords, PrefixRow,
     ProductionRow, StaffRow,
@@ -88,10 +89,13 @@ impl Model for Tables {
 }
 
 impl Tables {
-    /// The kept rows, in ascending order of key.
+    /// The kept rows, in ascending order of key, none twice.
     pub fn rows(&self, alloc: Global) -> Result<RowList, OutOfMemory>
-        ensures { IfOk result (λ rows. rows ≡ rows_of self.now.matter) }
+        ensures rows { IfOk result (λ rows. rows ≡ rows_of self.now.matter) }
+        ensures ascending { IfOk result (λ rows. IsTrue (ascends row_key 0 rows)) }
     {
+        self.know_valid();
+        order_law();
         let mut rows = Vec::new(alloc);
         add_four(
             alloc,

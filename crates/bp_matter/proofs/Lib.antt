@@ -10,3 +10,4 @@ pub mod NumberedLemmas
 pub mod OrderLemmas
 pub mod RowLemmas
 pub mod RunLemmas
+mod ValidExamples

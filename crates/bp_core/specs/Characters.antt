@@ -1,4 +1,5 @@
--- Characters by name, as their Unicode numbers. Those below 80 hex are one byte in UTF-8 (RFC 3629, section 3).
+-- Characters by name, as their Unicode numbers. Those below 80 hex are one byte in UTF-8 (RFC 3629,
+-- section 3).
 use Rattle.std.specs.Prelude.{ℕ, List, [], ◌∷◌}
 
 abbrev pub newline : ℕ
@@ -49,3 +50,14 @@ low_line = 95
 -- the end of a line in the files that are written
 abbrev pub line_end : List ℕ
 line_end = carriage_return ∷ newline ∷ []
+
+-- the three characters of a DAT file (Concordance): the quote, what stands between two values, and
+-- the sign for a newline
+abbrev pub quote : ℕ
+quote = 0xFE
+
+abbrev pub separator : ℕ
+separator = 0x14
+
+abbrev pub newline_sign : ℕ
+newline_sign = 0xAE

@@ -5,21 +5,10 @@ use Rattle.std.specs.Char.{is_ascii}
 use Rattle.std.specs.Str.{chars, is_utf8}
 use Rattle.bp_core.specs.declared.rules.Rule.{Rule}
 use Rattle.bp_core.specs.declared.rules.RuleKind.TheVariants.{DatShape, DatEncoding}
-use Rattle.bp_core.specs.Characters.{newline, carriage_return, line_end}
+use Rattle.bp_core.specs.Characters.{newline, carriage_return, line_end, newline_sign, quote, separator}
 use Rattle.bp_load.specs.Table.{Table}
 use Rattle.bp_core.specs.Rules.{rule_at_line}
 use Rattle.bp_load.specs.Lines.{without_mark, filled_lines, each_line}
-
--- the three characters of the format: the quote, what stands between two values, and the sign for
--- a newline
-abbrev pub quote : ℕ
-quote = 0xFE
-
-abbrev pub separator : ℕ
-separator = 0x14
-
-abbrev pub newline_sign : ℕ
-newline_sign = 0xAE
 
 -- a quote stands at both ends
 abbrev pub is_quoted : List ℕ → Bool

@@ -2,20 +2,8 @@
 use Rattle.std.specs.Prelude.{ℕ, Bool, List, [], ◌∷◌, length, nat_le, ◌==◌, ◌&&◌, ◌||◌, not, encode_utf8_all, codes}
 use Rattle.std.specs.List.{list_all, list_any}
 use Rattle.std.specs.Str.{bytes_eq}
-use Rattle.bp_core.specs.Characters.{newline, carriage_return, space, comma, hyphen, digit_zero, digit_nine, letter_a, letter_z, low_line}
+use Rattle.bp_core.specs.Characters.{newline, carriage_return, space, comma, hyphen, digit_zero, digit_nine, letter_a, letter_z, low_line, newline_sign, quote, separator}
 use Rattle.bp_matter.specs.declared.limits.TheConstants.{MAX_DESIGNATION, MAX_ID}
-
--- what stands before and after a value of a DAT file, U+00FE
-abbrev pub quote : ℕ
-quote = 0xFE
-
--- what stands between two values of a DAT file, U+0014
-abbrev pub separator : ℕ
-separator = 0x14
-
--- what stands for a newline in a value of a DAT file, U+00AE
-abbrev pub newline_sign : ℕ
-newline_sign = 0xAE
 
 -- neither a control character below 20 hex, nor 7F
 abbrev pub is_plain_character : ℕ → Bool

@@ -30,28 +30,28 @@ abbrev pub staff_with : List ℕ → Matter → Option StaffRow
 staff_with digest m = find (λ row. bytes_eq row.digest digest) m.staff
 
 -- the field of a name
-abbrev pub field_named : List ℕ → Matter → Option FieldRow
-field_named name m = find (λ row. bytes_eq row.name name) m.fields
+abbrev pub field_with : List ℕ → Matter → Option FieldRow
+field_with name m = find (λ row. bytes_eq row.name name) m.fields
 
 -- the prefix of a text
 abbrev pub prefix_with : List ℕ → Matter → Option PrefixRow
 prefix_with text m = find (λ row. bytes_eq row.prefix.text text) m.prefixes
 
 -- a document, its call, its log entry; a page of it, and the words of that page
-abbrev pub doc_of : ℕ → Matter → Option DocRow
-doc_of doc m = find_key doc_key doc m.docs
+abbrev pub doc_with : ℕ → Matter → Option DocRow
+doc_with doc m = find_key doc_key doc m.docs
 
-abbrev pub call_of : ℕ → Matter → Option CallRow
-call_of doc m = find_key call_key doc m.calls
+abbrev pub call_with : ℕ → Matter → Option CallRow
+call_with doc m = find_key call_key doc m.calls
 
-abbrev pub entry_of : ℕ → Matter → Option DocEntry
-entry_of doc m = find_key entry_key doc m.entries
+abbrev pub entry_with : ℕ → Matter → Option DocEntry
+entry_with doc m = find_key entry_key doc m.entries
 
-abbrev pub page_of : ℕ → ℕ → Matter → Option PageRow
-page_of doc page m = find_key page_key (two_keys doc page) m.pages
+abbrev pub page_with : ℕ → ℕ → Matter → Option PageRow
+page_with doc page m = find_key page_key (two_keys doc page) m.pages
 
-abbrev pub words_of : ℕ → ℕ → Matter → Option PageWords
-words_of doc page m = find_key words_key (two_keys doc page) m.words
+abbrev pub words_with : ℕ → ℕ → Matter → Option PageWords
+words_with doc page m = find_key words_key (two_keys doc page) m.words
 
 -- the digest of staff 1, who is a lead
 abbrev pub lead_digest_in : List StaffRow → List ℕ
@@ -65,4 +65,4 @@ called_state (Some row) = row.state
 
 -- how far a document has come, if there is one of that number
 abbrev pub state_of_doc : ℕ → Matter → Option State
-state_of_doc doc m = of_row (λ row. called_state (call_of doc m)) (doc_of doc m)
+state_of_doc doc m = of_row (λ row. called_state (call_with doc m)) (doc_with doc m)

@@ -4,7 +4,7 @@ use Rattle.std.specs.Prelude.{Bool, IsTrue, List, ℕ, ◌&&◌}
 use Rattle.bp_core.specs.Sorted.{ascends}
 use Rattle.bp_matter.specs.Written.{box_written, held_written}
 use Rattle.bp_matter.specs.Matter.{box_key, held_key}
-use Rattle.bp_matter.specs.ValidPages.{inside_page, page_at}
+use Rattle.bp_matter.specs.ValidPages.{inside_page, page_in}
 use Rattle.bp_matter.specs.ValidRows.{names}
 use Rattle.bp_matter.specs.declared.rows.BoxRow.{BoxRow}
 use Rattle.bp_matter.specs.declared.rows.DocBox.{DocBox}
@@ -15,7 +15,7 @@ use Rattle.bp_matter.specs.declared.limits.TheConstants.{MAX_BOX}
 -- a box lies inside a page of that document, and its number is 1 to 1,000
 abbrev pub box_fits : List PageRow → ℕ → BoxRow → Bool
 box_fits pages doc row =
-    names MAX_BOX row.num && inside_page (page_at pages doc row.page.0) row.rect
+    names MAX_BOX row.num && inside_page (page_in pages doc row.page.0) row.rect
 
 -- the same of a box with its document
 abbrev pub doc_box_fits : List PageRow → DocBox → Bool

@@ -38,8 +38,8 @@ inside_page None rect = false
 inside_page (Some row) rect = lies_inside rect row.image.width row.image.height
 
 -- the page of a document
-abbrev pub page_at : List PageRow → ℕ → ℕ → Option PageRow
-page_at pages doc page = find_key page_key (two_keys doc page) pages
+abbrev pub page_in : List PageRow → ℕ → ℕ → Option PageRow
+page_in pages doc page = find_key page_key (two_keys doc page) pages
 
 -- the pages of a matter with these documents
 pub record PageFacts (docs : List DocRow) (pages : List PageRow) : Type 0 where

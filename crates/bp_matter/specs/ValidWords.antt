@@ -6,7 +6,7 @@ use Rattle.bp_text.specs.declared.words.Word.{Word}
 use Rattle.bp_matter.specs.Written.{words_written}
 use Rattle.bp_matter.specs.Matter.{words_key}
 use Rattle.bp_matter.specs.Texts.{is_word_text}
-use Rattle.bp_matter.specs.ValidPages.{are_paged, inside_page, page_at}
+use Rattle.bp_matter.specs.ValidPages.{are_paged, inside_page, page_in}
 use Rattle.bp_matter.specs.declared.rows.DocRow.{DocRow}
 use Rattle.bp_matter.specs.declared.rows.PageRow.{PageRow}
 use Rattle.bp_matter.specs.declared.rows.PageWords.{PageWords}
@@ -17,7 +17,7 @@ word_fits page word = inside_page page word.rect && is_word_text word.text
 
 -- so do all words of a page
 abbrev pub words_fit : List PageRow → PageWords → Bool
-words_fit pages row = list_all (word_fits (page_at pages row.doc.0 row.page.0)) row.words
+words_fit pages row = list_all (word_fits (page_in pages row.doc.0 row.page.0)) row.words
 
 -- the words of a matter with these documents and pages
 pub record WordFacts (docs : List DocRow) (pages : List PageRow)

@@ -35,9 +35,10 @@ pub use limits::{
     MAX_NAME, MAX_PAGES, MAX_PIXELS, MAX_PRODUCTIONS, MAX_STAFF,
 };
 pub use rows::{
-    BatchRow, BoxList, BoxRow, CallRow, DocBox, DocEntry, DocHeld, DocRow, Entry, FieldRow,
-    HeldList, HeldRow, Item, ItemList, PageRow, PageWords, PrefixRow, Production, ProductionRow,
-    Request, StaffRow, State,
+    BatchList, BatchRow, BoxList, BoxRow, CallList, CallRow, DocBox, DocBoxList, DocEntry, DocHeld,
+    DocHeldList, DocList, DocRow, Entry, EntryList, FieldList, FieldRow, HeldList, HeldRow, Item,
+    ItemList, PageList, PageRow, PageWords, PageWordsList, PrefixList, PrefixRow, Production,
+    ProductionList, ProductionRow, Request, StaffList, StaffRow, State,
 };
 pub use tables::Tables;
 pub use taking::read_tables;

@@ -7,26 +7,26 @@ ghost use Rattle.bp_matter.specs.Valid.{AreWritten};
 
 use crate::kinds::take_rows;
 use crate::rows::{
-    BatchRow, CallRow, DocBox, DocEntry, DocHeld, DocRow, FieldRow, PageRow, PageWords, PrefixRow,
-    ProductionRow, StaffRow,
+    BatchList, CallList, DocBoxList, DocHeldList, DocList, EntryList, FieldList, PageList,
+    PageWordsList, PrefixList, ProductionList, StaffList,
 };
 use bp_core::{OutOfMemory, Row};
 use std::alloc::Global;
 
 #[derive(Drop)]
 pub(crate) struct Lists {
-    pub(crate) staff: Vec<StaffRow>,
-    pub(crate) fields: Vec<FieldRow>,
-    pub(crate) docs: Vec<DocRow>,
-    pub(crate) pages: Vec<PageRow>,
-    pub(crate) calls: Vec<CallRow>,
-    pub(crate) boxes: Vec<DocBox>,
-    pub(crate) held: Vec<DocHeld>,
-    pub(crate) entries: Vec<DocEntry>,
-    pub(crate) prefixes: Vec<PrefixRow>,
-    pub(crate) productions: Vec<ProductionRow>,
-    pub(crate) batches: Vec<BatchRow>,
-    pub(crate) words: Vec<PageWords>,
+    pub(crate) staff: StaffList,
+    pub(crate) fields: FieldList,
+    pub(crate) docs: DocList,
+    pub(crate) pages: PageList,
+    pub(crate) calls: CallList,
+    pub(crate) boxes: DocBoxList,
+    pub(crate) held: DocHeldList,
+    pub(crate) entries: EntryList,
+    pub(crate) prefixes: PrefixList,
+    pub(crate) productions: ProductionList,
+    pub(crate) batches: BatchList,
+    pub(crate) words: PageWordsList,
 }
 
 // The rows of each kind in turn, and what is left.

@@ -2,7 +2,7 @@
 ghost use Rattle.std.specs.Prelude.{◌≡◌, length};
 ghost use Rattle.std.specs.Option.{option_copied};
 ghost use Rattle.bp_matter.specs.Confirming.{boxes_on, held_on};
-ghost use Rattle.bp_matter.specs.LookUps.{call_of, called_state, doc_of, entry_of, field_named, lead_digest_in, of_row, page_of, prefix_with, production_with, staff_with, state_of_doc, words_of};
+ghost use Rattle.bp_matter.specs.LookUps.{call_with, called_state, doc_with, entry_with, field_with, lead_digest_in, of_row, page_with, prefix_with, production_with, staff_with, state_of_doc, words_with};
 
 use crate::marks::{boxes_on, held_on};
 use crate::rows::{
@@ -18,14 +18,14 @@ impl Tables {
         ensures { option_copied result
             ≡ of_row (λ row. row.production) (production_with id.now self.now.matter) }
     {
-        match self.production_row(id) {
+        match self.production_with(id) {
             Some(row) => Some(&row.production),
             None => None,
         }
     }
 
     /// The row of the production of this id.
-    pub fn production_row(&self, id: &Text) -> Option<&ProductionRow>
+    pub fn production_with(&self, id: &Text) -> Option<&ProductionRow>
         ensures { option_copied result ≡ production_with id.now self.now.matter }
     {
         self.productions
@@ -49,9 +49,9 @@ impl Tables {
 
     /// How many pages a document has.
     pub fn doc_pages(&self, doc: DocNo) -> Option<u32>
-        ensures { result ≡ of_row (λ row. row.pages) (doc_of doc.0 self.now.matter) }
+        ensures { result ≡ of_row (λ row. row.pages) (doc_with doc.0 self.now.matter) }
     {
-        match self.doc_row(doc) {
+        match self.doc_with(doc) {
             Some(row) => Some(row.pages),
             None => None,
         }
@@ -61,37 +61,37 @@ impl Tables {
     pub fn state(&self, doc: DocNo) -> Option<State>
         ensures { result ≡ state_of_doc doc.0 self.now.matter }
     {
-        match self.doc_row(doc) {
-            Some(_) => Some(called_state(self.call_row(doc))),
+        match self.doc_with(doc) {
+            Some(_) => Some(called_state(self.call_with(doc))),
             None => None,
         }
     }
 
     /// The row of a document.
     #[tactic(auto, using(crate::proofs::NumberedLemmas::orders))]
-    pub fn doc_row(&self, doc: DocNo) -> Option<&DocRow>
-        ensures { option_copied result ≡ doc_of doc.0 self.now.matter }
+    pub fn doc_with(&self, doc: DocNo) -> Option<&DocRow>
+        ensures { option_copied result ≡ doc_with doc.0 self.now.matter }
     {
         find_row(&self.docs, two_keys(0, doc.0))
     }
 
     /// The row of a page of a document.
-    pub fn page_row(&self, doc: DocNo, page: PageNo) -> Option<&PageRow>
-        ensures { option_copied result ≡ page_of doc.0 page.0 self.now.matter }
+    pub fn page_with(&self, doc: DocNo, page: PageNo) -> Option<&PageRow>
+        ensures { option_copied result ≡ page_with doc.0 page.0 self.now.matter }
     {
         find_row(&self.pages, two_keys(doc.0, page.0))
     }
 
     /// The words of a page of a document.
-    pub fn words_row(&self, doc: DocNo, page: PageNo) -> Option<&PageWords>
-        ensures { option_copied result ≡ words_of doc.0 page.0 self.now.matter }
+    pub fn words_with(&self, doc: DocNo, page: PageNo) -> Option<&PageWords>
+        ensures { option_copied result ≡ words_with doc.0 page.0 self.now.matter }
     {
         find_row(&self.words, two_keys(doc.0, page.0))
     }
 
     /// The call of a document; None where it is uncalled.
-    pub fn call_row(&self, doc: DocNo) -> Option<&CallRow>
-        ensures { option_copied result ≡ call_of doc.0 self.now.matter }
+    pub fn call_with(&self, doc: DocNo) -> Option<&CallRow>
+        ensures { option_copied result ≡ call_with doc.0 self.now.matter }
     {
         find_row(&self.calls, two_keys(0, doc.0))
     }
@@ -111,8 +111,8 @@ impl Tables {
     }
 
     /// What the privilege log says of a document.
-    pub fn entry_row(&self, doc: DocNo) -> Option<&DocEntry>
-        ensures { option_copied result ≡ entry_of doc.0 self.now.matter }
+    pub fn entry_with(&self, doc: DocNo) -> Option<&DocEntry>
+        ensures { option_copied result ≡ entry_with doc.0 self.now.matter }
     {
         find_row(&self.entries, two_keys(0, doc.0))
     }
@@ -125,8 +125,8 @@ impl Tables {
     }
 
     /// The field of this name.
-    pub fn field_named(&self, name: &Text) -> Option<&FieldRow>
-        ensures { option_copied result ≡ field_named name.now self.now.matter }
+    pub fn field_with(&self, name: &Text) -> Option<&FieldRow>
+        ensures { option_copied result ≡ field_with name.now self.now.matter }
     {
         self.fields.iter().find(|row| row.name == *name)
     }

@@ -12,6 +12,31 @@ pub type HeldList = ListOf<HeldRow>;
 
 pub type ItemList = ListOf<Item>;
 
+// The lists of the tables are `Vec`s: how many rows they take without more memory is part of them.
+pub type StaffList = Vec<StaffRow>;
+
+pub type FieldList = Vec<FieldRow>;
+
+pub type DocList = Vec<DocRow>;
+
+pub type PageList = Vec<PageRow>;
+
+pub type CallList = Vec<CallRow>;
+
+pub type DocBoxList = Vec<DocBox>;
+
+pub type DocHeldList = Vec<DocHeld>;
+
+pub type EntryList = Vec<DocEntry>;
+
+pub type PrefixList = Vec<PrefixRow>;
+
+pub type ProductionList = Vec<ProductionRow>;
+
+pub type BatchList = Vec<BatchRow>;
+
+pub type PageWordsList = Vec<PageWords>;
+
 /// A member of the staff.
 #[derive(Debug, Drop)]
 pub struct StaffRow {

@@ -11,8 +11,8 @@ ghost use Rattle.bp_matter.specs.Valid.{IsValid};
 use crate::kinds::add_four;
 use crate::laws::order_law;
 use crate::rows::{
-    BatchRow, CallRow, DocBox, DocEntry, DocHeld, DocRow, FieldRow, PageRow, PageWords, PrefixRow,
-    ProductionRow, StaffRow,
+    BatchList, CallList, DocBoxList, DocHeldList, DocList, EntryList, FieldList, PageList,
+    PageWordsList, PrefixList, ProductionList, StaffList,
 };
 use bp_core::{DocNo, ListOf, OutOfMemory, RowList, find_row};
 use std::alloc::Global;
@@ -21,18 +21,18 @@ use std::marker::Model;
 /// The tables of a matter, one list for each kind of row.
 #[derive(Debug, Drop)]
 pub struct Tables {
-    pub staff: Vec<StaffRow>,
-    pub fields: Vec<FieldRow>,
-    pub docs: Vec<DocRow>,
-    pub pages: Vec<PageRow>,
-    pub calls: Vec<CallRow>,
-    pub boxes: Vec<DocBox>,
-    pub held: Vec<DocHeld>,
-    pub entries: Vec<DocEntry>,
-    pub prefixes: Vec<PrefixRow>,
-    pub productions: Vec<ProductionRow>,
-    pub batches: Vec<BatchRow>,
-    pub words: Vec<PageWords>,
+    pub staff: StaffList,
+    pub fields: FieldList,
+    pub docs: DocList,
+    pub pages: PageList,
+    pub calls: CallList,
+    pub boxes: DocBoxList,
+    pub held: DocHeldList,
+    pub entries: EntryList,
+    pub prefixes: PrefixList,
+    pub productions: ProductionList,
+    pub batches: BatchList,
+    pub words: PageWordsList,
 }
 
 impl Model for Tables {

@@ -6,10 +6,11 @@ ghost use Rattle.bp_matter.specs.Written.{entry_written};
 ghost use Rattle.bp_matter.specs.Matter.{entry_key};
 ghost use Rattle.bp_matter.specs.ValidEntries.{EntryFacts, doc_entry_fits, entry_fits};
 
-use super::numbers::{ascends, names};
+use super::numbers::names;
 use crate::limits::{MAX_DESCRIPTION, MAX_NAME};
 use crate::rows::{DocEntry, Entry};
 use crate::texts::is_text;
+use bp_core::ascends;
 
 pub(crate) fn entry_fits(entry: &Entry) -> bool
     ensures { result ≡ entry_fits entry.now }

@@ -6,17 +6,17 @@ ghost use Rattle.bp_matter.specs.Written.{box_written, held_written};
 ghost use Rattle.bp_matter.specs.Matter.{box_key, held_key, page_key};
 ghost use Rattle.bp_matter.specs.ValidMarks.{BoxFacts, HeldFacts, box_fits, doc_box_fits, doc_held_fits};
 
-use super::numbers::{ascends, names};
-use super::pages::{inside_page, page_at};
+use super::numbers::names;
+use super::pages::{inside_page, page_in};
 use crate::limits::MAX_BOX;
 use crate::rows::{BoxRow, DocBox, DocHeld, PageRow};
-use bp_core::DocNo;
+use bp_core::{DocNo, ascends};
 
 pub(crate) fn box_fits(pages: &[PageRow], doc: DocNo, row: &BoxRow) -> bool
     requires { IsTrue (ascends page_key 0 pages.now) }
     ensures { result ≡ box_fits pages.now doc.0 row.now }
 {
-    names(MAX_BOX, row.num) && inside_page(page_at(pages, doc, row.page), row.rect)
+    names(MAX_BOX, row.num) && inside_page(page_in(pages, doc, row.page), row.rect)
 }
 
 fn boxes_fit(pages: &[PageRow], rows: &[DocBox]) -> bool

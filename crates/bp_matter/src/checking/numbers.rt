@@ -1,6 +1,5 @@
 // Tests of lists of rows of several kinds.
 ghost use Rattle.std.specs.Prelude.{◌<◌, ◌^◌, ◌≡◌};
-ghost use Rattle.bp_core.specs.Sorted.{ascends};
 ghost use Rattle.bp_matter.specs.ValidRows.{is_numbered, names};
 
 use bp_core::Keyed;
@@ -17,23 +16,6 @@ pub(crate) fn is_numbered<T: Keyed>(rows: &[T], from: u128) -> bool
             return false;
         }
         number += 1;
-        rest = others;
-    }
-    true
-}
-
-// Whether the keys rise.
-pub(crate) fn ascends<T: Keyed>(rows: &[T]) -> bool
-    ensures { result ≡ ascends T.key_of 0 rows.now }
-{
-    let mut low = 0;
-    let mut rest = rows;
-    while let Some((first, others)) = rest.split_first() {
-        let key = first.key();
-        if key < low {
-            return false;
-        }
-        low = key + 1;
         rest = others;
     }
     true

@@ -5,12 +5,11 @@ ghost use Rattle.std.specs.Prelude.{IsTrue, length, nat_le, ◌*◌, ◌<◌, �
 ghost use Rattle.bp_core.specs.Sorted.{ascends};
 ghost use Rattle.bp_matter.specs.Written.{page_written};
 ghost use Rattle.bp_matter.specs.Matter.{page_key};
-ghost use Rattle.bp_matter.specs.ValidPages.{PageFacts, are_paged, has_rows, inside_page, page_at, page_fits, pixels_of};
+ghost use Rattle.bp_matter.specs.ValidPages.{PageFacts, are_paged, has_rows, inside_page, page_in, page_fits, pixels_of};
 
-use super::numbers::ascends;
 use crate::limits::{MAX_PAGES, MAX_PIXELS};
 use crate::rows::{DocRow, PageRow};
-use bp_core::{DocNo, Keyed, PageNo, Rect, find_row, two_keys};
+use bp_core::{DocNo, Keyed, PageNo, Rect, ascends, find_row, two_keys};
 use bp_rows::import_sides;
 
 // Whether the next rows, so many, have the keys from this one on.
@@ -125,9 +124,9 @@ pub(crate) fn inside_page(page: Option<&PageRow>, rect: Rect) -> bool
     }
 }
 
-pub(crate) fn page_at(pages: &[PageRow], doc: DocNo, page: PageNo) -> Option<&PageRow>
+pub(crate) fn page_in(pages: &[PageRow], doc: DocNo, page: PageNo) -> Option<&PageRow>
     requires { IsTrue (ascends page_key 0 pages.now) }
-    ensures { option_copied result ≡ page_at pages.now doc.0 page.0 }
+    ensures { option_copied result ≡ page_in pages.now doc.0 page.0 }
 {
     find_row(pages, two_keys(doc.0, page.0))
 }

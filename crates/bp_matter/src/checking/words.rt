@@ -7,10 +7,10 @@ ghost use Rattle.bp_matter.specs.Written.{words_written};
 ghost use Rattle.bp_matter.specs.Matter.{page_key};
 ghost use Rattle.bp_matter.specs.ValidWords.{WordFacts, word_fits, words_fit};
 
-use super::numbers::ascends;
-use super::pages::{are_paged, inside_page, page_at};
+use super::pages::{are_paged, inside_page, page_in};
 use crate::rows::{DocRow, PageRow, PageWords};
 use crate::texts::is_word_text;
+use bp_core::ascends;
 use bp_text::Word;
 
 fn word_fits(page: Option<&PageRow>, word: &Word) -> bool
@@ -23,7 +23,7 @@ fn words_fit(pages: &[PageRow], row: &PageWords) -> bool
     requires { IsTrue (ascends page_key 0 pages.now) }
     ensures { result ≡ words_fit pages.now row.now }
 {
-    let page = page_at(pages, row.doc, row.page);
+    let page = page_in(pages, row.doc, row.page);
     row.words
         .as_slice()
         .iter()

@@ -6,10 +6,12 @@ ghost use Rattle.bp_matter.specs.Valid.{AreWritten, IsValid};
 mod batches;
 mod calls;
 mod confirming;
+mod differing;
 mod docs;
 mod entries;
 mod fields;
 mod items;
+mod labels;
 mod marks;
 mod numbers;
 mod pages;
@@ -42,10 +44,10 @@ pub(crate) fn is_valid(alloc: Global, lists: &Lists) -> Result<bool, OutOfMemory
     ensures fact { IfOk result (λ good. IsTrue good → IsValid (matter_of lists.now)) }
     ensures back { IfOk result (λ good. IsValid (matter_of lists.now) → IsTrue good) }
 {
-    if !staff_valid(&lists.staff) {
+    if !staff_valid(alloc, &lists.staff)? {
         return Ok(false);
     }
-    if !fields_valid(&lists.fields) {
+    if !fields_valid(alloc, &lists.fields)? {
         return Ok(false);
     }
     if !docs_valid(lists.fields.len(), lists.batches.len(), &lists.docs) {
@@ -66,7 +68,7 @@ pub(crate) fn is_valid(alloc: Global, lists: &Lists) -> Result<bool, OutOfMemory
     if !entries_valid(lists.docs.len(), &lists.entries) {
         return Ok(false);
     }
-    if !batches_valid(&lists.batches) {
+    if !batches_valid(alloc, &lists.batches)? {
         return Ok(false);
     }
     if !words_valid(&lists.docs, &lists.pages, &lists.words) {
@@ -75,7 +77,7 @@ pub(crate) fn is_valid(alloc: Global, lists: &Lists) -> Result<bool, OutOfMemory
     if !productions_few(&lists.productions) {
         return Ok(false);
     }
-    if !prefixes_valid(&lists.productions, &lists.prefixes) {
+    if !prefixes_valid(alloc, &lists.productions, &lists.prefixes)? {
         return Ok(false);
     }
     if !review_valid(

@@ -4,7 +4,7 @@ ghost use Rattle.std.specs.Prelude.{◌≡◌, IfOk};
 use crate::calls::Call;
 use crate::rows::{BoxList, Entry, HeldList, Item, ItemList, Production, Request};
 use bp_bates::Prefix;
-use bp_core::{ListOf, OutOfMemory, Text, TextList};
+use bp_core::{Basis, DocNo, ListOf, OutOfMemory, PageNo, Rect, Role, Text, TextList, Treatment};
 use std::alloc::Global;
 
 impl Production {
@@ -26,78 +26,146 @@ impl Call {
         ensures { IfOk result (λ call. call ≡ self.now) }
     {
         match self {
-            Call::AddStaff { name, role, digest } => Ok(Call::AddStaff {
-                name: copy_text(name)?,
-                role: *role,
-                digest: *digest,
-            }),
+            Call::AddStaff { name, role, digest } => copy_add_staff(name, *role, *digest),
             Call::SeeDoc { doc } => Ok(Call::SeeDoc { doc: *doc }),
-            Call::SeePage { doc, page } => Ok(Call::SeePage {
-                doc: *doc,
-                page: *page,
-            }),
-            Call::SeeWords { doc, page } => Ok(Call::SeeWords {
-                doc: *doc,
-                page: *page,
-            }),
+            Call::SeePage { doc, page } => Ok(see_page(*doc, *page)),
+            Call::SeeWords { doc, page } => Ok(see_words(*doc, *page)),
             Call::SetCall {
                 doc,
                 responsive,
                 treatment,
                 designation,
-            } => Ok(Call::SetCall {
-                doc: *doc,
-                responsive: *responsive,
-                treatment: *treatment,
-                designation: copy_text(designation)?,
-            }),
+            } => copy_set_call(*doc, *responsive, *treatment, designation),
             Call::PutBox {
                 doc,
                 num,
                 page,
                 rect,
                 basis,
-            } => Ok(Call::PutBox {
-                doc: *doc,
-                num: *num,
-                page: *page,
-                rect: *rect,
-                basis: *basis,
-            }),
-            Call::DropBox { doc, num } => Ok(Call::DropBox {
-                doc: *doc,
-                num: *num,
-            }),
-            Call::HoldField { doc, field, basis } => Ok(Call::HoldField {
-                doc: *doc,
-                field: copy_text(field)?,
-                basis: *basis,
-            }),
-            Call::FreeField { doc, field } => Ok(Call::FreeField {
-                doc: *doc,
-                field: copy_text(field)?,
-            }),
+            } => Ok(put_box(*doc, *num, *page, *rect, *basis)),
+            Call::DropBox { doc, num } => Ok(drop_box(*doc, *num)),
+            Call::HoldField { doc, field, basis } => copy_hold_field(*doc, field, *basis),
+            Call::FreeField { doc, field } => copy_free_field(*doc, field),
             Call::PutEntry {
                 doc,
                 date,
                 author,
                 recipients,
                 description,
-            } => Ok(Call::PutEntry {
-                doc: *doc,
-                date: copy_text(date)?,
-                author: copy_text(author)?,
-                recipients: copy_text(recipients)?,
-                description: copy_text(description)?,
-            }),
+            } => copy_put_entry(*doc, date, author, recipients, description),
             Call::Confirm { doc } => Ok(Call::Confirm { doc: *doc }),
             Call::SendBack { doc } => Ok(Call::SendBack { doc: *doc }),
-            Call::Freeze { request } => Ok(Call::Freeze {
-                request: copy_request(alloc, request)?,
-            }),
-            Call::GetProduction { id } => Ok(Call::GetProduction { id: copy_text(id)? }),
+            Call::Freeze { request } => copy_freeze(alloc, request),
+            Call::GetProduction { id } => copy_get_production(id),
         }
     }
+}
+
+fn copy_add_staff(name: &Text, role: Role, digest: [u8; 32]) -> Result<Call, OutOfMemory>
+    ensures { IfOk result (λ call. call ≡ Call.AddStaff name.now role digest) }
+{
+    Ok(Call::AddStaff {
+        name: copy_text(name)?,
+        role,
+        digest,
+    })
+}
+
+fn see_page(doc: DocNo, page: PageNo) -> Call
+    ensures { result ≡ Call.SeePage doc page }
+{
+    Call::SeePage { doc, page }
+}
+
+fn see_words(doc: DocNo, page: PageNo) -> Call
+    ensures { result ≡ Call.SeeWords doc page }
+{
+    Call::SeeWords { doc, page }
+}
+
+fn copy_set_call(
+    doc: DocNo,
+    responsive: bool,
+    treatment: Treatment,
+    designation: &Text,
+) -> Result<Call, OutOfMemory>
+    ensures { IfOk result (λ call. call ≡ Call.SetCall doc responsive treatment designation.now) }
+{
+    Ok(Call::SetCall {
+        doc,
+        responsive,
+        treatment,
+        designation: copy_text(designation)?,
+    })
+}
+
+fn put_box(doc: DocNo, num: u32, page: PageNo, rect: Rect, basis: Basis) -> Call
+    ensures { result ≡ Call.PutBox doc num page rect basis }
+{
+    Call::PutBox {
+        doc,
+        num,
+        page,
+        rect,
+        basis,
+    }
+}
+
+fn drop_box(doc: DocNo, num: u32) -> Call
+    ensures { result ≡ Call.DropBox doc num }
+{
+    Call::DropBox { doc, num }
+}
+
+fn copy_hold_field(doc: DocNo, field: &Text, basis: Basis) -> Result<Call, OutOfMemory>
+    ensures { IfOk result (λ call. call ≡ Call.HoldField doc field.now basis) }
+{
+    Ok(Call::HoldField {
+        doc,
+        field: copy_text(field)?,
+        basis,
+    })
+}
+
+fn copy_free_field(doc: DocNo, field: &Text) -> Result<Call, OutOfMemory>
+    ensures { IfOk result (λ call. call ≡ Call.FreeField doc field.now) }
+{
+    Ok(Call::FreeField {
+        doc,
+        field: copy_text(field)?,
+    })
+}
+
+fn copy_put_entry(
+    doc: DocNo,
+    date: &Text,
+    author: &Text,
+    recipients: &Text,
+    description: &Text,
+) -> Result<Call, OutOfMemory>
+    ensures { IfOk result (λ call. call ≡ Call.PutEntry doc date.now author.now recipients.now description.now) }
+{
+    Ok(Call::PutEntry {
+        doc,
+        date: copy_text(date)?,
+        author: copy_text(author)?,
+        recipients: copy_text(recipients)?,
+        description: copy_text(description)?,
+    })
+}
+
+fn copy_freeze(alloc: Global, request: &Request) -> Result<Call, OutOfMemory>
+    ensures { IfOk result (λ call. call ≡ Call.Freeze request.now) }
+{
+    Ok(Call::Freeze {
+        request: copy_request(alloc, request)?,
+    })
+}
+
+fn copy_get_production(id: &Text) -> Result<Call, OutOfMemory>
+    ensures { IfOk result (λ call. call ≡ Call.GetProduction id.now) }
+{
+    Ok(Call::GetProduction { id: copy_text(id)? })
 }
 
 fn copy_text(text: &Text) -> Result<Text, OutOfMemory>

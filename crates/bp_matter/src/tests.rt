@@ -15,6 +15,31 @@ const PAGE: [u8; 30] = [
     0x00, 0x80,
 ];
 
+// A lead, L.
+const STAFF: [u8; 39] = [
+    1, 2, 0, 0, 0, 0, 0, 0, 0, 0, 0, 0, 0, 0, 0, 0, 0, 0, 0, 0, 0, 0, 0, 0, 0, 0, 0, 0, 0, 0, 0, 0,
+    0, 0, 1, 0, 0, 0, b'L',
+];
+
+// Document 1, of two pages, with the id A and the value v.
+const DOC: [u8; 27] = [
+    1, 1, 0, 0, 0, 2, 0, 0, 0, 1, 0, 0, 0, 1, 0, 0, 0, b'A', 1, 0, 0, 0, 1, 0, 0, 0, b'v',
+];
+
+// AB- with four digits, of which the numbers 1 to 3 are taken.
+const PREFIX: [u8; 17] = [1, 4, 4, 0, 0, 0, 0, 0, 0, 0, 3, 0, 0, 0, b'A', b'B', b'-'];
+
+// A batch of two documents and three pages, B.
+const BATCH: [u8; 46] = [
+    1, 0, 0, 0, 0, 0, 0, 0, 0, 0, 0, 0, 0, 0, 0, 0, 0, 0, 0, 0, 0, 0, 0, 0, 0, 0, 0, 0, 0, 0, 0, 0,
+    0, 2, 0, 0, 0, 3, 0, 0, 0, 1, 0, 0, 0, b'B',
+];
+
+// One word, w.
+const WORDS: [u8; 30] = [
+    1, 1, 0, 0, 0, 7, 0, 0, 0, 1, 0, 0, 0, 0, 0, 0, 0, 4, 0, 0, 0, 1, 0, 0, 0, 1, 0, 0, 0, b'w',
+];
+
 // What a production was asked for, and its two items: document 1 produced, document 2 with a box.
 const PRODUCTION: [u8; 157] = [
     1, 1, 0, 0, 0, b'R', 1, 0, 0, 0, b'V', 3, 0, 0, 0, b'A', b'B', b'-', 4, 1, 0, 0, 0, 2, 0, 0, 0,
@@ -28,122 +53,70 @@ const PRODUCTION: [u8; 157] = [
     0, 0, 0, 0, 3, 0, 0, 0, 0, 0, 0, 0, 3, 0, 0, 0, 0, 0, 0, 0,
 ];
 
-fn push(
-    alloc: Global,
-    rows: &mut Vec<Row>,
-    key: (u8, u32, u32),
-    parts: [&[u8]; 3],
-) -> Result<(), OutOfMemory> {
+// A valid matter with a row of each kind: two documents of one family. Each row is a kind, two
+// numbers and a body.
+const ROWS: [(u8, u32, u32, &[u8]); 17] = [
+    (1, 1, 0, &STAFF),
+    (2, 1, 0, &[1, 1, 0, 0, 0, b'F']),
+    (3, 1, 0, &DOC),
+    (
+        3,
+        2,
+        0,
+        &[
+            1, 1, 0, 0, 0, 1, 0, 0, 0, 1, 0, 0, 0, 1, 0, 0, 0, b'B', 0, 0, 0, 0,
+        ],
+    ),
+    (4, 1, 1, &PAGE),
+    (4, 1, 2, &PAGE),
+    (4, 2, 1, &PAGE),
+    (
+        5,
+        2,
+        0,
+        &[1, 1, 1, 0, 0, 0, 0, 0, 0, 0, 1, 1, 1, 0, 0, 0, b'C'],
+    ),
+    (
+        6,
+        2,
+        1,
+        &[
+            1, 1, 0, 0, 0, 0, 0, 0, 0, 0, 0, 0, 0, 8, 0, 0, 0, 1, 0, 0, 0, 0,
+        ],
+    ),
+    (7, 2, 1, &[1, 2]),
+    (
+        8,
+        2,
+        0,
+        &[1, 0, 0, 0, 0, 0, 0, 0, 0, 0, 0, 0, 0, 1, 0, 0, 0, b'd'],
+    ),
+    (9, 1, 0, &PREFIX),
+    (10, 1, 0, &PRODUCTION),
+    (11, 1, 0, &BATCH),
+    (12, 1, 1, &[1, 0, 0, 0, 0]),
+    (12, 1, 2, &[1, 0, 0, 0, 0]),
+    (12, 2, 1, &WORDS),
+];
+
+// The places in it of rows that are changed.
+const CALL: usize = 7;
+
+const ITEMS: usize = 12;
+
+fn kept(alloc: Global, row: (u8, u32, u32, &[u8])) -> Result<Row, OutOfMemory> {
+    let (kind, k1, k2, bytes) = row;
     let mut body = Vec::new(alloc);
-    for part in parts {
-        body.extend_from_slice(part)?;
-    }
-    let (kind, k1, k2) = key;
+    body.extend_from_slice(bytes)?;
     let body = Bytes::from_vec(body);
-    rows.push(Row { kind, k1, k2, body })?;
-    Ok(())
+    Ok(Row { kind, k1, k2, body })
 }
 
-// A valid matter with a row of each kind: two documents of one family.
 fn matter(alloc: Global) -> Result<Vec<Row>, OutOfMemory> {
     let mut rows = Vec::new(alloc);
-    let none: &[u8] = &[];
-    let words: &[u8] = &[1, 0, 0, 0, 0];
-    push(
-        alloc,
-        &mut rows,
-        (1, 1, 0),
-        [&[1, 2], &ZEROS, &[1, 0, 0, 0, b'L']],
-    )?;
-    push(
-        alloc,
-        &mut rows,
-        (2, 1, 0),
-        [&[1, 1, 0, 0, 0, b'F'], none, none],
-    )?;
-    push(
-        alloc,
-        &mut rows,
-        (3, 1, 0),
-        [
-            &[1, 1, 0, 0, 0, 2, 0, 0, 0, 1, 0, 0, 0],
-            &[1, 0, 0, 0, b'A'],
-            &[1, 0, 0, 0, 1, 0, 0, 0, b'v'],
-        ],
-    )?;
-    push(
-        alloc,
-        &mut rows,
-        (3, 2, 0),
-        [
-            &[1, 1, 0, 0, 0, 1, 0, 0, 0, 1, 0, 0, 0],
-            &[1, 0, 0, 0, b'B'],
-            &[0, 0, 0, 0],
-        ],
-    )?;
-    push(alloc, &mut rows, (4, 1, 1), [&PAGE, none, none])?;
-    push(alloc, &mut rows, (4, 1, 2), [&PAGE, none, none])?;
-    push(alloc, &mut rows, (4, 2, 1), [&PAGE, none, none])?;
-    push(
-        alloc,
-        &mut rows,
-        (5, 2, 0),
-        [
-            &[1, 1, 1, 0, 0, 0, 0, 0, 0, 0],
-            &[1, 1],
-            &[1, 0, 0, 0, b'C'],
-        ],
-    )?;
-    push(
-        alloc,
-        &mut rows,
-        (6, 2, 1),
-        [
-            &[1, 1, 0, 0, 0],
-            &[0, 0, 0, 0, 0, 0, 0, 0, 8, 0, 0, 0, 1, 0, 0, 0],
-            &[0],
-        ],
-    )?;
-    push(alloc, &mut rows, (7, 2, 1), [&[1, 2], none, none])?;
-    push(
-        alloc,
-        &mut rows,
-        (8, 2, 0),
-        [
-            &[1, 0, 0, 0, 0, 0, 0, 0, 0],
-            &[0, 0, 0, 0],
-            &[1, 0, 0, 0, b'd'],
-        ],
-    )?;
-    push(
-        alloc,
-        &mut rows,
-        (9, 1, 0),
-        [
-            &[1, 4],
-            &[4, 0, 0, 0, 0, 0, 0, 0],
-            &[3, 0, 0, 0, b'A', b'B', b'-'],
-        ],
-    )?;
-    push(alloc, &mut rows, (10, 1, 0), [&PRODUCTION, none, none])?;
-    push(
-        alloc,
-        &mut rows,
-        (11, 1, 0),
-        [&[1], &ZEROS, &[2, 0, 0, 0, 3, 0, 0, 0, 1, 0, 0, 0, b'B']],
-    )?;
-    push(alloc, &mut rows, (12, 1, 1), [words, none, none])?;
-    push(alloc, &mut rows, (12, 1, 2), [words, none, none])?;
-    push(
-        alloc,
-        &mut rows,
-        (12, 2, 1),
-        [
-            &[1, 1, 0, 0, 0, 7, 0, 0, 0],
-            &[1, 0, 0, 0, 0, 0, 0, 0, 4, 0, 0, 0, 1, 0, 0, 0],
-            &[1, 0, 0, 0, b'w'],
-        ],
-    )?;
+    for row in ROWS {
+        rows.push(kept(alloc, row)?)?;
+    }
     Ok(rows)
 }
 
@@ -244,14 +217,21 @@ const SPOILED: [(usize, usize, u8); 17] = [
     (12, 52, 2), // the flag of an entry
 ];
 
-// The matter with another byte in the body of the row at this place.
-fn spoil(alloc: Global, at: usize, place: usize, byte: u8) -> Result<Option<Refusal>, OutOfMemory> {
+// The matter with these bytes in the body of the row at this place.
+fn spoil(
+    alloc: Global,
+    at: usize,
+    place: usize,
+    bytes: &[u8],
+) -> Result<Option<Refusal>, OutOfMemory> {
     let mut rows = matter(alloc)?;
     if let Some(row) = rows.get_mut(at) {
         let mut body = Vec::new(alloc);
         body.extend_from_slice(row.body.as_slice())?;
-        if let Some(old) = body.get_mut(place) {
-            *old = byte;
+        for at in 0..bytes.len() {
+            if let Some(old) = body.get_mut(place.saturating_add(at)) {
+                *old = bytes[at];
+            }
         }
         row.body = Bytes::from_vec(body);
     }
@@ -265,18 +245,24 @@ fn a_byte_out_of_range_is_refused(rt: HostRuntime) -> Result<(), Fail> {
     for (at, place, byte) in SPOILED {
         let expected = rows.get(at).map(|row| bad(row));
         assert!(rt; expected.is_some());
-        assert_eq!(rt; spoil(alloc, at, place, byte)?, expected);
+        assert_eq!(rt; spoil(alloc, at, place, &[byte])?, expected);
     }
     Ok(())
 }
+
+const BAD: [(u8, u32, u32, &[u8]); 3] = [
+    (13, 0, 0, &[1]), // no kind
+    (7, 9, 4, &[1, 4]), // no ground
+    (7, 9, 5, &[0, 0]), // no version
+];
 
 #[test]
 fn two_bad_rows_name_the_least_key(rt: HostRuntime) -> Result<(), Fail> {
     let alloc = rt.alloc();
     let mut rows = Vec::new(alloc);
-    push(alloc, &mut rows, (13, 0, 0), [&[1], &[], &[]])?;
-    push(alloc, &mut rows, (7, 9, 4), [&[1, 4], &[], &[]])?;
-    push(alloc, &mut rows, (7, 9, 5), [&[0, 0], &[], &[]])?;
+    for row in BAD {
+        rows.push(kept(alloc, row)?)?;
+    }
     let least = rows.get(1).map(|row| bad(row));
     assert!(rt; least.is_some());
     assert_eq!(rt; refusal(alloc, rows), least);
@@ -299,6 +285,84 @@ fn rows_of_no_valid_matter_are_refused(rt: HostRuntime) -> Result<(), Fail> {
         // the call, the box, the held field and the entry of a document may each lack
         let valid = matches!(at, 7 | 8 | 9 | 10);
         assert_eq!(rt; refusal(alloc, rows).is_none(), valid);
+    }
+    Ok(())
+}
+
+// Bytes by which a fact of validity breaks: the place of the row, that of the bytes, and the bytes.
+const BROKEN: [(usize, usize, &[u8]); 36] = [
+    (0, 1, &[1]), // staff 1 is no lead
+    (0, 38, &[7]), // a control character in a name
+    (1, 5, &[13]), // a CR in the name of a field
+    (2, 1, &[2]), // a parent that comes later
+    (2, 5, &[1]), // a page too many
+    (2, 5, &[3]), // a page too few
+    (2, 9, &[2]), // no such batch
+    (2, 17, &[b',']), // a comma in an id
+    (2, 26, &[13]), // a CR in a value
+    (3, 1, &[3]), // no such parent
+    (CALL, 2, &[2]), // no such editor
+    (CALL, 1, &[2, 1, 0, 0, 0, 2]), // no such confirmer
+    (CALL, 1, &[2, 1, 0, 0, 0, 1]), // confirmed by who edited last
+    (CALL, 11, &[0]), // a box and a held field on a document to be produced
+    (CALL, 16, &[b'c']), // a designation in small letters
+    (8, 1, &[2]), // a box on no page
+    (8, 5, &[1]), // a box outside its page
+    (10, 17, &[7]), // a control character in an entry
+    (11, 1, &[3]), // a prefix with another width than its production's
+    (11, 2, &[3]), // numbers that go past the prefix's
+    (11, 2, &[5]), // a gap in the numbers under a prefix
+    (ITEMS, 5, &[b' ']), // a space in an id
+    (ITEMS, 10, &[b'v']), // a small letter in the name of a volume
+    (ITEMS, 15, &[b'C']), // a prefix that isn't kept
+    (ITEMS, 19, &[3]), // from no document
+    (ITEMS, 23, &[0]), // to no document
+    (ITEMS, 39, &[2]), // an item with another parent
+    (ITEMS, 43, &[2]), // withheld, with a number a page and no entry
+    (ITEMS, 65, &[3]), // a span longer than the document
+    (ITEMS, 73, &[1]), // a document twice
+    (ITEMS, 81, &[0]), // marks on an item that isn't redacted
+    (ITEMS, 90, &[2]), // its box on no page
+    (ITEMS, 115, &[2]), // its held field is none of the matter's
+    (13, 45, &[b' ']), // a space in the name of a batch
+    (16, 9, &[5]), // a word outside its page
+    (16, 29, &[7]), // a control character in a word
+];
+
+#[test]
+fn a_broken_fact_is_refused(rt: HostRuntime) -> Result<(), Fail> {
+    let alloc = rt.alloc();
+    for (at, place, bytes) in BROKEN {
+        assert_eq!(rt; spoil(alloc, at, place, bytes)?, Some(INVALID));
+    }
+    Ok(())
+}
+
+// Rows by which a fact of validity breaks, each with its place.
+const STRANGE: [(usize, (u8, u32, u32, &[u8])); 9] = [
+    (1, (1, 2, 0, &STAFF)), // a digest twice
+    (2, (2, 2, 0, &[1, 1, 0, 0, 0, b'F'])), // a field's name twice
+    (2, (2, 3, 0, &[1, 1, 0, 0, 0, b'G'])), // a gap in the numbers
+    (7, (4, 2, 2, &PAGE)), // a page that its document hasn't
+    (12, (9, 2, 0, &PREFIX)), // a prefix twice
+    (
+        12,
+        (9, 2, 0, &[1, 4, 1, 0, 0, 0, 0, 0, 0, 0, 1, 0, 0, 0, b'X']),
+    ), // a prefix of nothing
+    (13, (10, 2, 0, &PRODUCTION)), // a production twice
+    (14, (11, 2, 0, &BATCH)), // a batch's name twice
+    (17, (12, 2, 2, &[1, 0, 0, 0, 0])), // words of no page
+];
+
+#[test]
+fn a_row_too_many_is_refused(rt: HostRuntime) -> Result<(), Fail> {
+    let alloc = rt.alloc();
+    for (at, row) in STRANGE {
+        let mut rows = matter(alloc)?;
+        if at <= rows.len() {
+            rows.insert(at, kept(alloc, row)?)?;
+        }
+        assert_eq!(rt; refusal(alloc, rows), Some(INVALID));
     }
     Ok(())
 }

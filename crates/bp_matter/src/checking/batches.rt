@@ -1,35 +1,18 @@
 // Whether rows are the batches of a matter.
 ghost use Rattle.std.specs.List.{list_all, list_any};
-ghost use Rattle.std.specs.Prelude.{IsTrue, length, nat_le, ◌≡◌};
+ghost use Rattle.std.specs.Prelude.{IfOk, IsTrue, length, nat_le, ◌≡◌};
 ghost use Rattle.std.specs.Str.{bytes_eq};
 ghost use Rattle.bp_matter.specs.Written.{batch_written};
 ghost use Rattle.bp_matter.specs.ValidBatches.{BatchFacts, batch_fits, batch_name};
-ghost use Rattle.bp_matter.specs.ValidRows.{all_differ};
 
+use super::differing::all_differ;
+use super::labels::BatchName;
 use super::numbers::is_numbered;
 use crate::limits::MAX_BATCHES;
 use crate::rows::BatchRow;
 use crate::texts::is_batch_name;
-use bp_core::Text;
-
-fn has_batch_names_differ(rows: &[BatchRow], text: &Text) -> bool
-    ensures { result ≡ list_any (λ other. bytes_eq (batch_name other) text.now) rows.now }
-{
-    rows.iter().any(|other| other.name == *text)
-}
-
-fn batch_names_differ(rows: &[BatchRow]) -> bool
-    ensures { result ≡ all_differ batch_name rows.now }
-{
-    let mut rest = rows;
-    while let Some((first, others)) = rest.split_first() {
-        if has_batch_names_differ(others, &first.name) {
-            return false;
-        }
-        rest = others;
-    }
-    true
-}
+use bp_core::{OutOfMemory, Text};
+use std::alloc::Global;
 
 fn batches_fit(rows: &[BatchRow]) -> bool
     ensures { result ≡ list_all batch_fits rows.now }
@@ -43,19 +26,19 @@ fn batches_few(rows: &[BatchRow]) -> bool
     rows.len() <= MAX_BATCHES
 }
 
-pub(crate) fn batches_valid(batches: &[BatchRow]) -> bool
+pub(crate) fn batches_valid(alloc: Global, batches: &[BatchRow]) -> Result<bool, OutOfMemory>
     requires written { IsTrue (list_all batch_written batches.now) }
-    ensures fact { IsTrue result → BatchFacts batches.now }
-    ensures back { BatchFacts batches.now → IsTrue result }
+    ensures fact { IfOk result (λ good. IsTrue good → BatchFacts batches.now) }
+    ensures back { IfOk result (λ good. BatchFacts batches.now → IsTrue good) }
 {
     if !is_numbered(batches, 1) {
-        return false;
+        return Ok(false);
     }
     if !batches_few(batches) {
-        return false;
+        return Ok(false);
     }
-    if !batch_names_differ(batches) {
-        return false;
+    if !all_differ::<BatchName, _>(alloc, batches)? {
+        return Ok(false);
     }
-    batches_fit(batches)
+    Ok(batches_fit(batches))
 }

@@ -1,35 +1,18 @@
 // Whether rows are the fields of a matter.
 ghost use Rattle.std.specs.List.{list_all, list_any};
-ghost use Rattle.std.specs.Prelude.{IsTrue, length, nat_le, ◌≡◌};
+ghost use Rattle.std.specs.Prelude.{IfOk, IsTrue, length, nat_le, ◌≡◌};
 ghost use Rattle.std.specs.Str.{bytes_eq};
 ghost use Rattle.bp_matter.specs.Written.{field_written};
 ghost use Rattle.bp_matter.specs.ValidFields.{FieldFacts, field_fits, field_name, has_field};
-ghost use Rattle.bp_matter.specs.ValidRows.{all_differ};
 
+use super::differing::all_differ;
+use super::labels::FieldName;
 use super::numbers::is_numbered;
 use crate::limits::MAX_FIELDS;
 use crate::rows::FieldRow;
 use crate::texts::is_field_name;
-use bp_core::Text;
-
-fn has_field_names_differ(rows: &[FieldRow], text: &Text) -> bool
-    ensures { result ≡ list_any (λ other. bytes_eq (field_name other) text.now) rows.now }
-{
-    rows.iter().any(|other| other.name == *text)
-}
-
-fn field_names_differ(rows: &[FieldRow]) -> bool
-    ensures { result ≡ all_differ field_name rows.now }
-{
-    let mut rest = rows;
-    while let Some((first, others)) = rest.split_first() {
-        if has_field_names_differ(others, &first.name) {
-            return false;
-        }
-        rest = others;
-    }
-    true
-}
+use bp_core::{OutOfMemory, Text};
+use std::alloc::Global;
 
 fn fields_fit(rows: &[FieldRow]) -> bool
     ensures { result ≡ list_all field_fits rows.now }
@@ -43,21 +26,21 @@ fn fields_few(rows: &[FieldRow]) -> bool
     rows.len() <= MAX_FIELDS
 }
 
-pub(crate) fn fields_valid(fields: &[FieldRow]) -> bool
+pub(crate) fn fields_valid(alloc: Global, fields: &[FieldRow]) -> Result<bool, OutOfMemory>
     requires written { IsTrue (list_all field_written fields.now) }
-    ensures fact { IsTrue result → FieldFacts fields.now }
-    ensures back { FieldFacts fields.now → IsTrue result }
+    ensures fact { IfOk result (λ good. IsTrue good → FieldFacts fields.now) }
+    ensures back { IfOk result (λ good. FieldFacts fields.now → IsTrue good) }
 {
     if !is_numbered(fields, 1) {
-        return false;
+        return Ok(false);
     }
     if !fields_few(fields) {
-        return false;
+        return Ok(false);
     }
-    if !field_names_differ(fields) {
-        return false;
+    if !all_differ::<FieldName, _>(alloc, fields)? {
+        return Ok(false);
     }
-    fields_fit(fields)
+    Ok(fields_fit(fields))
 }
 
 pub(crate) fn has_field(fields: &[FieldRow], name: &Text) -> bool

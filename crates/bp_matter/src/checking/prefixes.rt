@@ -1,34 +1,17 @@
 // Whether rows are the prefixes of a matter, and which numbers stand under them.
 ghost use Rattle.std.specs.List.{list_all, list_any};
-ghost use Rattle.std.specs.Prelude.{IsTrue, Some, ◌≡◌};
+ghost use Rattle.std.specs.Prelude.{IfOk, IsTrue, Some, ◌≡◌};
 ghost use Rattle.std.specs.Str.{bytes_eq};
 ghost use Rattle.bp_matter.specs.Written.{prefix_written};
 ghost use Rattle.bp_matter.specs.ValidPrefixes.{PrefixFacts, after_items, after_productions, is_number, is_under, is_used, prefix_fits, prefix_text, spans_reach};
-ghost use Rattle.bp_matter.specs.ValidRows.{all_differ};
 
+use super::differing::all_differ;
+use super::labels::PrefixText;
 use super::numbers::is_numbered;
 use crate::rows::{Item, PrefixRow, ProductionRow};
 use bp_bates::{good_prefix, largest};
-use bp_core::Text;
-
-fn has_prefix_texts_differ(rows: &[PrefixRow], text: &Text) -> bool
-    ensures { result ≡ list_any (λ other. bytes_eq (prefix_text other) text.now) rows.now }
-{
-    rows.iter().any(|other| other.prefix.text == *text)
-}
-
-fn prefix_texts_differ(rows: &[PrefixRow]) -> bool
-    ensures { result ≡ all_differ prefix_text rows.now }
-{
-    let mut rest = rows;
-    while let Some((first, others)) = rest.split_first() {
-        if has_prefix_texts_differ(others, &first.prefix.text) {
-            return false;
-        }
-        rest = others;
-    }
-    true
-}
+use bp_core::{OutOfMemory, Text};
+use std::alloc::Global;
 
 fn prefix_fits(row: &PrefixRow) -> bool
     ensures { result ≡ prefix_fits row.now }
@@ -116,22 +99,26 @@ fn prefixes_reach(productions: &[ProductionRow], rows: &[PrefixRow]) -> bool
     rows.iter().all(|row| is_number(after_productions(&row.prefix.text, productions), row.next))
 }
 
-pub(crate) fn prefixes_valid(productions: &[ProductionRow], prefixes: &[PrefixRow]) -> bool
+pub(crate) fn prefixes_valid(
+    alloc: Global,
+    productions: &[ProductionRow],
+    prefixes: &[PrefixRow],
+) -> Result<bool, OutOfMemory>
     requires written { IsTrue (list_all prefix_written prefixes.now) }
-    ensures fact { IsTrue result → PrefixFacts productions.now prefixes.now }
-    ensures back { PrefixFacts productions.now prefixes.now → IsTrue result }
+    ensures fact { IfOk result (λ good. IsTrue good → PrefixFacts productions.now prefixes.now) }
+    ensures back { IfOk result (λ good. PrefixFacts productions.now prefixes.now → IsTrue good) }
 {
     if !is_numbered(prefixes, 1) {
-        return false;
+        return Ok(false);
     }
     if !prefixes_fit(prefixes) {
-        return false;
+        return Ok(false);
     }
     if !prefixes_used(productions, prefixes) {
-        return false;
+        return Ok(false);
     }
-    if !prefix_texts_differ(prefixes) {
-        return false;
+    if !all_differ::<PrefixText, _>(alloc, prefixes)? {
+        return Ok(false);
     }
-    prefixes_reach(productions, prefixes)
+    Ok(prefixes_reach(productions, prefixes))
 }

@@ -5,72 +5,38 @@ ghost use Rattle.std.specs.Str.{bytes_eq};
 ghost use Rattle.bp_core.specs.Sorted.{ascends};
 ghost use Rattle.bp_matter.specs.Written.{production_written};
 ghost use Rattle.bp_matter.specs.Matter.{doc_key, page_key};
-ghost use Rattle.bp_matter.specs.ValidProductions.{ProductionFacts, has_prefix, marked_on, production_fits, production_id, production_volume, stand_once};
-ghost use Rattle.bp_matter.specs.ValidRows.{all_differ};
+ghost use Rattle.bp_matter.specs.ValidProductions.{ProductionFacts, has_prefix, marked_on, production_fits, stand_once};
 
+use super::differing::all_differ;
 use super::items::{are_whole, items_fit};
+use super::labels::{ProductionId, VolumeName};
 use super::numbers::is_numbered;
 use super::requests::request_fits;
 use crate::limits::MAX_PRODUCTIONS;
 use crate::rows::{DocRow, FieldRow, Item, PageRow, PrefixRow, ProductionRow};
-use bp_core::{OutOfMemory, Text};
+use bp_core::OutOfMemory;
 use std::alloc::Global;
 
-fn has_ids_differ(rows: &[ProductionRow], text: &Text) -> bool
-    ensures { result ≡ list_any (λ other. bytes_eq (production_id other) text.now) rows.now }
-{
-    rows.iter()
-        .any(|other| other.production.request.id == *text)
-}
-
-fn ids_differ(rows: &[ProductionRow]) -> bool
-    ensures { result ≡ all_differ production_id rows.now }
-{
-    let mut rest = rows;
-    while let Some((first, others)) = rest.split_first() {
-        if has_ids_differ(others, &first.production.request.id) {
-            return false;
-        }
-        rest = others;
-    }
-    true
-}
-
-fn has_volumes_differ(rows: &[ProductionRow], text: &Text) -> bool
-    ensures { result ≡ list_any (λ other. bytes_eq (production_volume other) text.now) rows.now }
-{
-    rows.iter()
-        .any(|other| other.production.request.volume == *text)
-}
-
-fn volumes_differ(rows: &[ProductionRow]) -> bool
-    ensures { result ≡ all_differ production_volume rows.now }
-{
-    let mut rest = rows;
-    while let Some((first, others)) = rest.split_first() {
-        if has_volumes_differ(others, &first.production.request.volume) {
-            return false;
-        }
-        rest = others;
-    }
-    true
-}
-
 fn production_fits(
+    alloc: Global,
     fields: &[FieldRow],
     docs: &[DocRow],
     pages: &[PageRow],
     row: &ProductionRow,
-) -> bool
+) -> Result<bool, OutOfMemory>
     requires docs { IsTrue (ascends doc_key 0 docs.now) }
     requires pages { IsTrue (ascends page_key 0 pages.now) }
-    ensures { result ≡ production_fits fields.now docs.now pages.now row.now }
+    ensures { IfOk result (λ fits. fits ≡ production_fits fields.now docs.now pages.now row.now) }
 {
+    if !request_fits(alloc, fields, docs.len(), &row.production.request)? {
+        return Ok(false);
+    }
     let items = row.production.items.as_slice();
-    request_fits(fields, docs.len(), &row.production.request)
-        && !row.production.items.is_empty()
-        && items_fit(fields.len(), docs, pages, items)
-        && are_whole(docs, items)
+    Ok(
+        !row.production.items.is_empty()
+            && items_fit(fields.len(), docs, pages, items)
+            && are_whole(docs, items),
+    )
 }
 
 fn same_prefix(kept: &PrefixRow, row: &ProductionRow) -> bool
@@ -89,17 +55,25 @@ fn has_prefix(prefixes: &[PrefixRow], row: &ProductionRow) -> bool
 }
 
 fn productions_fit(
+    alloc: Global,
     fields: &[FieldRow],
     docs: &[DocRow],
     pages: &[PageRow],
     rows: &[ProductionRow],
-) -> bool
+) -> Result<bool, OutOfMemory>
     requires docs { IsTrue (ascends doc_key 0 docs.now) }
     requires pages { IsTrue (ascends page_key 0 pages.now) }
-    ensures { result ≡ list_all (production_fits fields.now docs.now pages.now) rows.now }
+    ensures { IfOk result (λ fit. fit
+        ≡ list_all (production_fits fields.now docs.now pages.now) rows.now) }
 {
-    rows.iter()
-        .all(|row| production_fits(fields, docs, pages, row))
+    let mut rest = rows;
+    while let Some((first, others)) = rest.split_first() {
+        if !production_fits(alloc, fields, docs, pages, first)? {
+            return Ok(false);
+        }
+        rest = others;
+    }
+    Ok(true)
 }
 
 fn prefixes_kept(prefixes: &[PrefixRow], rows: &[ProductionRow]) -> bool
@@ -177,16 +151,16 @@ pub(crate) fn productions_valid(
     if !productions_few(productions) {
         return Ok(false);
     }
-    if !ids_differ(productions) {
+    if !all_differ::<ProductionId, _>(alloc, productions)? {
         return Ok(false);
     }
-    if !volumes_differ(productions) {
+    if !all_differ::<VolumeName, _>(alloc, productions)? {
         return Ok(false);
     }
     if !prefixes_kept(prefixes, productions) {
         return Ok(false);
     }
-    if !productions_fit(fields, docs, pages, productions) {
+    if !productions_fit(alloc, fields, docs, pages, productions)? {
         return Ok(false);
     }
     stand_once(alloc, docs.len(), productions)

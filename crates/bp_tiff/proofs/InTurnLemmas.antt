@@ -16,7 +16,7 @@ use Rattle.bp_tiff.specs.Layout.{IsLaid}
 use Rattle.bp_tiff.specs.Pixels.{packed_values, inked, CodedHolds, PackedHolds}
 use Rattle.bp_tiff.specs.Read.{Breaks, StripsHold, StripsBreak, strip_bytes, strip_rows}
 use Rattle.bp_t6.specs.Strips.{AppendsLines}
-use Rattle.bp_tiff.specs.Appending.{kept_fill, lines_in, AppendsStrip, rows_before, HasRead}
+use Rattle.bp_tiff.specs.Appending.{kept_fill, lines_in, AppendsStrip, rows_before, HasRead, HoldsAll}
 use Rattle.bp_tiff.proofs.JoinedLemmas.{values_of_front, values_joined, inked_joined, values_packed}
 
 -- ---- how many
@@ -112,3 +112,9 @@ all_held bytes l k out laid last before =
     let Q : List (List Bool) → Type 0 = λ ls. StripsHold bytes l l.strips.count 0 ls in
     subst Q (append-nil (lines_in l (rows_before l k) out) ∙ ap (λ q. lines_in l q out) (rows_all bytes l k laid last))
     (before.holds [] (subst P (sym none) refl))
+
+pub all_rows : (bytes : List ℕ) (l : Layout) (k : ℕ) (out : List ℕ) → IsLaid bytes l → k ≡ l.strips.count → HasRead bytes l k out → HoldsAll bytes l out
+all_rows bytes l k out laid last before = record {
+  long = before.long ∙ ap (λ q. q * row_bytes l.sides.width) (rows_all bytes l k laid last);
+  holds = all_held bytes l k out laid last before;
+}

@@ -8,6 +8,7 @@ pub mod PageRuleLemmas
 pub mod ReadBackLemmas
 pub mod ReadExamples
 pub mod SomeAnswerLemmas
+pub mod StandingLemmas
 mod StripExamples
 pub mod TurnedLemmas
 pub mod WrittenLayoutLemmas

@@ -1,4 +1,5 @@
--- Carries "at most one reading or one fault" from the strips of T.6 over to those of a file, and to the file.
+-- Carries "at most one reading or one fault" from the strips of T.6 over to those of a file, and to
+-- the file.
 use Rattle.std.proofs.Common.{ℕ, zero, suc, ◌≡◌, ◌+◌, inl, inr, Bool, true, false, List, ◌++◌, Result, Ok, Err, IfOk, IfErr, sym, ap, subst, ◌∙◌, arith}
 use Rattle.bp_codes.specs.Bits.{bits_of}
 use Rattle.bp_core.specs.declared.rules.Rule.{Rule}
@@ -199,7 +200,8 @@ OneAnswer =
     → TiffAnswers bytes second
     → first ≡ second
 
--- a reader whose pages are held by the bytes, and whose rules are broken by them, gives their answer
+-- a reader whose pages are held by the bytes, and whose rules are broken by them, gives their
+-- answer
 pub exactly :
     OneAnswer
     → (bytes : List ℕ) (result : Result Image Refusal)

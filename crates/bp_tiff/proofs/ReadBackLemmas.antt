@@ -1,4 +1,5 @@
--- Carries the layout of a written file over to the page that is read in it, which is the one written.
+-- Carries the layout of a written file over to the page that is read in it, which is the one
+-- written.
 use Rattle.std.proofs.Common.{ℕ, ◌≡◌, ◌-◌, ◌*◌, ◌^◌, ◌<◌, ◌≤◌, min, Bool, List, [], ◌++◌, length, take, Ok, refl, sym, ap, subst, ◌∙◌, arith, append-nil}
 use Rattle.std.specs.Prelude.{◌↔◌}
 use Rattle.std.proofs.lemmas.List.{take_all}

@@ -1,4 +1,5 @@
--- Carries "some reading or some fault" from the strips of T.6 over to those of a file, and to the file.
+-- Carries "some reading or some fault" from the strips of T.6 over to those of a file, and to the
+-- file.
 use Rattle.std.proofs.Common.{ℕ, zero, suc, ◌≡◌, ◌+◌, ◌*◌, ◌⊎◌, inl, inr, Bool, true, false, List, [], ◌++◌, length, Result, Ok, Err, refl}
 use Rattle.std.proofs.lemmas.Bool.{cases_lt}
 use Rattle.bp_codes.specs.Bits.{bits_of}

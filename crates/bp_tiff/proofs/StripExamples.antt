@@ -1,4 +1,5 @@
--- What strips hold, under both orders of bits, and the page of the stranger's file; run by the check.
+-- What strips hold, under both orders of bits, and the page of the stranger's file; run by the
+-- check.
 use Rattle.std.proofs.Common.{ℕ, ◌≡◌, Bool, true, false, List, [], ◌∷◌, drop, replicate, refl, arith}
 use Rattle.bp_codes.specs.declared.span.Fill.TheVariants.{High, Low}
 use Rattle.bp_codes.specs.Bits.{bits_of}

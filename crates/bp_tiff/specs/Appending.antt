@@ -1,5 +1,5 @@
 -- The rows that a reader has put one behind another.
-use Rattle.std.specs.Prelude.{ℕ, ◌*◌, ◌-◌, ◌≡◌, min, true, false, List, ◌++◌, length}
+use Rattle.std.specs.Prelude.{ℕ, ◌*◌, ◌-◌, ◌≡◌, min, true, false, List, ◌++◌, length, take, drop}
 use Rattle.bp_codes.specs.declared.span.Fill.{Fill}
 use Rattle.bp_codes.specs.declared.span.Fill.TheVariants.{High}
 use Rattle.bp_core.specs.declared.rules.Rule.{Rule}
@@ -29,8 +29,8 @@ pub record AppendsStrip (bytes : List ℕ) (l : Layout) (k : ℕ) (old new : Lis
 abbrev pub rows_before : Layout → ℕ → ℕ
 rows_before l k = min (k * l.strips.rows) l.sides.height
 
--- the strips before strip k were read: with what the others hold, all is held, and a rule that one of
--- the others breaks first is the first
+-- the strips before strip k were read: with what the others hold, all is held, and a rule that one
+-- of the others breaks first is the first
 pub record HasRead (bytes : List ℕ) (l : Layout) (k : ℕ) (out : List ℕ) : Type 0 where
   pub long : length out ≡ rows_before l k * row_bytes l.sides.width
   pub holds : (rest : Lines)
@@ -39,3 +39,12 @@ pub record HasRead (bytes : List ℕ) (l : Layout) (k : ℕ) (out : List ℕ) : 
   pub breaks : (rule : Rule)
       → StripsBreak bytes l (l.strips.count - k) k rule
       → StripsBreak bytes l l.strips.count 0 rule
+
+-- packed rows that hold what all strips hold
+pub record HoldsAll (bytes : List ℕ) (l : Layout) (rows : List ℕ) : Type 0 where
+  pub long : length rows ≡ l.sides.height * row_bytes l.sides.width
+  pub holds : StripsHold bytes l l.strips.count 0 (lines_in l l.sides.height rows)
+
+-- so many packed rows as stand in the file from a place on
+abbrev pub rows_from : List ℕ → Layout → ℕ → ℕ → List ℕ
+rows_from bytes l at rows = take (rows * row_bytes l.sides.width) (drop at bytes)

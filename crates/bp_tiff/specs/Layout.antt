@@ -1,5 +1,5 @@
 -- What a file says of its page beside the pixels: the table of its tags, in the order in which they
--- are refused (TIFF 6.0, section 8).
+-- are refused (TIFF 6.0, section 8; of Compression 4, section 11).
 use Rattle.std.specs.Prelude.{ℕ, zero, suc, ◌+◌, ◌-◌, ◌/◌, ◌<◌, ◌≡◌, Bool, true, Some, None, Result, Ok, List, [], ◌∷◌, length, ◌==◌, ◌&&◌, ◌||◌, nat_le, nat_lt, IsTrue, if◌then◌else◌}
 use Rattle.std.specs.Option.{ok_or}
 use Rattle.bp_codes.specs.declared.span.Fill.TheVariants.{High, Low}
@@ -18,7 +18,7 @@ use Rattle.bp_tiff.specs.Rules.{◌>>=◌, require, tiff_bounds, tiff_meaning, t
 use Rattle.bp_tiff.specs.Units.{unit_of}
 use Rattle.bp_tiff.specs.Values.{number_of, number_among, values_of, value_at, resolution_of, HasValues}
 
--- both sides are read first
+-- section 8, ImageWidth, ImageLength: both sides are read first
 unfoldable pub sides_of : List ℕ → Directory → Result Sides Rule
 sides_of bytes d = do
   width ← number_of bytes d tags.IMAGE_WIDTH None
@@ -26,14 +26,15 @@ sides_of bytes d = do
   _ ← require (sides_are_allowed width height) (page_limit_rule width height)
   Ok (record { width = width; height = height })
 
--- none, or T.6
+-- section 8, Compression 1: none; section 11, Compression 4: ITU-T T.6
 abbrev pub compression_of : List ℕ → Directory → Result Bool Rule
 compression_of bytes d = do
   value ← number_of bytes d tags.COMPRESSION None
   _ ← require (value == 1 || value == 4) (tiff_compression value)
   Ok (value == 4)
 
--- one bit a pixel from the top left; which value is black, and which bit of a byte is the first
+-- section 8, BitsPerSample to FillOrder: one bit a pixel from the top left; which value is black, and
+-- which bit of a byte is the first
 unfoldable pub coding_of : List ℕ → Directory → Result Coding Rule
 coding_of bytes d = do
   _ ← number_among bytes d tags.BITS_PER_SAMPLE (Some 1) (1 ∷ [])
@@ -48,11 +49,11 @@ coding_of bytes d = do
     fill = if order == 2 then Low else High;
   })
 
--- the rows divided by those of a strip, rounded up
+-- section 8, RowsPerStrip: the rows divided by those of a strip, rounded up
 abbrev pub strips_due : ℕ → ℕ → ℕ
 strips_due height per_strip = (height + per_strip - 1) / per_strip
 
--- without RowsPerStrip there is one strip
+-- section 8, RowsPerStrip, StripOffsets, StripByteCounts: without the first there is one strip
 unfoldable pub strips_of : List ℕ → Directory → ℕ → Result Strips Rule
 strips_of bytes d height = do
   per_strip ← number_of bytes d tags.ROWS_PER_STRIP (Some tags.ALL_ROWS)
@@ -62,7 +63,7 @@ strips_of bytes d height = do
   lengths ← values_of bytes d tags.STRIP_BYTE_COUNTS due
   Ok (record { rows = per_strip; count = due; offsets = offsets; lengths = lengths })
 
--- the resolutions, and their unit, which is an inch where nothing is said
+-- section 8, XResolution, YResolution, ResolutionUnit: an inch where nothing is said
 unfoldable pub scale_of : List ℕ → Directory → Result Scale Rule
 scale_of bytes d = do
   xres ← resolution_of bytes d tags.X_RESOLUTION

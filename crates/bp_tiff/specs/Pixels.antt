@@ -1,4 +1,4 @@
--- The pixels that a strip holds (TIFF 6.0, sections 3 and 8), or the rule that it breaks.
+-- The pixels that a strip holds (TIFF 6.0, sections 8 and 11), or the rule that it breaks.
 use Rattle.std.specs.Prelude.{ℕ, ◌≡◌, ◌*◌, ◌/◌, ◌%◌, ◌≤◌, ◌<◌, Bool, true, false, not, List, length, map, slice_index, ◌==◌, if◌then◌else◌}
 use Rattle.std.specs.Int.{bit_at}
 use Rattle.bp_codes.specs.declared.span.Fill.{Fill}
@@ -34,13 +34,13 @@ inked zero_is_black values = if zero_is_black then map (map not) values else val
 
 -- ---- the lines of a strip
 
--- Compression 4: those that ITU-T T.6 reads
+-- section 11, Compression 4: those that ITU-T T.6 reads
 pub record CodedHolds (c : Coding) (width rows : ℕ) (strip : List ℕ) (lines : Lines) : Type 0 where
   pub values : List (List Bool)
   pub reads : StripReads (bits_of c.fill strip) width rows values
   pub means : lines ≡ inked c.zero_is_black values
 
--- Compression 1: the bits past the width, and the bytes past the rows, are unread
+-- section 8, Compression 1: the bits past the width, and the bytes past the rows, are unread
 pub record PackedHolds (c : Coding) (width rows : ℕ) (strip : List ℕ) (lines : Lines) : Type 0 where
   pub enough : rows * row_bytes width ≤ length strip
   pub means : lines ≡ inked c.zero_is_black (packed_values c.fill width rows strip)

@@ -35,7 +35,7 @@ abbrev pub head_of : Form → Fields → ℕ → List ℕ
 head_of form f strip_bytes =
     header ++ directory (entries form f strip_bytes) ++ rational f.xres ++ rational f.yres
 
--- section 3, Compression 1: packed rows; Compression 4: the codes of ITU-T T.6
+-- section 8, Compression 1: packed rows; section 11, Compression 4: the codes of ITU-T T.6
 abbrev pub strip_of : Form → Image → List ℕ
 strip_of Plain p = packed_rows p.rows
 strip_of G4 p = t6_strip p

@@ -14,7 +14,7 @@ use Rattle.bp_tiff.specs.Rules.{◌>>=◌, require, tiff_bounds, tiff_missing, t
 
 -- ---- one value
 
--- a type of numbers
+-- section 2, Types: one of a number
 abbrev pub is_number : ℕ → Bool
 is_number kind = kind == tags.SHORT || kind == tags.LONG
 
@@ -74,7 +74,7 @@ value_at bytes d v k =
 abbrev pub two_hundred : Res
 two_hundred = record { num = 200; den = 1 }
 
--- one RATIONAL
+-- section 2, RATIONAL: one of them
 abbrev pub resolution_in : List ℕ → Directory → ℕ → FoundEntry → Result Res Rule
 resolution_in bytes d tag e = do
   _ ← require (e.kind == tags.RATIONAL && e.count == 1) (tiff_type tag)

@@ -1,6 +1,6 @@
 // The forms in which a page file is written.
 
-/// How the strip of a page file holds the pixels (TIFF 6.0, section 3, Compression).
+/// How the strip of a page file holds the pixels (TIFF 6.0, section 8, Compression).
 #[derive(Clone, Copy, Debug, PartialEq, Eq)]
 pub enum Form {
     /// Packed rows, without compression (Compression 1).

@@ -66,8 +66,8 @@ pub struct Layout {
 
 /// All that a file of one bilevel page says of it beside the pixels. It takes no memory.
 ///
-/// `bytes` are the whole file (TIFF 6.0, sections 2 and 8). The first entry of a tag counts, and tags
-/// that aren't named here are skipped. The answer is the first of these rules that is broken:
+/// `bytes` are the whole file (TIFF 6.0, sections 2, 8 and 11). The first entry of a tag counts, and
+/// tags that aren't named here are skipped. The answer is the first of these rules that is broken:
 /// - TiffHead: fewer than 8 bytes, neither `II` nor `MM`, or not 42;
 /// - TiffBounds with 0: the directory leaves the file; TiffManyPages: another one follows;
 /// - of ImageWidth and ImageLength: PageLimit with both, where a page can't have these sides;
@@ -83,8 +83,8 @@ pub struct Layout {
 ///
 /// Before the value of a tag is looked at: TiffMissing where it has no entry and can't be left out,
 /// TiffType where its type isn't one that it may have or, besides the strips' tags, its count isn't
-/// 1, and TiffBounds where its values leave the file, of the strips' tags after TiffStrips. These and
-/// TiffMeaning name the tag.
+/// 1, and TiffBounds where its values leave the file, of the strips' tags after TiffStrips. These
+/// and TiffMeaning name the tag.
 #[tactic(auto, unfolding(crate::specs::Layout::layout_of))]
 pub fn read_layout(bytes: &[u8]) -> Result<Layout, Rule>
     ensures gives { result ≡ layout_of bytes.now }

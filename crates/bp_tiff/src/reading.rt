@@ -1,28 +1,31 @@
 // Page files read.
-ghost use Rattle.std.specs.Prelude.{◌≡◌, ℕ, ◌+◌, ◌*◌, ◌≤◌, ◌<◌, not, true, false, Result, length, IsTrue, IfOk, IfErr, if◌then◌else◌};
+ghost use Rattle.std.specs.Prelude.{◌≡◌, ℕ, ◌+◌, ◌*◌, ◌≤◌, ◌<◌, [], not, true, false, Result, length, min, take, drop, IsTrue, IfOk, IfErr, if◌then◌else◌};
+ghost use Rattle.std.specs.Vec.{vec_capacity};
 ghost use Rattle.bp_codes.specs.declared.span.Fill.TheVariants.{High, Low};
 ghost use Rattle.bp_core.specs.declared.rules.Rule.{Rule};
 ghost use Rattle.bp_rows.specs.Bits.{row_bytes};
 ghost use Rattle.bp_rows.specs.Image.{Image};
 ghost use Rattle.bp_rows.specs.Limits.{sides_are_allowed};
 ghost use Rattle.bp_core.specs.Answers.{Answers, IfRule};
-ghost use Rattle.bp_tiff.specs.Appending.{kept_fill, lines_in};
+ghost use Rattle.bp_tiff.specs.Appending.{HoldsAll, kept_fill, lines_in};
+ghost use Rattle.bp_tiff.specs.Layout.{IsLaid};
 ghost use Rattle.bp_tiff.specs.PageRules.{IsPageRule};
 ghost use Rattle.bp_tiff.specs.Pixels.{value_in, packed_values};
-ghost use Rattle.bp_tiff.specs.Read.{page_of, TiffReads, TiffFault, TiffAnswers};
+ghost use Rattle.bp_tiff.specs.Read.{page_of, StripsBreak, TiffReads, TiffFault, TiffAnswers};
 
 use crate::laws::one_answer;
 use crate::layout::{Coding, Layout, read_layout};
 use crate::passes::{invert_bytes, reverse_bytes};
+use crate::standing::place_of_rows;
 use crate::strips::put_strips;
 use bp_codes::Fill;
-use bp_core::Refusal;
+use bp_core::{OutOfMemory, Refusal};
 use bp_rows::{Page, bytes_of_strip};
 use std::alloc::Global;
 
 /// The page of a file of one bilevel page, plain or in Group 4 (TIFF 6.0, sections 2, 3, 8 and 11;
-/// ITU-T T.6), or the first rule that the bytes break: those of `read_layout` in their order, then the
-/// first strip that is too short (TiffStrips) or whose codes break a rule of T.6, with the row,
+/// ITU-T T.6), or the first rule that the bytes break: those of `read_layout` in their order, then
+/// the first strip that is too short (TiffStrips) or whose codes break a rule of T.6, with the row,
 /// counted from 0 in the page, and the bit, from 0 in the strip.
 ///
 /// Memory is taken for the page alone, once its sides and the places of its strips were tested, and
@@ -45,6 +48,19 @@ pub fn read_tiff(alloc: Global, bytes: &[u8]) -> Result<Page, Refusal>
     read(alloc, bytes)
 }
 
+/// The same of a file that is handed over: where its rows stand in it without compression and one
+/// behind another, they become the page's in the memory that the file had, and none is taken.
+pub fn take_tiff(alloc: Global, file: Vec<u8>) -> Result<Page, Refusal>
+    ensures found { IfOk result (λ p. TiffReads file.items p) }
+    ensures refused { IfErr result (IfRule (TiffFault file.items)) }
+    ensures kind { IfErr result (IfRule (λ rule. IsPageRule rule.kind)) }
+    ensures exact { (answer : Result Image Rule) → TiffAnswers file.items answer
+        → Answers (λ p. p) result answer }
+{
+    one_answer();
+    take_over(alloc, file)
+}
+
 fn read(alloc: Global, bytes: &[u8]) -> Result<Page, Refusal>
     ensures found { IfOk result (λ p. TiffReads bytes.now p) }
     ensures refused { IfErr result (IfRule (TiffFault bytes.now)) }
@@ -53,21 +69,77 @@ fn read(alloc: Global, bytes: &[u8]) -> Result<Page, Refusal>
         Ok(layout) => layout,
         Err(rule) => return Err(Refusal::Rule(rule)),
     };
-    let mut rows = Vec::with_capacity(alloc, bytes_at_first(bytes, &layout))?;
-    if let Err(refusal) = put_strips(alloc, bytes, &layout, &mut rows) {
-        return Err(refusal);
+    match rows_in(alloc, bytes, &layout) {
+        Ok(rows) => Ok(page_of_rows(&layout, rows)),
+        Err(refusal) => Err(refusal),
     }
-    Ok(page_of_rows(&layout, rows))
 }
 
-// How many bytes memory is taken for at first. A row has a bit of the file at least, though strips may
-// overlap, so a short file that names many rows takes little.
-fn bytes_at_first(bytes: &[u8], layout: &Layout) -> usize {
-    let rows = bytes
-        .len()
+fn take_over(alloc: Global, file: Vec<u8>) -> Result<Page, Refusal>
+    ensures found { IfOk result (λ p. TiffReads file.items p) }
+    ensures refused { IfErr result (IfRule (TiffFault file.items)) }
+{
+    let layout = match read_layout(&file) {
+        Ok(layout) => layout,
+        Err(rule) => return Err(Refusal::Rule(rule)),
+    };
+    match rows_of(alloc, file, &layout) {
+        Ok(rows) => Ok(page_of_rows(&layout, rows)),
+        Err(refusal) => Err(refusal),
+    }
+}
+
+// The packed rows of all strips.
+fn rows_in(alloc: Global, bytes: &[u8], layout: &Layout) -> Result<Vec<u8>, Refusal>
+    requires { IsLaid bytes.now layout.now }
+    ensures found { IfOk result (λ rows. HoldsAll bytes.now layout.now rows.items) }
+    ensures refused { let l = layout.now in
+        IfErr result (IfRule (StripsBreak bytes.now l l.strips.count 0)) }
+{
+    let mut rows = empty_rows(alloc, bytes.len(), layout)?;
+    match put_strips(alloc, bytes, layout, &mut rows) {
+        Ok(()) => Ok(rows),
+        Err(refusal) => Err(refusal),
+    }
+}
+
+// The same of a file that is handed over.
+fn rows_of(alloc: Global, file: Vec<u8>, layout: &Layout) -> Result<Vec<u8>, Refusal>
+    requires { IsLaid file.items layout.now }
+    ensures found { IfOk result (λ rows. HoldsAll file.items layout.now rows.items) }
+    ensures refused { let l = layout.now in
+        IfErr result (IfRule (StripsBreak file.items l l.strips.count 0)) }
+{
+    let size = bytes_of_strip(layout.sides.width, layout.sides.height);
+    match place_of_rows(&file, layout) {
+        Some(place) => Ok(part_of(file, place, size)),
+        None => rows_in(alloc, &file, layout),
+    }
+}
+
+// A part of the bytes, in their own memory.
+fn part_of(mut bytes: Vec<u8>, place: usize, size: usize) -> Vec<u8>
+    requires { place + size ≤ length bytes.items }
+    ensures { result.items ≡ take size (drop place bytes.items) }
+{
+    bytes.copy_within(place..place + size, 0);
+    bytes.truncate(size);
+    bytes
+}
+
+// No rows yet, and room for as many as the file has bits, at most for those of the page. A row has
+// a bit of the file at least, though strips may overlap, so a short file that names many rows takes
+// little.
+fn empty_rows(alloc: Global, file_bytes: usize, layout: &Layout) -> Result<Vec<u8>, OutOfMemory>
+    ensures empty { IfOk result (λ rows. rows.items ≡ []) }
+    ensures room { let count = min (8 * file_bytes) layout.now.sides.height in
+        IfOk result (λ rows. vec_capacity rows ≡ count * row_bytes layout.now.sides.width) }
+{
+    let count = file_bytes
         .saturating_mul(8)
         .min(layout.sides.height as usize);
-    bytes_of_strip(layout.sides.width, rows as u32)
+    let room = bytes_of_strip(layout.sides.width, count as u32);
+    Ok(Vec::with_capacity(alloc, room)?)
 }
 
 // The page of packed rows, as they stand in the file or as they were decoded.

@@ -2,10 +2,10 @@
 ghost use Rattle.std.specs.Prelude.{◌≡◌, ◌+◌, ◌*◌, ◌≤◌, ◌<◌, ◌^◌, ◌++◌, [], length, take, drop, OnOk, IfErr};
 ghost use Rattle.bp_rows.specs.Bits.{row_bytes};
 ghost use Rattle.bp_core.specs.Answers.{IfRule};
-ghost use Rattle.bp_tiff.specs.Appending.{AppendsStrip, HasRead, lines_in};
+ghost use Rattle.bp_tiff.specs.Appending.{AppendsStrip, HasRead, HoldsAll};
 ghost use Rattle.bp_tiff.specs.Layout.{IsLaid};
 ghost use Rattle.bp_tiff.specs.Pixels.{PackedBreaks};
-ghost use Rattle.bp_tiff.specs.Read.{Breaks, StripsHold, StripsBreak, strip_bytes, strip_rows};
+ghost use Rattle.bp_tiff.specs.Read.{Breaks, StripsBreak, strip_bytes, strip_rows};
 
 use crate::layout::Layout;
 use crate::rules::strips;
@@ -24,11 +24,7 @@ pub fn put_strips(
 ) -> Result<(), Refusal>
     requires laid { IsLaid bytes.now layout.now }
     requires empty { out.old.items ≡ [] }
-    ensures long { OnOk result (
-        length out.new.items ≡ layout.now.sides.height * row_bytes layout.now.sides.width) }
-    ensures found { let l = layout.now in
-        OnOk result (
-        StripsHold bytes.now l l.strips.count 0 (lines_in l l.sides.height out.new.items)) }
+    ensures found { OnOk result (HoldsAll bytes.now layout.now out.new.items) }
     ensures refused { let l = layout.now in
         IfErr result (IfRule (StripsBreak bytes.now l l.strips.count 0)) }
 {
@@ -88,8 +84,8 @@ fn part(bytes: &[u8], offset: usize, size: usize) -> &[u8]
     &bytes[offset..offset + size]
 }
 
-// How many rows strip k has.
-fn rows_at(layout: &Layout, k: u32) -> u32
+/// How many rows strip k has.
+pub fn rows_at(layout: &Layout, k: u32) -> u32
     requires { k * layout.now.strips.rows ≤ layout.now.sides.height }
     ensures { result ≡ strip_rows layout.now k }
 {

@@ -1,5 +1,5 @@
-// The fields of a page file by their tags (TIFF 6.0, section 8; T6Options section 11), and the types
-// of their values (section 2).
+// The fields of a page file by their tags (TIFF 6.0, section 8; T6Options section 11), and the
+// types of their values (section 2).
 
 /// The columns.
 pub const IMAGE_WIDTH: u16 = 256;

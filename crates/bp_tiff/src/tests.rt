@@ -165,6 +165,9 @@ fn check_read(rt: &impl Abort, alloc: Global, case: &Case) -> Result<(), Refusal
     assert!(rt; read.width() == case.width && read.height() == 1);
     assert!(rt; read.xres() == case.xres && read.unit() == case.unit);
     assert!(rt; read.strip() == case.strip);
+    let taken = take_tiff(alloc, bytes)?;
+    assert!(rt; taken.xres() == case.xres && taken.unit() == case.unit);
+    assert!(rt; taken.strip() == case.strip);
     Ok(())
 }
 
@@ -248,7 +251,7 @@ fn a_strangers_file_is_read(rt: HostRuntime) -> Result<(), Fail> {
 }
 
 // Packed rows in other forms: the changes of the worked plain file, its strip, and the page's.
-const FORMS: [(&[(usize, u8)], &[u8], &[u8]); 5] = [
+const FORMS: [(&[(usize, u8)], &[u8], &[u8]); 6] = [
     // the bits past the width and the bytes past the rows are unread
     (&[(18, 3), (126, 2)], &[0xBF, 0xFF], &[0xA0]),
     // the first pixel in the low bit
@@ -273,6 +276,22 @@ const FORMS: [(&[(usize, u8)], &[u8], &[u8]); 5] = [
         &[0x55, 0xAA],
         &[0xAA, 0x55],
     ),
+    // two strips of one row, the first before the second
+    (
+        &[
+            (30, 2),
+            (84, 3),
+            (86, 2),
+            (90, 186),
+            (92, 187),
+            (120, 3),
+            (122, 2),
+            (126, 1),
+            (128, 1),
+        ],
+        &[0x55, 0xAA],
+        &[0x55, 0xAA],
+    ),
 ];
 
 #[test]
@@ -281,6 +300,8 @@ fn packed_rows_of_every_form_are_read(rt: HostRuntime) -> Result<(), Fail> {
         let bytes = file(rt.alloc(), changes, strip)?;
         let page = read_tiff(rt.alloc(), &bytes)?;
         assert!(rt; page.strip() == *rows);
+        let taken = take_tiff(rt.alloc(), bytes)?;
+        assert!(rt; taken.strip() == *rows);
     }
     Ok(())
 }
@@ -340,7 +361,8 @@ const DAMAGES: [(&[(usize, u8)], RuleKind, u64, u64); 17] = [
     (&[(126, 7)], RuleKind::TiffBounds, 273, 0),
     (&[(54, 5), (55, 0x80)], RuleKind::TiffCompression, 32_773, 0),
     (&[(10, 0xFF), (11, 0)], RuleKind::TiffMissing, 256, 0),
-    // a missing tag before the next one of another type, and a wrong number of values before the unit
+    // a missing tag before the next one of another type, and a wrong number of values before the
+    // unit
     (
         &[(10, 0xFF), (11, 0), (24, 5)],
         RuleKind::TiffMissing,

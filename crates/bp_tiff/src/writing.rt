@@ -55,8 +55,8 @@ pub fn write_tiff(alloc: Global, form: Form, page: &Page) -> Result<Bytes, OutOf
     Ok(Bytes::from_vec(file))
 }
 
-/// The same file in its two parts. The strip of a plain file is lent, so a page that is written part
-/// by part isn't copied.
+/// The same file in its two parts. The strip of a plain file is lent, so a page that is written
+/// part by part isn't copied.
 pub fn tiff_parts<'a>(
     alloc: Global,
     form: Form,

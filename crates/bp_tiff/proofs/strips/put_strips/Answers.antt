@@ -1,11 +1,10 @@
-use Rattle.std.proofs.Common.{◌*◌, ◌<◌, arith, subst, ap, ◌∙◌, ℕ}
+use Rattle.std.proofs.Common.{◌<◌, arith, subst, ℕ}
 use Rattle.bp_core.specs.declared.rules.Rule.{Rule}
 use Rattle.bp_core.specs.declared.refusals.Refusal.{Refusal}
 use Rattle.bp_core.specs.declared.refusals.Refusal.TheVariants as refusals
-use Rattle.bp_rows.specs.Bits.{row_bytes}
 use Rattle.bp_core.specs.Answers.{IfRule}
 use Rattle.bp_tiff.specs.Layout.{strips_due}
-use Rattle.bp_tiff.proofs.InTurnLemmas.{before_end, read_more, breaks_here, rows_all, all_held}
+use Rattle.bp_tiff.proofs.InTurnLemmas.{before_end, read_more, breaks_here, all_rows}
 use Rattle.bp_tiff.proofs.strips.put_strips.Goals as goal
 
 refused_too : (P Q : Rule → Type 0) (e : Refusal) → ((rule : Rule) → P rule → Q rule) → IfRule P e → IfRule Q e
@@ -24,11 +23,6 @@ loop-k-preserved c =
     read_more c.args.bytes.now l c.loop-k.k c.loop-k.out.items c.put_strip.new.out.items
     (before_end l.sides.height l.strips.rows c.loop-k.k c.requires.laid.rows due) (omega arith) c.loop-k.invariant c.in_default.ensures.found
 
-pub returns-clause-long : goal.returns-clause-long
-returns-clause-long c =
-    let l = c.args.layout.now in
-    c.loop-k.invariant.long ∙ ap (λ q. q * row_bytes l.sides.width) (rows_all c.args.bytes.now l c.loop-k.k c.requires.laid (omega arith))
-
 pub returns-clause-found : goal.returns-clause-found
 returns-clause-found c =
-    all_held c.args.bytes.now c.args.layout.now c.loop-k.k c.loop-k.out.items c.requires.laid (omega arith) c.loop-k.invariant
+    all_rows c.args.bytes.now c.args.layout.now c.loop-k.k c.loop-k.out.items c.requires.laid (omega arith) c.loop-k.invariant

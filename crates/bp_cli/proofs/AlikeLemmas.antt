@@ -1,5 +1,6 @@
--- Lemmas of outcomes: a command comes to one over a matter, and to the same over two that differ only in what it withholds.
-use Rattle.std.proofs.Common.{ℕ, ◌≡◌, ◌≤◌, Bool, true, false, cond, nat_lt, List, [], ◌∷◌, not, length, Option, Some, None, Result, Ok, Err, refl, sym, ap, subst, ◌∙◌, arith}
+-- Lemmas of outcomes: a command comes to one over a matter, and to the same over two that differ
+-- only in what it withholds.
+use Rattle.std.proofs.Common.{ℕ, ◌≡◌, ◌≤◌, Bool, true, false, cond, nat_lt, List, [], ◌∷◌, not, length, Option, Some, None, Result, Ok, Err, refl, sym, ap, subst, ◌∙◌}
 use Rattle.std.specs.FinMap as map
 use Rattle.std.proofs.lemmas.Bool.{le-ltb}
 use Rattle.bp_core.specs.declared.rectangle.Rect.{Rect}
@@ -18,7 +19,7 @@ use Rattle.bp_tiff.proofs.OneAnswerLemmas.{OneAnswer}
 use Rattle.bp_cli.specs.declared.burn.TheConstants.{FILE_LIMIT}
 use Rattle.bp_cli.specs.Endings.{Outcome, refused}
 use Rattle.bp_cli.specs.Words.{◌>>=◌}
-use Rattle.bp_cli.specs.Burn.{BurnLine, BurnPaths, HasPage, BurnAlike, lacks_a_side, burn_page, burn_read, burn_gives, paths_of, path_refused, FileAnswers, PathAnswers, BurnsAt, BurnComes}
+use Rattle.bp_cli.specs.Burn.{BurnLine, BurnPaths, HasPage, BurnAlike, lacks_a_side, burn_page, burn_read, burn_gives, paths_of, path_refused, FileAnswers, PathAnswers, BurnsAt}
 use Rattle.bp_cli.specs.Commands.{CommandLine, Matter, burn, AlikeFor, ComesTo}
 
 -- ---- one outcome

@@ -1,4 +1,5 @@
--- Lemmas of arguments: from the stop that the system's answer became to what the run promises over that answer.
+-- Lemmas of arguments: from the stop that the system's answer became to what the run promises over
+-- that answer.
 use Rattle.std.proofs.Common.{ℕ, ◌≡◌, ◌↔◌, ◌<◌, List, [], ◌∷◌, ◌++◌, length, drop, Option, Some, None, Ok, Err, ap, subst, inr, arith}
 use Rattle.std.specs.Prelude.{IsSome, option_to_list}
 use Rattle.std.proofs.lemmas.Bool.{false≢true}

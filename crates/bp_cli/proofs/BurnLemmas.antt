@@ -1,5 +1,6 @@
--- Lemmas of burn: from what a read of IN and the putting of the file gave to the outcome of the command.
-use Rattle.std.proofs.Common.{ℕ, ◌≡◌, ◌<◌, ◌≤◌, ◌+◌, Bool, true, false, cond, not, nat_lt, List, [], ◌∷◌, length, replicate, Option, Some, None, Result, Ok, Err, refl, sym, ap, subst, ◌∙◌, arith}
+-- Lemmas of burn: from what a read of IN and the putting of the file gave to the outcome of the
+-- command.
+use Rattle.std.proofs.Common.{ℕ, ◌≡◌, ◌<◌, ◌≤◌, ◌+◌, Bool, true, false, cond, not, List, [], ◌∷◌, length, replicate, Option, Some, None, Result, Ok, Err, refl, sym, ap, subst, ◌∙◌, arith}
 use Rattle.std.specs.Prelude.{IfSome, IsSomeAnd}
 use Rattle.std.specs.Result.{IsErr, IsErrAnd}
 use Rattle.std.specs.Ordering.{nat_cmp, eq_by_cmp}
@@ -14,14 +15,13 @@ use Rattle.bp_core.specs.Rectangle.{lies_inside}
 use Rattle.bp_core.specs.Rules.{bare_rule, page_limit_rule}
 use Rattle.bp_rows.specs.Image.{Image}
 use Rattle.bp_rows.specs.Burned.{burned}
-use Rattle.bp_tiff.specs.Tiff.{tiff_of}
 use Rattle.bp_tiff.specs.PageRules.{IsPageRule}
 use Rattle.bp_tiff.specs.PageRules as page
 use Rattle.bp_tiff.specs.Read.{TiffReads, TiffFault, TiffAnswers}
 use Rattle.std.specs.Option.{ok_or}
 use Rattle.bp_core.specs.Answers.{Answers, IfRule}
 use Rattle.bp_outside.specs.Source.{FileMap, SourceView, ReadOver, after_read}
-use Rattle.bp_outside.specs.Folder.{FolderView, PutsPart, after_refusal, file, with_file}
+use Rattle.bp_outside.specs.Folder.{FolderView, PutsPart, after_refusal, file}
 use Rattle.bp_outside.specs.declared.refusals.ReadRefusal.{ReadRefusal}
 use Rattle.bp_outside.specs.declared.refusals.ReadRefusal.TheVariants as reads
 use Rattle.bp_outside.specs.declared.refusals.FolderRefusal.{FolderRefusal}

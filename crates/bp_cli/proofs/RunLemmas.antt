@@ -1,4 +1,5 @@
--- Lemmas of a run: every promise, from how its work ended and what was printed. No command is named.
+-- Lemmas of a run: every promise, from how its work ended and what was printed. No command is
+-- named.
 use Rattle.std.proofs.Common.{ℕ, ◌≡◌, Bool, true, false, List, [], ◌∷◌, Option, Some, None, Ok, Err, refl, sym, ap, subst, ◌∙◌, arith, inl, inr, ◌⊎◌}
 use Rattle.std.specs.Prelude.{IfSome}
 use Rattle.bp_core.specs.declared.rules.Rule.{Rule}
@@ -87,7 +88,8 @@ told_outcome c before outcome matter told is =
 not_both : (line : List ℕ) (rows : List FileRow) (rule : Rule) → outcomes.done line rows ≡ outcomes.refused rule → ⊥
 not_both line rows rule same = cc
 
--- where a rule is met over a told matter, and the source didn't fail, the work ends by a rule or for want of memory
+-- where a rule is met over a told matter, and the source didn't fail, the work ends by a rule or
+-- for want of memory
 met_ending : OneOutcome → (c : CommandLine) (before after : World) (matter : Matter) (rule : Rule) (e : Ending) → before.source.files ≡ Some matter.files → ComesTo c matter (outcomes.refused rule) → (Rose before.source.faults after.source.faults → ⊥) → Works (Some c) before e after → (status_of e ≡ 2) ⊎ (status_of e ≡ 6)
 met_ending one c before after matter rule (Ok line) told met calm worked =
     absurd (not_both line worked.files rule (one c matter _ _ (told_outcome c before (outcomes.done line worked.files) matter told worked.outcome) met))
@@ -238,7 +240,8 @@ module _ (command : Option CommandLine) (before after : Outside) (status : ℕ) 
       let r = run_refused refused in
       refused_gives one c before after matter outcome r.0 asks.told comes (subst (λ (o : Option CommandLine). Works o before.world (Err (stops.Broken r.0)) after.world) asks.words r.1.worked) r.1.printed
 
--- where two matters differ only in what the command withholds, the outcome of one is that of the other
+-- where two matters differ only in what the command withholds, the outcome of one is that of the
+-- other
 abbrev pub TwoMatters : Type 0
 TwoMatters = (c : CommandLine) (matter matter' : Matter) (outcome : Outcome) → AlikeFor c matter matter' → ComesTo c matter' outcome → ComesTo c matter outcome
 

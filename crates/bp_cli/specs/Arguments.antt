@@ -40,8 +40,8 @@ pub record StopsAtOnce (stop : Stop) (before after : Outside) (status : ℕ) : T
   pub world : after.world ≡ before.world
   pub printed : Prints (text_of (Err stop)) (status_of (Err stop)) before.out after.out status
 
--- what a run promises over the system's answer: what it promises of the words, unless memory to take
--- them lacked; or that it stopped at once
+-- what a run promises over the system's answer: what it promises of the words, unless memory to
+-- take them lacked; or that it stopped at once
 abbrev pub RunsArguments : Answer → Outside → Outside → ℕ → Type 0
 RunsArguments (Ok arguments) before after status =
     Runs (command_of (word_bytes (words_after_name arguments))) before after status

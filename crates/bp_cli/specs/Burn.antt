@@ -88,8 +88,8 @@ path_refused = bare_rule kinds.PathRefused
 abbrev pub lacks_a_side : Rect → Bool
 lacks_a_side area = area.width == 0 || area.height == 0
 
--- the page with the box burned, or the first rule: its sides are within the limits of an import, and
--- the box has sides and lies inside
+-- the page with the box burned, or the first rule: its sides are within the limits of an import,
+-- and the box has sides and lies inside
 abbrev pub burn_page : Rect → Image → Result Image Rule
 burn_page area p =
     if not (sides_are_imported p.width p.height) then Err (page_limit_rule p.width p.height)

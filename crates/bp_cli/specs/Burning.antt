@@ -1,9 +1,7 @@
 -- What the steps of burn leave, one behind the other.
 use Rattle.std.specs.Prelude.{ℕ, ◌≡◌, List, length, Option, Some, None, Result, Ok, Err, false}
-use Rattle.std.specs.Str.{chars}
 use Rattle.bp_core.specs.declared.rectangle.Rect.{Rect}
 use Rattle.bp_core.specs.declared.rules.Rule.{Rule}
-use Rattle.bp_core.specs.declared.rules.RuleKind.{RuleKind}
 use Rattle.bp_outside.specs.Folder.{FolderView, PutsPart, with_file}
 use Rattle.bp_outside.specs.Source.{SourceView}
 use Rattle.bp_rows.specs.Image.{Image}

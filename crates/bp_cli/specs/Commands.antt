@@ -1,5 +1,5 @@
--- The commands of the program, by their words, and what each comes to. A command has its own room; this
--- page is the table of them.
+-- The commands of the program, by their words, and what each comes to. A command has its own room;
+-- this page is the table of them.
 use Rattle.std.specs.Prelude.{◌≡◌, ℕ, Option, Some, None, List, codes, Err, if◌then◌else◌, IfSome}
 use Rattle.std.specs.List.{list_any}
 use Rattle.std.specs.Option.{option_map}

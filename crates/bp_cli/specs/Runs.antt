@@ -130,7 +130,8 @@ pub record Runs (command : Option CommandLine) (before after : Outside) (status 
   -- words that are no command give 1, but for want of memory and faults of the out
   pub no_command : command ≡ None
       → IsAmong status (WORDS_REFUSED ∷ OUT_OF_MEMORY ∷ OUT_FAULT ∷ [])
-  -- a rule that is met over a told matter gives 2, but for want of memory and faults of source and out
+  -- a rule that is met over a told matter gives 2, but for want of memory and faults of source and
+  -- out
   pub rule_met : (c : CommandLine) (matter : Matter) (rule : Rule)
       → Asks command before c matter
       → ComesTo c matter (outcomes.refused rule)

@@ -1,6 +1,5 @@
 -- Which stop each refusal of a call becomes.
 use Rattle.std.specs.Prelude.{◌≡◌}
-use Rattle.bp_core.specs.declared.rules.Rule.{Rule}
 use Rattle.bp_core.specs.declared.rules.RuleKind.TheVariants as kinds
 use Rattle.bp_core.specs.Rules.{bare_rule}
 use Rattle.bp_core.specs.declared.refusals.Refusal.{Refusal}

@@ -9,8 +9,8 @@ use std::env::Args;
 use std::io;
 use std::io::ErrorKind;
 
-/// The words after the program's name, by the system's answer. Words that it can't give, as those that
-/// aren't UTF-8, are no command line; where it lacked memory to give them, memory ran out.
+/// The words after the program's name, by the system's answer. Words that it can't give, as those
+/// that aren't UTF-8, are no command line; where it lacked memory to give them, memory ran out.
 pub fn words_of(alloc: Global, answer: io::Result<Args>) -> Result<Vec<String>, Stop>
     ensures { TakesWords answer result }
 {

@@ -19,7 +19,7 @@ use bp_burn::burn_in_place;
 use bp_core::{Bytes, OutOfMemory, Rect, Rule, RuleKind, Text, path_of};
 use bp_outside::{Folder, ReadRefusal, Source, put_parts};
 use bp_rows::{Page, import_sides};
-use bp_tiff::{Form, TiffParts, read_tiff, tiff_parts};
+use bp_tiff::{Form, TiffParts, take_tiff, tiff_parts};
 use std::alloc::Global;
 
 /// The most bytes that a file may have which is read.
@@ -90,8 +90,8 @@ pub struct BurnPaths {
     pub to: Text,
 }
 
-/// Burns one box into the page file at IN, and puts the file of the burned page at OUT. The line that
-/// tells how many bytes that file has.
+/// Burns one box into the page file at IN, and puts the file of the burned page at OUT. The line
+/// that tells how many bytes that file has.
 pub fn burn_box<S: Source, F: Folder>(
     alloc: Global,
     asked: &Burn<'_>,
@@ -141,7 +141,7 @@ fn burned_page<S: Source>(
         Makes (IsOutcome (burn line) before) gives before.source result source' }
 {
     match source.read(alloc, paths.from.as_str(), FILE_LIMIT) {
-        Ok(bytes) => burned(alloc, asked.area, &bytes),
+        Ok(file) => burned(alloc, asked.area, file),
         Err(refusal) => Err(stop_of_read(refusal)),
     }
 }
@@ -157,11 +157,11 @@ fn stop_of_read(refusal: ReadRefusal) -> Stop
     }
 }
 
-// The page of these bytes with the box burned.
-fn burned(alloc: Global, area: Rect, bytes: &[u8]) -> Result<Page, Stop>
-    ensures { BurnsBytes area bytes.now result }
+// The page of this file with the box burned.
+fn burned(alloc: Global, area: Rect, file: Vec<u8>) -> Result<Page, Stop>
+    ensures { BurnsBytes area file.items result }
 {
-    match read_tiff(alloc, bytes) {
+    match take_tiff(alloc, file) {
         Ok(page) => match burned_in(area, page) {
             Ok(burned) => Ok(burned),
             Err(rule) => Err(Stop::Broken(rule)),
@@ -170,7 +170,8 @@ fn burned(alloc: Global, area: Rect, bytes: &[u8]) -> Result<Page, Stop>
     }
 }
 
-// The page with the box burned. It takes no memory, so what the box covers can't tell by a want of it.
+// The page with the box burned. It takes no memory, so what the box covers can't tell by a want of
+// it.
 fn burned_in(area: Rect, mut page: Page) -> Result<Page, Rule>
     ensures { result ≡ burn_page area page }
 {

@@ -13,7 +13,8 @@ pub enum Command<'a> {
     Burn(Burn<'a>),
 }
 
-/// The command that the words are a line of, if they are one. The words don't have the program's name.
+/// The command that the words are a line of, if they are one. The words don't have the program's
+/// name.
 pub fn command_in(words: &[String]) -> Option<Command<'_>>
     ensures { option_map command_seen result ≡ command_of (word_bytes words.now) }
 {

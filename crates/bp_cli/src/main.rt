@@ -1,5 +1,6 @@
-//! The program: one command of the production press. It reads files below the current folder, writes
-//! files below its folder `out`, and prints one line. Begin at `run`, whose contract promises `Runs`.
+//! The program: one command of the production press. It reads files below the current folder,
+//! writes files below its folder `out`, and prints one line. Begin at `run`, whose contract
+//! promises `Runs`.
 #![tactic(auto)]
 
 mod arguments;
@@ -27,8 +28,9 @@ fn main(rt: HostRuntime) -> ExitCode {
     ExitCode::from(status)
 }
 
-// Holds the numbers 0, 1 and 2 where the caller closed a standard stream, so that no file of the program
-// gets one and no line is printed into a page. What is held is open for reading alone: a write fails.
+// Holds the numbers 0, 1 and 2 where the caller closed a standard stream, so that no file of the
+// program gets one and no line is printed into a page. What is held is open for reading alone: a
+// write fails.
 fn standard_descriptors(rt: &HostRuntime) -> [io::Result<fs::File>; 3] {
     [fs::open(rt, "/"), fs::open(rt, "/"), fs::open(rt, "/")]
 }

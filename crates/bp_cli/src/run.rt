@@ -18,7 +18,8 @@ use std::alloc::Global;
 use std::env::Args;
 use std::io;
 
-/// Carries out the command line that the system gave, the program's name before its words: see `run`.
+/// Carries out the command line that the system gave, the program's name before its words: see
+/// `run`.
 pub fn run_arguments<S: Source, F: Folder, O: Out>(
     alloc: Global,
     answer: io::Result<Args>,
@@ -38,8 +39,8 @@ pub fn run_arguments<S: Source, F: Folder, O: Out>(
 
 /// Carries out the command that the words are a line of: it reads from the source, writes to the
 /// folder and prints one line. The words don't have the program's name. The status: 0 where all was
-/// done, 1 where the words are no command line, 2 where a rule is broken, 3 at a fault of the source,
-/// 4 of the folder, 6 where memory ran out, 7 at a fault of the out.
+/// done, 1 where the words are no command line, 2 where a rule is broken, 3 at a fault of the
+/// source, 4 of the folder, 6 where memory ran out, 7 at a fault of the out.
 pub fn run<S: Source, F: Folder, O: Out>(
     alloc: Global,
     words: &[String],

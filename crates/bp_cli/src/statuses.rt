@@ -1,4 +1,5 @@
-// The statuses that the program ends with. 5, a fault of the keeper, comes with the commands of a matter.
+// The statuses that the program ends with. 5, a fault of the keeper, comes with the commands of a
+// matter.
 
 /// All was done.
 pub const DONE: u8 = 0;

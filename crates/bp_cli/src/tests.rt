@@ -330,8 +330,8 @@ fn a_fault_of_the_source_leaves_nothing(rt: HostRuntime) -> Result<(), Fail> {
     Ok(())
 }
 
-// The calls are create, append of what stands before the strip, of the strip, and finish. A call that
-// fails has added half of what it would have taken.
+// The calls are create, append of what stands before the strip, of the strip, and finish. A call
+// that fails has added half of what it would have taken.
 #[test]
 fn a_fault_of_the_folder_leaves_a_prefix(rt: HostRuntime) -> Result<(), Fail> {
     for (call, length) in [(0u64, 0usize), (1, 93), (2, 186), (3, 187)] {

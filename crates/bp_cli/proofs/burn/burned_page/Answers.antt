@@ -5,7 +5,7 @@ use Rattle.bp_outside.specs.Source.{ReadOver}
 use Rattle.bp_cli.specs.declared.burn.TheConstants.{FILE_LIMIT}
 use Rattle.bp_cli.specs.declared.stops.Stop.{Stop}
 use Rattle.bp_cli.specs.Burn.{burn_seen}
-use Rattle.bp_cli.specs.Burning.{paths_seen, page_put, BurnsBytes}
+use Rattle.bp_cli.specs.Burning.{paths_seen, page_put}
 use Rattle.bp_cli.specs.Commands.{burn, IsOutcome}
 use Rattle.bp_cli.specs.Endings.{world, Makes}
 use Rattle.bp_cli.proofs.BurnLemmas.{made_page, refused_read}
@@ -15,12 +15,11 @@ pub returns-in-Ok : goal.returns-in-Ok
 returns-in-Ok g c = λ folder.
     let b = burn_seen c.args.asked.now in
     let source = g.S.Source.shows c.args.source.now in
-    let bytes = c.in-Ok.bytes.items in
-    made_page b (paths_seen c.args.paths.now) (world source folder) (g.S.Source.shows c.read.new.self) bytes c.burned.result
+    let file = c.in-Ok.file.items in
+    made_page b (paths_seen c.args.paths.now) (world source folder) (g.S.Source.shows c.read.new.self) file c.burned.result
     c.requires c.in-Ok.ensures.limit
-    (subst (λ (path : List ℕ). IfSome source.files (λ files. map.get files path ≡ Some bytes)) c.as_str.ensures.characters c.in-Ok.ensures.told)
-    c.in-Ok.ensures.after
-    (subst (λ (read : List ℕ). BurnsBytes c.args.asked.now.area read c.burned.result) c.deref.ensures.value c.burned.ensures)
+    (subst (λ (path : List ℕ). IfSome source.files (λ files. map.get files path ≡ Some file)) c.as_str.ensures.characters c.in-Ok.ensures.told)
+    c.in-Ok.ensures.after c.burned.ensures
 
 pub returns-in-Err : goal.returns-in-Err
 returns-in-Err g c = λ folder.

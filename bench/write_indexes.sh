@@ -1,7 +1,7 @@
 #!/bin/sh
 # Writes the indexes of the three code tables from the codes as they stand in crates/bp_codes/src/tables.rt:
-# what stands at the front of each list of bits that is no longer than the longest code. That they agree with
-# the codes is proved by each check. Lay the files out afterwards with `rt fmt` in crates/bp_codes.
+# what stands at the front of each list of bits that is no longer than the longest code, a code as its row and
+# 256 times its length. That they agree with the codes is proved by each check. Lay the files out afterwards with `rt fmt` in crates/bp_codes.
 set -eu
 src="$(dirname "$0")/../crates/bp_codes/src"
 
@@ -18,7 +18,7 @@ write() { # function, file, static, longest code, what is indexed
             }
         }
         function entry(bits,    row) {
-            for (row = 0; row < rows; row++) if (index(bits, code[row]) == 1) return row
+            for (row = 0; row < rows; row++) if (index(bits, code[row]) == 1) return row + 256 * length(code[row])
             for (row = 0; row < rows; row++) if (index(code[row], bits) == 1) return 255
             return 254
         }
@@ -30,7 +30,7 @@ write() { # function, file, static, longest code, what is indexed
             print "// The index of " what ", written by bench/write_indexes.sh. That it agrees with the codes is proved."
             print ""
             print "/// At 2^n + p: what stands at the front of the n bits that are the number p. Place 0 means nothing."
-            printf "pub static %s: [u8; %d] = [255", name, 2 ^ (longest + 1)
+            printf "pub static %s: [u16; %d] = [255", name, 2 ^ (longest + 1)
             for (count = 0; count <= longest; count++)
                 for (number = 0; number < 2 ^ count; number++)
                     printf ", %d", count == 0 ? 255 : entry(binary(number, count))

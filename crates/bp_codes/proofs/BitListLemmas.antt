@@ -79,10 +79,10 @@ drop-bits_of fill (suc q) n (b ∷ bytes) =
     ∙ skip_byte fill b (8 * q + n) (bits_of fill bytes) ∙ drop-bits_of fill q n bytes
 
 -- the bits of four bytes
-abbrev four_bytes : Fill → ℕ → ℕ → ℕ → ℕ → List Bool
+abbrev pub four_bytes : Fill → ℕ → ℕ → ℕ → ℕ → List Bool
 four_bytes fill x y z w = bits_of fill (x ∷ y ∷ z ∷ w ∷ [])
 
-bits_of-append : (fill : Fill) (xs ys : List ℕ) → bits_of fill (xs ++ ys) ≡ bits_of fill xs ++ bits_of fill ys
+pub bits_of-append : (fill : Fill) (xs ys : List ℕ) → bits_of fill (xs ++ ys) ≡ bits_of fill xs ++ bits_of fill ys
 bits_of-append fill [] ys = refl
 bits_of-append fill (x ∷ xs) ys = ap (λ bits. byte_bits fill x ++ bits) (bits_of-append fill xs ys) ∙ sym (append_assoc (byte_bits fill x) (bits_of fill xs) (bits_of fill ys))
 
@@ -92,7 +92,7 @@ first_ones fill m xs ys h =
     ap (take m) (bits_of-append fill xs ys) ∙ take-append-le m (bits_of fill xs) (bits_of fill ys) (omega (arith, length-bits_of fill xs))
 
 -- of the bits of bytes the first ones stand in the first four bytes, with any bytes past the end
-first_four : (fill : Fill) (m : ℕ) (bytes : List ℕ) → m ≤ 32 → m ≤ length bytes * 8 → take m (bits_of fill bytes) ≡ take m (four_bytes fill (get_or bytes 0 0) (get_or bytes 1 0) (get_or bytes 2 0) (get_or bytes 3 0))
+pub first_four : (fill : Fill) (m : ℕ) (bytes : List ℕ) → m ≤ 32 → m ≤ length bytes * 8 → take m (bits_of fill bytes) ≡ take m (four_bytes fill (get_or bytes 0 0) (get_or bytes 1 0) (get_or bytes 2 0) (get_or bytes 3 0))
 first_four fill m [] h within = let none : m ≡ 0 = omega arith in ap (λ k. take k []) none ∙ sym (ap (λ k. take k (four_bytes fill 0 0 0 0)) none)
 first_four fill m (x ∷ []) h within = sym (first_ones fill m (x ∷ []) (0 ∷ 0 ∷ 0 ∷ []) within)
 first_four fill m (x ∷ y ∷ []) h within = sym (first_ones fill m (x ∷ y ∷ []) (0 ∷ 0 ∷ []) within)
@@ -112,27 +112,27 @@ number-four fill x y z w =
     let one = one_byte fill w [] in
     omega (arith, four, three, two, one)
 
-in_the_rest : (bytes : List ℕ) (q i : ℕ) → get_or (drop q bytes) i 0 ≡ get_or bytes (q + i) 0
+pub in_the_rest : (bytes : List ℕ) (q i : ℕ) → get_or (drop q bytes) i 0 ≡ get_or bytes (q + i) 0
 in_the_rest bytes q i = get_or-drop q bytes i 0
 
 -- the highest r bits shifted out of a word of j + r bits
-shifted_out : (a r j : ℕ) → a * 2 ^ r % 2 ^ (j + r) ≡ a % 2 ^ j * 2 ^ r
+pub shifted_out : (a r j : ℕ) → a * 2 ^ r % 2 ^ (j + r) ≡ a % 2 ^ j * 2 ^ r
 shifted_out a r j =
     mod-pow-add (a * 2 ^ r) j r ∙ ap (λ v. v % 2 ^ j * 2 ^ r + a * 2 ^ r % 2 ^ r) (shl-shr a r)
     ∙ ap (λ v. a % 2 ^ j * 2 ^ r + v) (mul-mod_left a (2 ^ r)) ∙ add-zero (a % 2 ^ j * 2 ^ r)
 
--- count bits after r ones of 32, as a number: the r shifted out at the top, and the rest down to count bits
-middle : (bits : List Bool) (r count k : ℕ) → length bits ≡ 32 → r + count + k ≡ 32 → number_of (take count (drop r bits)) ≡ number_of bits * 2 ^ r % 4294967296 / 2 ^ (32 - count)
-middle bits r count k h sum =
+-- count bits after r ones of some, as a number: the r shifted out at the top, and the rest down to count bits
+pub middle : (bits : List Bool) (r count k all : ℕ) → length bits ≡ all → r + count + k ≡ all → number_of (take count (drop r bits)) ≡ number_of bits * 2 ^ r % 2 ^ all / 2 ^ (all - count)
+middle bits r count k all h sum =
     let left : length (drop r bits) ≡ count + k = omega (arith, length-drop r bits) in
-    let all : 32 ≡ count + k + r = omega arith in
-    let width : 4294967296 ≡ 2 ^ (count + k + r) = ap (λ n. 2 ^ n) all in
-    let down : 32 - count ≡ r + k = omega arith in
+    let whole : all ≡ count + k + r = omega arith in
+    let width : 2 ^ all ≡ 2 ^ (count + k + r) = ap (λ n. 2 ^ n) whole in
+    let down : all - count ≡ r + k = omega arith in
     number_of-take count k (drop r bits) left
     ∙ ap (λ v. v / 2 ^ k) (number_of-drop r (count + k) bits (omega arith) ∙ sym (shl-shr (number_of bits % 2 ^ (count + k)) r))
     ∙ shr-shr (number_of bits % 2 ^ (count + k) * 2 ^ r) r k
     ∙ ap (λ n. number_of bits % 2 ^ (count + k) * 2 ^ r / 2 ^ n) (sym down)
-    ∙ ap (λ v. v / 2 ^ (32 - count)) (sym (ap (λ m. number_of bits * 2 ^ r % m) width ∙ shifted_out (number_of bits) r (count + k)))
+    ∙ ap (λ v. v / 2 ^ (all - count)) (sym (ap (λ m. number_of bits * 2 ^ r % m) width ∙ shifted_out (number_of bits) r (count + k)))
 
 -- bits from a place on stand in the four bytes from that place on
 in_four : (fill : Fill) (bytes : List ℕ) (q r count : ℕ) → r + count ≤ 32 → 8 * q + r + count ≤ length bytes * 8 → take count (drop (8 * q + r) (bits_of fill bytes)) ≡ take count (drop r (four_bytes fill (get_or bytes (q + 0) 0) (get_or bytes (q + 1) 0) (get_or bytes (q + 2) 0) (get_or bytes (q + 3) 0)))
@@ -149,7 +149,7 @@ window_is fill bytes at q r count k place sum within =
     let room : 8 * q + r + count ≤ length bytes * 8 = omega (arith, length-bits_of fill bytes) in
     let four = four_bytes fill (get_or bytes q 0) (get_or bytes (q + 1) 0) (get_or bytes (q + 2) 0) (get_or bytes (q + 3) 0) in
     let there : take count (drop (8 * q + r) (bits_of fill bytes)) ≡ take count (drop r four) = in_four fill bytes q r count (omega arith) room ∙ ap (λ n. take count (drop r (four_bytes fill (get_or bytes n 0) (get_or bytes (q + 1) 0) (get_or bytes (q + 2) 0) (get_or bytes (q + 3) 0)))) (add-zero q) in
-    sym (middle four r count k (length-bits_of fill (get_or bytes q 0 ∷ get_or bytes (q + 1) 0 ∷ get_or bytes (q + 2) 0 ∷ get_or bytes (q + 3) 0 ∷ [])) sum)
+    sym (middle four r count k 32 (length-bits_of fill (get_or bytes q 0 ∷ get_or bytes (q + 1) 0 ∷ get_or bytes (q + 2) 0 ∷ get_or bytes (q + 3) 0 ∷ [])) sum)
     ∙ sym (ap (λ n. number_of (take count (drop n (bits_of fill bytes)))) place ∙ ap number_of there)
 
 -- ---- the bytes as numbers

@@ -1,3 +1,4 @@
+pub mod AheadLemmas
 pub mod BitListLemmas
 mod Examples
 pub mod FrontLemmas

@@ -35,22 +35,22 @@ abbrev pub front : List Branch → List Bool → Result ℕ NoCode
 front branches bits = row_or (row_among branches bits) (if cut_among branches bits then Ends else Strange)
 
 -- what stands at the front of each list of n bits, in the order of the numbers that they are
-abbrev pub level : ℕ → List Branch → List ℕ
-level zero branches = entry_number (front branches []) ∷ []
-level (suc n) branches = level n (narrow false branches) ++ level n (narrow true branches)
+abbrev pub level : List (List Bool) → ℕ → List Branch → List ℕ
+level codes zero branches = entry_number codes (front branches []) ∷ []
+level codes (suc n) branches = level codes n (narrow false branches) ++ level codes n (narrow true branches)
 
-abbrev pub levels : ℕ → List Branch → List ℕ
-levels zero branches = entry_number (front branches []) ∷ []
-levels (suc n) branches = levels n branches ++ level (suc n) branches
+abbrev pub levels : List (List Bool) → ℕ → List Branch → List ℕ
+levels codes zero branches = entry_number codes (front branches []) ∷ []
+levels codes (suc n) branches = levels codes n branches ++ level codes (suc n) branches
 
-pub modes_written : MODE_INDEX ≡ 255 ∷ levels 7 (enumerate_from 0 mode_codes)
+pub modes_written : MODE_INDEX ≡ 255 ∷ levels mode_codes 7 (enumerate_from 0 mode_codes)
 unfolding mode_codes
 modes_written = refl
 
-pub white_written : WHITE_INDEX ≡ 255 ∷ levels 12 (enumerate_from 0 white_codes)
+pub white_written : WHITE_INDEX ≡ 255 ∷ levels white_codes 12 (enumerate_from 0 white_codes)
 unfolding white_codes
 white_written = refl
 
-pub black_written : BLACK_INDEX ≡ 255 ∷ levels 13 (enumerate_from 0 black_codes)
+pub black_written : BLACK_INDEX ≡ 255 ∷ levels black_codes 13 (enumerate_from 0 black_codes)
 unfolding black_codes
 black_written = refl

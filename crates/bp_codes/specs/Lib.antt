@@ -1,3 +1,4 @@
+pub mod Ahead
 pub mod Bits
 pub mod CodeLists
 pub mod Fronts

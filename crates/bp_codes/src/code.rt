@@ -10,6 +10,13 @@ pub struct Code {
     pub len: u8,
 }
 
+/// A code that was found: its row in the table, and its length in bits.
+#[derive(Clone, Copy, Debug, PartialEq, Eq)]
+pub struct Found {
+    pub row: usize,
+    pub len: u64,
+}
+
 /// Why no code begins at a place.
 #[derive(Clone, Copy, Debug, PartialEq, Eq)]
 pub enum NoCode {

@@ -7,8 +7,8 @@ use crate::mode_index::MODE_INDEX;
 use crate::white_index::WHITE_INDEX;
 
 /// An index of one of the three tables. It keeps, for each list of at most so many bits as the longest code
-/// has, the row whose code begins them, or why none does. The place of a list is the number that its bits
-/// are with a 1 before them.
+/// has, the code that begins them, or why none does. The place of a list is the number that its bits are
+/// with a 1 before them. A code is kept as its row and 256 times its length.
 #[derive(Clone, Copy, Debug)]
 pub enum Index {
     White,
@@ -17,14 +17,17 @@ pub enum Index {
 }
 
 /// In an index: the bits are a proper prefix of a code.
-pub const ENDS: u8 = 255;
+pub const ENDS: u16 = 255;
 
 /// In an index: no code begins the bits, and they are no proper prefix of one.
-pub const STRANGE: u8 = 254;
+pub const STRANGE: u16 = 254;
+
+/// In an index: what is at least this much is a code.
+pub const CODES: u16 = 256;
 
 impl Index {
-    /// What stands at a place of the index: a row, `ENDS` or `STRANGE`.
-    pub fn at(self, place: usize) -> u8
+    /// What stands at a place of the index: a code, `ENDS` or `STRANGE`.
+    pub fn at(self, place: usize) -> u16
         requires { place < length (fronts self) }
         ensures { result ≡ slice_index (fronts self) place }
     {

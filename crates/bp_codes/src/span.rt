@@ -1,5 +1,6 @@
 // Bits, read out of bytes.
-ghost use Rattle.std.specs.Prelude.{◌≡◌, ◌+◌, ◌^◌, ◌<◌, ◌≤◌, length, slice_get, slice_index, Some, take, drop};
+ghost use Rattle.std.specs.Prelude.{◌≡◌, ◌*◌, ◌+◌, ◌^◌, ◌<◌, ◌≤◌, length, slice_get, slice_index, Some, take, drop, IfSome};
+ghost use Rattle.bp_codes.specs.Ahead.{IsAhead};
 ghost use Rattle.bp_codes.specs.Bits.{word_at};
 ghost use Rattle.bp_codes.specs.declared.span.Fill.TheVariants.{High};
 
@@ -13,6 +14,9 @@ pub enum Fill {
     /// The bit of value 1 is the first one (FillOrder 2).
     Low,
 }
+
+/// How many bits of a look-ahead are there at least.
+pub const AHEAD: u32 = 57;
 
 /// The bits of fewer than 2^32 bytes. Places count bits from 0.
 #[derive(Clone, Copy, Debug)]
@@ -43,6 +47,22 @@ impl BitSpan<'_> {
         match self.fill {
             Fill::High => byte >> (7 - skipped) & 1 == 1,
             Fill::Low => byte >> skipped & 1 == 1,
+        }
+    }
+
+    /// The bits that come next at a place, in a word whose first 57 they are at least; none where fewer
+    /// than eight bytes are left, or where the bit of value 1 is the first one.
+    #[inline(always)]
+    pub fn ahead(&self, at: u64) -> Option<u64>
+        requires { at ≤ length (span_bits self.now) }
+        ensures { IfSome result (λ word. IsAhead word (drop at (span_bits self.now))) }
+    {
+        let first = (at / 8) as usize;
+        match self.fill {
+            Fill::High if first + 8 <= self.bytes.len() => {
+                Some(long_word(self.bytes, first) << (at % 8))
+            }
+            _ => None,
         }
     }
 
@@ -84,6 +104,15 @@ impl BitSpan<'_> {
             Fill::Low => u32::from(REVERSED[usize::from(byte)]),
         }
     }
+}
+
+// Eight bytes that are there, the bit of value 128 first: one read where the machine has it.
+#[inline(always)]
+fn long_word(bytes: &[u8], first: usize) -> u64
+    requires { first + 8 ≤ length bytes.now }
+    ensures { result ≡ word_at High bytes.now first * 2 ^ 32 + word_at High bytes.now (first + 4) }
+{
+    u64::from(whole_word(bytes, first)) << 32 | u64::from(whole_word(bytes, first + 4))
 }
 
 // Four bytes that are there, the bit of value 128 first: one read where the machine has it.

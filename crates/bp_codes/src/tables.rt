@@ -7,7 +7,7 @@ ghost use Rattle.bp_codes.specs.Span.{span_bits};
 
 use crate::code::{Code, NoCode, printed};
 use crate::in_print::rows_in_print;
-use crate::index::{ENDS, Index, STRANGE};
+use crate::index::{CODES, ENDS, Index, STRANGE};
 use crate::span::BitSpan;
 use std::marker::Model;
 
@@ -55,7 +55,7 @@ impl<const N: usize> CodeTable<N> {
         match index.at(((1 << count) + window) as usize) {
             ENDS => Err(NoCode::Ends),
             STRANGE => Err(NoCode::Strange),
-            row => Ok(usize::from(row)),
+            entry => Ok(usize::from(entry % CODES)),
         }
     }
 }

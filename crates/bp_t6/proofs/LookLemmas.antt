@@ -1,10 +1,11 @@
 -- Lemmas on codes looked up: carry the row that was found over to the bits of runs.
-use Rattle.std.proofs.Common.{nat_lt, ℕ, suc, ◌+◌, ◌-◌, ◌*◌, ◌<◌, ◌≤◌, ◌≡◌, Bool, true, false, List, [], ◌∷◌, ◌++◌, length, get_or, drop, sum, Option, Some, None, Ok, Err, refl, ap, sym, ◌∙◌, subst, arith, inl, inr, append_assoc}
+use Rattle.std.proofs.Common.{nat_lt, ℕ, suc, ◌+◌, ◌-◌, ◌*◌, ◌<◌, ◌≤◌, ◌≡◌, Bool, true, false, List, [], ◌∷◌, ◌++◌, length, get_or, drop, sum, Option, Some, None, IfSome, Ok, Err, refl, ap, sym, ◌∙◌, subst, arith, inl, inr, append_assoc}
 use Rattle.std.specs.List.{position_from, flat_map}
 use Rattle.std.proofs.lemmas.Bool.{cases_Bool, cond-true, cond-false, and_parts, lt-ltb, le-ltb}
 use Rattle.std.proofs.lemmas.List.{append-nil, length-append, drop-drop}
 use Rattle.std.proofs.lemmas.List.Sums.{sum_by-append, sum_by-cons}
 use Rattle.bp_codes.specs.declared.code.NoCode.{NoCode}
+use Rattle.bp_codes.specs.CodeLists.{mode_codes}
 use Rattle.bp_codes.specs.NextCode.{begins, same_bit, row_at, row_or, no_code, next_row}
 use Rattle.bp_t6.specs.Modes.{Run, pixels_of, AreMakeUps, HasCodes, code, run_codes, run_bits_in}
 use Rattle.bp_core.specs.declared.rules.RuleKind.TheVariants.{T6BadPlace}
@@ -136,3 +137,17 @@ few_pixels row h = cond-true (nat_lt row 64) row (64 * (row - 63)) (lt-ltb row 6
 
 pub many_pixels : (row : ℕ) → 64 ≤ row → row_pixels row ≡ 64 * (row - 63)
 many_pixels row h = cond-false (nat_lt row 64) row (64 * (row - 63)) (le-ltb row 64 h)
+
+-- ---- what is said of a look-ahead
+
+pub at_hand : (o : Option ℕ) (word : ℕ) (P : ℕ → Type 0) → o ≡ Some word → IfSome o P → P word
+at_hand (Some w) word P is said = let same : w ≡ word = cc in subst P same said
+at_hand None word P is said = cc
+
+-- behind the bits that are skipped stands what stands at the place that they lead to
+pub led_to : (bits : List Bool) (from start : ℕ) → from ≤ start → drop (start - from) (drop from bits) ≡ drop start bits
+led_to bits from start h = drop-drop (start - from) from bits ∙ ap (λ n. drop n bits) (omega arith)
+
+pub nine_modes : length mode_codes ≡ 9
+unfolding mode_codes
+nine_modes = refl

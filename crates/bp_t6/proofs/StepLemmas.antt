@@ -173,6 +173,13 @@ mode_found bits at row len is long =
 pub mode_within : (bits : List Bool) (at row len : ℕ) → next_row mode_codes (drop at bits) ≡ Ok row → len ≡ length (code mode_codes row) → at ≤ length bits → at + len ≤ length bits
 mode_within bits at row len is long within = omega (arith, row_length mode_codes (drop at bits) row is, length-drop at bits)
 
+-- the same, of the bit after the code
+pub mode_ends : (bits : List Bool) (at row next : ℕ) → next_row mode_codes (drop at bits) ≡ Ok row → next ≡ at + length (code mode_codes row) → drop at bits ≡ code mode_codes row ++ drop next bits
+mode_ends bits at row next is end = mode_found bits at row (length (code mode_codes row)) is refl ∙ ap (λ k. code mode_codes row ++ drop k bits) (sym end)
+
+pub mode_inside : (bits : List Bool) (at row next : ℕ) → next_row mode_codes (drop at bits) ≡ Ok row → next ≡ at + length (code mode_codes row) → at ≤ length bits → next ≤ length bits
+mode_inside bits at row next is end within = omega (arith, mode_within bits at row (length (code mode_codes row)) is refl within)
+
 pub three_bits : length (code mode_codes 1) ≡ 3
 unfolding mode_codes
 three_bits = refl

@@ -11,6 +11,7 @@ use bp_codes::BitSpan;
 use bp_rows::MAX_WIDTH;
 
 /// The row whose codes begin at a bit, as its changes, and the bit after its codes.
+#[inline(never)]
 pub fn read_row(
     tables: &CodeTables,
     span: &BitSpan,

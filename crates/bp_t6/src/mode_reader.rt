@@ -1,10 +1,13 @@
 // One mode of a row read.
-ghost use Rattle.std.specs.Prelude.{◌≡◌, ◌<◌, ◌≤◌, ◌+◌, ◌-◌, ◌*◌, ◌++◌, ℕ, Bool, List, IfOk, IfErr, length, drop, slice_index_or, not};
+ghost use Rattle.std.specs.Prelude.{◌≡◌, ◌<◌, ◌≤◌, ◌+◌, ◌-◌, ◌*◌, ◌++◌, ℕ, Bool, List, IfOk, IfErr, IfSome, Ok, Some, length, drop, slice_index_or, not};
+ghost use Rattle.bp_codes.specs.Ahead.{IsAhead};
+ghost use Rattle.bp_codes.specs.NextCode.{next_row};
 ghost use Rattle.bp_codes.specs.Span.{span_bits};
 ghost use Rattle.bp_codes.specs.CodeLists.{mode_codes};
 ghost use Rattle.bp_t6.specs.Modes.{code, vertical_rows, Vertical};
 ghost use Rattle.bp_rows.specs.Changes.{Shows, Rises};
 ghost use Rattle.bp_t6.specs.Coding.{IsNextFrom};
+ghost use Rattle.bp_t6.specs.Faults.{due_codes, mode_fault};
 ghost use Rattle.bp_t6.specs.Reading.{IfFault, IsUnder, Steps, ModeReads, ModeStops, VerticalStops};
 
 use crate::lengths::VERTICAL_REACH;
@@ -14,9 +17,71 @@ use crate::row::{next_from, place_in};
 use crate::run_reader::{ReadFault, read_run};
 use crate::tables::CodeTables;
 use crate::turns::turn;
-use bp_codes::BitSpan;
+use bp_codes::{BitSpan, mode_ahead};
 use bp_core::RuleKind;
 use bp_rows::MAX_WIDTH;
+
+/// The code of a mode that was read: its row in the mode table, and the bit after it.
+#[derive(Clone, Copy)]
+struct ModeCode {
+    row: usize,
+    next: u64,
+}
+
+// The mode whose code begins at a bit. `ahead` holds the bits that come next there, where they are at hand.
+#[inline(always)]
+fn next_mode(
+    tables: &CodeTables,
+    span: &BitSpan,
+    ahead: Option<u64>,
+    at: u64,
+) -> Result<ModeCode, ReadFault>
+    requires ahead { IfSome ahead (λ word. IsAhead word (drop at (span_bits span.now))) }
+    requires place { at ≤ length (span_bits span.now) }
+    ensures row { IfOk result (λ mode. mode.row < 9) }
+    ensures found { let bits = span_bits span.now in
+        IfOk result (λ mode. next_row mode_codes (drop at bits) ≡ Ok mode.row) }
+    ensures next { IfOk result (λ mode. mode.next ≡ at + length (code mode_codes mode.row)) }
+    ensures bit { IfErr result (λ fault. fault.bit ≡ at) }
+    ensures fault { let bits = span_bits span.now in
+        IfErr result (λ fault.
+        mode_fault (next_row due_codes (drop at bits)) ≡ Some fault.kind) }
+{
+    if let Some(word) = ahead {
+        if let Some(code) = mode_ahead(word) {
+            return Ok(ModeCode {
+                row: code.row,
+                next: at + code.len,
+            });
+        }
+    }
+    look_up_mode(tables, span, at)
+}
+
+// The mode whose code begins at a bit, looked up in the mode table.
+#[inline(never)]
+fn look_up_mode(tables: &CodeTables, span: &BitSpan, at: u64) -> Result<ModeCode, ReadFault>
+    requires { at ≤ length (span_bits span.now) }
+    ensures row { IfOk result (λ mode. mode.row < 9) }
+    ensures found { let bits = span_bits span.now in
+        IfOk result (λ mode. next_row mode_codes (drop at bits) ≡ Ok mode.row) }
+    ensures next { IfOk result (λ mode. mode.next ≡ at + length (code mode_codes mode.row)) }
+    ensures bit { IfErr result (λ fault. fault.bit ≡ at) }
+    ensures fault { let bits = span_bits span.now in
+        IfErr result (λ fault.
+        mode_fault (next_row due_codes (drop at bits)) ≡ Some fault.kind) }
+{
+    match tables.mode_table().next_code(span, at) {
+        Ok(row) => Ok(ModeCode {
+            row,
+            next: at + u64::from(tables.mode_table().code_of(row).len),
+        }),
+        Err(why) => Err(ReadFault {
+            kind: missing_kind(span, at, why),
+            bit: at,
+        }),
+    }
+}
 
 // A row goes on at another place, in the colour that it has.
 #[inline(always)]
@@ -111,12 +176,14 @@ fn read_vertical(
 fn read_horizontal(
     tables: &CodeTables,
     span: &BitSpan,
+    ahead: Option<u64>,
     width: u32,
     above: &[u32],
     under: Under,
     at: u64,
     line: &mut Vec<u32>,
 ) -> Result<Under, Stop>
+    requires ahead { IfSome ahead (λ word. IsAhead word (drop under.at (span_bits span.now))) }
     requires wide { width ≤ MAX_WIDTH }
     requires on { under.right ≤ width }
     requires place { at ≤ length (span_bits span.now) }
@@ -134,12 +201,20 @@ fn read_horizontal(
         IfErr result (λ stop. IfFault (λ f. ModeStops bits width above.now under f) stop) }
 {
     let from = under.right.saturating_sub(1);
-    let first = match read_run(tables, span, at, under.black, width - from) {
+    let first = match read_run(tables, span, ahead, under.at, at, under.black, width - from) {
         Ok(run) => run,
         Err(fault) => return Err(Stop::Fault(fault)),
     };
     let room = width - from - first.pixels;
-    let second = match read_run(tables, span, first.next, !under.black, room) {
+    let second = match read_run(
+        tables,
+        span,
+        ahead,
+        under.at,
+        first.next,
+        !under.black,
+        room,
+    ) {
         Ok(run) => run,
         Err(fault) => return Err(Stop::Fault(fault)),
     };
@@ -180,22 +255,17 @@ pub fn read_mode(
     ensures fault { let bits = span_bits span.now in
         IfErr result (λ stop. IfFault (λ f. ModeStops bits width above.now under f) stop) }
 {
-    let row = match tables.mode_table().next_code(span, under.at) {
-        Ok(row) => row,
-        Err(why) => {
-            return Err(Stop::Fault(ReadFault {
-                kind: missing_kind(span, under.at, why),
-                bit: under.at,
-            }));
-        }
+    let ahead = span.ahead(under.at);
+    let ModeCode { row, next } = match next_mode(tables, span, ahead, under.at) {
+        Ok(mode) => mode,
+        Err(fault) => return Err(Stop::Fault(fault)),
     };
-    let at = under.at + u64::from(tables.mode_table().code_of(row).len);
     if row == 0 {
         let right = place_in(above, under.from + 1, width) + 1;
-        return Ok(go_on(above, width, under, right, at));
+        return Ok(go_on(above, width, under, right, next));
     }
     if row == 1 {
-        return read_horizontal(tables, span, width, above, under, at, line);
+        return read_horizontal(tables, span, ahead, width, above, under, next, line);
     }
-    read_vertical(width, above, under, shift_of(row), at, line)
+    read_vertical(width, above, under, shift_of(row), next, line)
 }

@@ -1,12 +1,14 @@
 // A run read.
-ghost use Rattle.std.specs.Prelude.{◌≡◌, ◌<◌, ◌≤◌, ◌-◌, IfOk, IfErr, length, drop};
+ghost use Rattle.std.specs.Prelude.{◌≡◌, ◌<◌, ◌≤◌, ◌-◌, IfOk, IfErr, IfSome, List, Bool, length, drop};
+ghost use Rattle.bp_codes.specs.Ahead.{IsAhead, Finds};
 ghost use Rattle.bp_codes.specs.Span.{span_bits};
+ghost use Rattle.bp_t6.specs.Modes.{run_codes};
 ghost use Rattle.bp_t6.specs.Reading.{RunReads};
 ghost use Rattle.bp_t6.specs.Faults.{RunFault, row_pixels};
 
 use crate::lengths::{BEFORE_MAKE_UPS, MAKE_UP_STEP, TERMINATING_CODES};
 use crate::tables::CodeTables;
-use bp_codes::{BitSpan, NoCode};
+use bp_codes::{BitSpan, Found, NoCode, black_ahead, white_ahead};
 use bp_core::RuleKind;
 use bp_rows::MAX_WIDTH;
 
@@ -24,9 +26,66 @@ pub struct ReadFault {
     pub bit: u64,
 }
 
-/// The run whose codes begin at a place, of at most so many pixels.
+// How many bits of a look-ahead may be skipped: the longest code that stands behind them is there.
+const MOST_SKIPPED: u64 = 44;
+
+/// The run whose codes begin at a place, of at most so many pixels. `ahead` holds the bits that come next
+/// at a bit `from` on the way there, where they are at hand: a run of one code is found in them.
 #[inline(always)]
 pub fn read_run(
+    tables: &CodeTables,
+    span: &BitSpan,
+    ahead: Option<u64>,
+    from: u64,
+    start: u64,
+    black: bool,
+    room: u32,
+) -> Result<RunRead, ReadFault>
+    requires ahead { IfSome ahead (λ word. IsAhead word (drop from (span_bits span.now))) }
+    requires from { from ≤ start }
+    requires place { start ≤ length (span_bits span.now) }
+    requires small { room ≤ MAX_WIDTH }
+    ensures found { let bits = span_bits span.now in
+        IfOk result (λ r. RunReads black (drop start bits) r.pixels (drop r.next bits)) }
+    ensures room { IfOk result (λ r. r.pixels ≤ room) }
+    ensures next { IfOk result (λ r. r.next ≤ length (span_bits span.now)) }
+    ensures after { IfOk result (λ r. start ≤ r.next) }
+    ensures since { IfErr result (λ f. start ≤ f.bit) }
+    ensures fault { let bits = span_bits span.now in
+        IfErr result (λ f. RunFault black room (drop start bits) f.kind (f.bit - start)) }
+{
+    if let Some(word) = ahead {
+        if start - from <= MOST_SKIPPED {
+            if let Some(code) = code_ahead(word, start - from, black) {
+                if code.row < TERMINATING_CODES && code.row as u32 <= room {
+                    return Ok(RunRead {
+                        pixels: code.row as u32,
+                        next: start + code.len,
+                    });
+                }
+            }
+        }
+    }
+    look_up_run(tables, span, start, black, room)
+}
+
+// The run code behind the first bits of a look-ahead.
+#[inline(always)]
+fn code_ahead(word: u64, skipped: u64, black: bool) -> Option<Found>
+    requires { skipped ≤ MOST_SKIPPED }
+    ensures { (bits : List Bool) → IsAhead word bits
+        → Finds (run_codes black) (drop skipped bits) result }
+{
+    if black {
+        black_ahead(word, skipped)
+    } else {
+        white_ahead(word, skipped)
+    }
+}
+
+// The run whose codes begin at a place, of at most so many pixels, each code looked up in its table.
+#[inline(never)]
+fn look_up_run(
     tables: &CodeTables,
     span: &BitSpan,
     start: u64,
@@ -39,6 +98,7 @@ pub fn read_run(
         IfOk result (λ r. RunReads black (drop start bits) r.pixels (drop r.next bits)) }
     ensures room { IfOk result (λ r. r.pixels ≤ room) }
     ensures next { IfOk result (λ r. r.next ≤ length (span_bits span.now)) }
+    ensures after { IfOk result (λ r. start ≤ r.next) }
     ensures since { IfErr result (λ f. start ≤ f.bit) }
     ensures fault { let bits = span_bits span.now in
         IfErr result (λ f. RunFault black room (drop start bits) f.kind (f.bit - start)) }

@@ -43,3 +43,6 @@ returns-clause-read c = λ over px shows_over shows.
           one.turns one.colour one.shows
           (λ ps h. subst (λ (k : ℕ). Shows c.turn-2.new.line.items k ps) (sym last) (two.shows ps (subst (λ (k : ℕ). Shows c.turn.new.line.items k ps) last h)));
     }
+
+pub read_run-requires-2-clause-from : goal.read_run-requires-2-clause-from
+read_run-requires-2-clause-from c = omega (arith, c.in-Ok.ensures.after, c.requires.three)

@@ -1,4 +1,4 @@
-use Rattle.std.proofs.Common.{◌≡◌, ◌+◌, ◌-◌, ◌^◌, ◌≤◌, arith, length, take, drop, map, min, ap, sym, ◌∙◌, rules, length-drop, Ok}
+use Rattle.std.proofs.Common.{◌≡◌, ◌+◌, ◌-◌, ◌^◌, ◌≤◌, arith, length, take, drop, map, min, ap, sym, ◌∙◌, rules, length-drop}
 use Rattle.std.proofs.lemmas.List.{length-map}
 use Rattle.bp_codes.specs.Bits.{number_of, code_bits}
 use Rattle.bp_codes.specs.Span.{span_bits}
@@ -34,7 +34,7 @@ returns-in-255-clause-found g c =
     let codes = map code_bits c.self.inside.rows in
     let says = answered codes c.self.inside.longest (fronts c.self.inside.index) bits c.min-count.result c.window-window.result c.at.result c.self.invariant.kept c.self.invariant.short c.self.invariant.within count c.window-window.ensures c.at.ensures in
     let few : length codes ≤ 254 = omega (arith, length-map c.self.inside.rows code_bits, c.self.invariant.few) in
-    says_ends (length codes) (next_row codes bits) few (next_row-below codes bits) (sym says ∙ c.in-255.is)
+    says_ends codes (next_row codes bits) few (next_row-below codes bits) (sym says ∙ c.in-255.is)
     ∙ ap (λ cs. next_row cs bits) c.self.view_is
 
 pub returns-in-254-clause-found : goal.returns-in-254-clause-found
@@ -45,7 +45,7 @@ returns-in-254-clause-found g c =
     let codes = map code_bits c.self.inside.rows in
     let says = answered codes c.self.inside.longest (fronts c.self.inside.index) bits c.min-count.result c.window-window.result c.at.result c.self.invariant.kept c.self.invariant.short c.self.invariant.within count c.window-window.ensures c.at.ensures in
     let few : length codes ≤ 254 = omega (arith, length-map c.self.inside.rows code_bits, c.self.invariant.few) in
-    says_strange (length codes) (next_row codes bits) few (next_row-below codes bits) (sym says ∙ c.in-254.is)
+    says_strange codes (next_row codes bits) few (next_row-below codes bits) (sym says ∙ c.in-254.is)
     ∙ ap (λ cs. next_row cs bits) c.self.view_is
 
 pub returns-in_default-clause-found : goal.returns-in_default-clause-found
@@ -57,8 +57,8 @@ returns-in_default-clause-found g c =
     let says = answered codes c.self.inside.longest (fronts c.self.inside.index) bits c.min-count.result c.window-window.result c.at.result c.self.invariant.kept c.self.invariant.short c.self.invariant.within count c.window-window.ensures c.at.ensures in
     let not_ends : c.at.result ≡ 255 → ⊥ = omega arith in
     let not_strange : c.at.result ≡ 254 → ⊥ = omega arith in
-    let same : c.from-in_default.result ≡ c.at.result = c.from-in_default.ensures in
-    ap Ok same ∙ says_row c.at.result (next_row codes bits) not_ends not_strange says
+    let few : length codes ≤ 254 = omega (arith, length-map c.self.inside.rows code_bits, c.self.invariant.few) in
+    says_row codes c.at.result c.from-in_default.result (next_row codes bits) few (next_row-below codes bits) not_ends not_strange says c.from-in_default.ensures
     ∙ ap (λ cs. next_row cs bits) c.self.view_is
 
 pub returns-in_default-clause-row : goal.returns-in_default-clause-row
@@ -70,6 +70,7 @@ returns-in_default-clause-row g c =
     let says = answered codes c.self.inside.longest (fronts c.self.inside.index) bits c.min-count.result c.window-window.result c.at.result c.self.invariant.kept c.self.invariant.short c.self.invariant.within count c.window-window.ensures c.at.ensures in
     let not_ends : c.at.result ≡ 255 → ⊥ = omega arith in
     let not_strange : c.at.result ≡ 254 → ⊥ = omega arith in
-    let found = says_row c.at.result (next_row codes bits) not_ends not_strange says in
-    let few : length c.self.inside.rows ≡ g.row.N = search rules in
-    omega (arith, c.from-in_default.ensures, row_below (length codes) c.at.result (next_row codes bits) found (next_row-below codes bits), length-map c.self.inside.rows code_bits, few)
+    let few : length codes ≤ 254 = omega (arith, length-map c.self.inside.rows code_bits, c.self.invariant.few) in
+    let found = says_row codes c.at.result c.from-in_default.result (next_row codes bits) few (next_row-below codes bits) not_ends not_strange says c.from-in_default.ensures in
+    let all : length c.self.inside.rows ≡ g.row.N = search rules in
+    omega (arith, row_below (length codes) c.from-in_default.result (next_row codes bits) found (next_row-below codes bits), length-map c.self.inside.rows code_bits, all)

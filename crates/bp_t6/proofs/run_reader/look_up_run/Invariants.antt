@@ -2,7 +2,7 @@ use Rattle.std.proofs.Common.{◌≤◌, ◌-◌, length}
 use Rattle.bp_codes.specs.Span.{span_bits}
 use Rattle.bp_t6.specs.Modes.{run_codes}
 use Rattle.bp_t6.proofs.LookLemmas.{MakeUps}
-use Rattle.bp_t6.proofs.run_reader.read_run.Given as goal
+use Rattle.bp_t6.proofs.run_reader.look_up_run.Given as goal
 
 abbrev pub invariant-codes : goal.invariant-codes
 invariant-codes l = record {

@@ -36,7 +36,7 @@ same_test a b c d f g = same_from_decides (bytes_eq a b) (bytes_eq c d) (bytes_e
 turned : (a b : List ℕ) → bytes_eq a b ≡ bytes_eq b a
 turned a b = same_test a b b a sym sym
 
-code_test : (code decode : List ℕ → List ℕ) (s t : List ℕ) → decode (code s) ≡ s → decode (code t) ≡ t → bytes_eq (code s) (code t) ≡ bytes_eq s t
+pub code_test : (code decode : List ℕ → List ℕ) (s t : List ℕ) → decode (code s) ≡ s → decode (code t) ≡ t → bytes_eq (code s) (code t) ≡ bytes_eq s t
 code_test code decode s t ds dt = same_test (code s) (code t) s t (λ e. sym ds ∙ ap decode e ∙ dt) (λ e. ap code e)
 
 any_coded : {T : Type 0} (text : T → List ℕ) (code decode : List ℕ → List ℕ) (s : List ℕ) (done : List T) → decode (code s) ≡ s → Again text code decode done
@@ -75,7 +75,7 @@ differ_met text (d ∷ done) row others h =
       | inr later ↦ and_right _ _ (differ_met text done row others later)
     ]
 
-cond_or : (b x : Bool) → cond b true x ≡ (x || (b || false))
+pub cond_or : (b x : Bool) → cond b true x ≡ (x || (b || false))
 cond_or true true = refl
 cond_or true false = refl
 cond_or false true = refl

@@ -6,9 +6,11 @@ mod Examples
 pub mod FieldLemmas
 pub mod FormLemmas
 pub mod ImageLemmas
+pub mod KeepLemmas
 pub mod MarkLemmas
 pub mod NumberedLemmas
 pub mod OrderLemmas
+pub mod ReachLemmas
 pub mod RowLemmas
 pub mod RunLemmas
 mod ValidExamples

@@ -45,6 +45,17 @@ abbrev pub is_number : Option ℕ → ℕ → Bool
 is_number None n = false
 is_number (Some m) n = m == n
 
+-- the number after these items, behind what was reached of their prefix: it begins with 1
+abbrev pub after_reached : Option (Option ℕ) → List Item → Option ℕ
+after_reached None items = after_items 1 items
+after_reached (Some None) items = None
+after_reached (Some (Some n)) items = after_items n items
+
+-- a production was there, and this number was reached
+abbrev pub is_reached : Option (Option ℕ) → ℕ → Bool
+is_reached None n = false
+is_reached (Some number) n = is_number number n
+
 -- the spans under a prefix are the numbers from 1 up to the next
 abbrev pub spans_reach : List ProductionRow → PrefixRow → Bool
 spans_reach productions row =

@@ -11,12 +11,14 @@ mod docs;
 mod entries;
 mod fields;
 mod items;
+mod keeping;
 mod labels;
 mod marks;
 mod numbers;
 mod pages;
 mod prefixes;
 mod productions;
+mod reaching;
 mod requests;
 mod staff;
 mod treatments;
@@ -31,7 +33,7 @@ use self::fields::fields_valid;
 use self::marks::{boxes_valid, held_valid};
 use self::pages::pages_valid;
 use self::prefixes::prefixes_valid;
-use self::productions::{productions_few, productions_valid};
+use self::productions::productions_valid;
 use self::staff::staff_valid;
 use self::words::words_valid;
 use crate::lists::Lists;
@@ -72,9 +74,6 @@ pub(crate) fn is_valid(alloc: Global, lists: &Lists) -> Result<bool, OutOfMemory
         return Ok(false);
     }
     if !words_valid(&lists.docs, &lists.pages, &lists.words) {
-        return Ok(false);
-    }
-    if !productions_few(&lists.productions) {
         return Ok(false);
     }
     if !prefixes_valid(alloc, &lists.productions, &lists.prefixes)? {

@@ -7,7 +7,7 @@ use crate::rows::{BatchRow, FieldRow, PrefixRow, ProductionRow, StaffRow};
 use bp_core::Text;
 
 // The characters in UTF-8.
-fn text_bytes(text: &Text) -> &[u8]
+pub(crate) fn text_bytes(text: &Text) -> &[u8]
     ensures bytes { result.now ≡ encode_utf8_all text.now }
     ensures text { chars result.now ≡ text.now }
 {

@@ -9,6 +9,7 @@ ghost use Rattle.bp_matter.specs.ValidProductions.{ProductionFacts, has_prefix, 
 
 use super::differing::all_differ;
 use super::items::{are_whole, items_fit};
+use super::keeping::prefixes_kept;
 use super::labels::{ProductionId, VolumeName};
 use super::numbers::is_numbered;
 use super::requests::request_fits;
@@ -39,21 +40,6 @@ fn production_fits(
     )
 }
 
-fn same_prefix(kept: &PrefixRow, row: &ProductionRow) -> bool
-    ensures { let asked = row.now.production.request.prefix in
-        result ≡ (bytes_eq kept.now.prefix.text asked.text
-        && (kept.now.prefix.width == asked.width)) }
-{
-    kept.prefix.text == row.production.request.prefix.text
-        && kept.prefix.width == row.production.request.prefix.width
-}
-
-fn has_prefix(prefixes: &[PrefixRow], row: &ProductionRow) -> bool
-    ensures { result ≡ has_prefix prefixes.now row.now }
-{
-    prefixes.iter().any(|kept| same_prefix(kept, row))
-}
-
 fn productions_fit(
     alloc: Global,
     fields: &[FieldRow],
@@ -76,13 +62,7 @@ fn productions_fit(
     Ok(true)
 }
 
-fn prefixes_kept(prefixes: &[PrefixRow], rows: &[ProductionRow]) -> bool
-    ensures { result ≡ list_all (has_prefix prefixes.now) rows.now }
-{
-    rows.iter().all(|row| has_prefix(prefixes, row))
-}
-
-pub(crate) fn productions_few(rows: &[ProductionRow]) -> bool
+fn productions_few(rows: &[ProductionRow]) -> bool
     ensures { result ≡ nat_le (length rows.now) MAX_PRODUCTIONS }
 {
     rows.len() <= MAX_PRODUCTIONS
@@ -157,7 +137,7 @@ pub(crate) fn productions_valid(
     if !all_differ::<VolumeName, _>(alloc, productions)? {
         return Ok(false);
     }
-    if !prefixes_kept(prefixes, productions) {
+    if !prefixes_kept(alloc, prefixes, productions)? {
         return Ok(false);
     }
     if !productions_fit(alloc, fields, docs, pages, productions)? {

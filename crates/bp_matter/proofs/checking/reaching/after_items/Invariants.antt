@@ -1,6 +1,6 @@
 use Rattle.std.proofs.Common.{◌≡◌, length}
 use Rattle.bp_matter.specs.ValidPrefixes.{after_items}
-use Rattle.bp_matter.proofs.checking.prefixes.after_items.Given as goal
+use Rattle.bp_matter.proofs.checking.reaching.after_items.Given as goal
 
 abbrev pub invariant-loop-first : goal.invariant-loop-first
 invariant-loop-first l = after_items l.number l.items ≡ after_items l.next l.rest

@@ -6,6 +6,7 @@ use std::alloc::{AllocError, Global};
 use std::env::Args;
 use std::io;
 use std::io::ErrorKind;
+use std::process::Abort;
 use std::test::Fail;
 
 // The plain file of a white page of 8 by 1 pixels at 200 to the inch, from TIFF 6.0.
@@ -171,33 +172,59 @@ fn ran(alloc: Global, line: &str, failing: &Failing<'_>) -> Result<Seen, Fail> {
     })
 }
 
+// Runs a line of words, which is to print this and to put these bytes at b.tif and nothing else.
+fn check_put(
+    rt: &impl Abort,
+    alloc: Global,
+    line: &str,
+    printed: &str,
+    bytes: &[u8],
+) -> Result<(), Fail> {
+    let seen = ran(alloc, line, &NOTHING_FAILS)?;
+    assert!(rt; seen.status == 0, "{line}");
+    assert!(rt; seen.out.written() == printed.as_bytes(), "{line}");
+    let [file] = seen.folder.files() else {
+        return Err(Fail::from("not one file"));
+    };
+    assert!(rt; file.path.as_str() == "b.tif", "{line}");
+    assert!(rt; file.bytes.as_slice() == bytes, "{line}");
+    Ok(())
+}
+
+// Runs a line of words, which is to end with this status, to print this and to put nothing.
+fn check_refused(
+    rt: &impl Abort,
+    alloc: Global,
+    line: &str,
+    status: u8,
+    printed: &str,
+) -> Result<(), Fail> {
+    let seen = ran(alloc, line, &NOTHING_FAILS)?;
+    assert!(rt; seen.status == status, "{line}");
+    assert!(rt; seen.out.written() == printed.as_bytes(), "{line}");
+    assert!(rt; seen.folder.files().is_empty(), "{line}");
+    Ok(())
+}
+
+// Lines, and the strip of the file that is put.
+const BURNED: [(&str, u8); 8] = [
+    (WORKED, 0xFF),
+    ("burn a.tif 1 0 1 1 b.tif plain", 0x40),
+    ("burn a.tif 7 0 1 1 b.tif plain", 0x01),
+    ("burn a.tif 2 0 5 1 b.tif plain", 0x3E),
+    // What the box covers was black here, and nothing else may tell.
+    ("burn k.tif 0 0 8 1 b.tif plain", 0xFF),
+    ("burn k.tif 3 0 1 1 b.tif plain", 0xFF),
+    ("burn g.tif 3 0 1 1 b.tif plain", 0xFF),
+    // Paths are made of the words.
+    ("burn .\\a.tif 0 0 8 1 ./b.tif plain", 0xFF),
+];
+
 #[test]
 fn a_box_is_burned(rt: HostRuntime) -> Result<(), Fail> {
-    let alloc = rt.alloc();
-    for (line, strip) in [
-        (WORKED, 0xFFu8),
-        ("burn a.tif 1 0 1 1 b.tif plain", 0x40),
-        ("burn a.tif 7 0 1 1 b.tif plain", 0x01),
-        ("burn a.tif 2 0 5 1 b.tif plain", 0x3E),
-        // What the box covers was black here, and nothing else may tell.
-        ("burn k.tif 0 0 8 1 b.tif plain", 0xFF),
-        ("burn k.tif 3 0 1 1 b.tif plain", 0xFF),
-        ("burn g.tif 3 0 1 1 b.tif plain", 0xFF),
-        // Paths are made of the words.
-        ("burn .\\a.tif 0 0 8 1 ./b.tif plain", 0xFF),
-    ] {
-        let seen = ran(alloc, line, &NOTHING_FAILS)?;
-        assert_eq!(rt; seen.status, 0, "{line}");
-        assert_eq!(rt; seen.out.written(), b"burned 187\n".as_slice(), "{line}");
-        let [file] = seen.folder.files() else {
-            return Err(Fail::from("not one file"));
-        };
-        assert_eq!(rt; file.path.as_str(), "b.tif");
-        assert_eq!(rt;
-            file.bytes.as_slice(),
-            file_of(alloc, strip)?.as_slice(),
-            "{line}"
-        );
+    for (line, strip) in &BURNED {
+        let file = file_of(rt.alloc(), *strip)?;
+        check_put(&rt, rt.alloc(), line, "burned 187\n", &file)?;
     }
     Ok(())
 }
@@ -205,22 +232,12 @@ fn a_box_is_burned(rt: HostRuntime) -> Result<(), Fail> {
 // What the box covers was black in each row, and memory is ample.
 #[test]
 fn rows_that_were_black_are_burned(rt: HostRuntime) -> Result<(), Fail> {
-    let alloc = rt.alloc();
+    let black = black_rows(rt.alloc())?;
     for line in [
         "burn r.tif 2 0 4 3 b.tif plain",
-        "burn c.tif 0 0 1 1 d.tif plain",
+        "burn c.tif 0 0 1 1 b.tif plain",
     ] {
-        let seen = ran(alloc, line, &NOTHING_FAILS)?;
-        assert_eq!(rt; seen.status, 0, "{line}");
-        assert_eq!(rt; seen.out.written(), b"burned 189\n".as_slice(), "{line}");
-        let [file] = seen.folder.files() else {
-            return Err(Fail::from("not one file"));
-        };
-        assert_eq!(rt;
-            file.bytes.as_slice(),
-            black_rows(alloc)?.as_slice(),
-            "{line}"
-        );
+        check_put(&rt, rt.alloc(), line, "burned 189\n", &black)?;
     }
     Ok(())
 }
@@ -228,91 +245,81 @@ fn rows_that_were_black_are_burned(rt: HostRuntime) -> Result<(), Fail> {
 // What the box covers is black before in one of the two pages, and the file is the same.
 #[test]
 fn a_box_is_burned_to_group_4(rt: HostRuntime) -> Result<(), Fail> {
-    let alloc = rt.alloc();
     for line in ["burn a.tif 0 0 8 1 b.tif g4", "burn k.tif 2 0 3 1 b.tif g4"] {
-        let seen = ran(alloc, line, &NOTHING_FAILS)?;
-        assert_eq!(rt; seen.status, 0, "{line}");
-        assert_eq!(rt; seen.out.written(), b"burned 204\n".as_slice(), "{line}");
-        let [file] = seen.folder.files() else {
-            return Err(Fail::from("not one file"));
-        };
-        assert_eq!(rt; file.bytes.as_slice(), BLACK_G4.as_slice(), "{line}");
+        check_put(&rt, rt.alloc(), line, "burned 204\n", &BLACK_G4)?;
     }
     Ok(())
 }
+
+// Lines, and the rule that is printed.
+const BROKEN: [(&str, &str); 8] = [
+    (
+        "burn a.tif 1 0 8 1 b.tif plain",
+        "refused 13 BoxOutside 0 0 0\n",
+    ),
+    (
+        "burn a.tif 0 1 8 1 b.tif plain",
+        "refused 13 BoxOutside 0 0 0\n",
+    ),
+    (
+        "burn a.tif 0 0 0 1 b.tif plain",
+        "refused 14 BoxShape 0 0 0\n",
+    ),
+    (
+        "burn a.tif 9 0 8 0 b.tif plain",
+        "refused 14 BoxShape 0 0 0\n",
+    ),
+    (
+        "burn x.tif 0 0 0 1 b.tif plain",
+        "refused 80 TiffHead 0 0 0\n",
+    ),
+    (
+        "burn n.tif 0 0 0 1 b.tif plain",
+        "refused 54 FileAbsent 0 0 0\n",
+    ),
+    (
+        "burn ../a.tif 0 0 1 1 b.tif plain",
+        "refused 63 PathRefused 0 0 0\n",
+    ),
+    (
+        "burn n.tif 0 0 0 1 /b.tif plain",
+        "refused 63 PathRefused 0 0 0\n",
+    ),
+];
 
 #[test]
 fn a_broken_rule_is_named(rt: HostRuntime) -> Result<(), Fail> {
-    let alloc = rt.alloc();
-    for (line, printed) in [
-        (
-            "burn a.tif 1 0 8 1 b.tif plain",
-            "refused 13 BoxOutside 0 0 0\n",
-        ),
-        (
-            "burn a.tif 0 1 8 1 b.tif plain",
-            "refused 13 BoxOutside 0 0 0\n",
-        ),
-        (
-            "burn a.tif 0 0 0 1 b.tif plain",
-            "refused 14 BoxShape 0 0 0\n",
-        ),
-        (
-            "burn a.tif 9 0 8 0 b.tif plain",
-            "refused 14 BoxShape 0 0 0\n",
-        ),
-        (
-            "burn x.tif 0 0 0 1 b.tif plain",
-            "refused 80 TiffHead 0 0 0\n",
-        ),
-        (
-            "burn n.tif 0 0 0 1 b.tif plain",
-            "refused 54 FileAbsent 0 0 0\n",
-        ),
-        (
-            "burn ../a.tif 0 0 1 1 b.tif plain",
-            "refused 63 PathRefused 0 0 0\n",
-        ),
-        (
-            "burn n.tif 0 0 0 1 /b.tif plain",
-            "refused 63 PathRefused 0 0 0\n",
-        ),
-    ] {
-        let seen = ran(alloc, line, &NOTHING_FAILS)?;
-        assert_eq!(rt; seen.status, 2, "{line}");
-        assert_eq!(rt; seen.out.written(), printed.as_bytes(), "{line}");
-        assert!(rt; seen.folder.files().is_empty(), "{line}");
+    for (line, printed) in &BROKEN {
+        check_refused(&rt, rt.alloc(), line, 2, printed)?;
     }
     Ok(())
 }
 
+const NO_LINES: [&str; 18] = [
+    "",
+    "burn",
+    "Burn a.tif 0 0 8 1 b.tif plain",
+    "burns a.tif 0 0 8 1 b.tif plain",
+    "burn a.tif 0 0 8 1 b.tif",
+    "burn a.tif 0 0 8 1 b.tif plain plain",
+    "burn a.tif 0 0 8 1 b.tif g4x",
+    "burn a.tif 0 0 8 1 b.tif Plain",
+    "burn a.tif 00 0 8 1 b.tif plain",
+    "burn a.tif 0 01 8 1 b.tif plain",
+    "burn a.tif 0 0 1234567890 1 b.tif plain",
+    "burn a.tif 0 0 8 +1 b.tif plain",
+    "burn a.tif 0 0 8 1x b.tif plain",
+    "burn a.tif 0 0 -8 1 b.tif plain",
+    "burn -a.tif 0 0 8 1 b.tif plain",
+    "burn a.tif 0 0 8 1 -b.tif plain",
+    "burn  0 0 8 1 b.tif plain",
+    "burn a.tif 0 0 8 1  plain",
+];
+
 #[test]
 fn words_that_are_no_command_line_are_refused(rt: HostRuntime) -> Result<(), Fail> {
-    let alloc = rt.alloc();
-    for line in [
-        "",
-        "burn",
-        "Burn a.tif 0 0 8 1 b.tif plain",
-        "burns a.tif 0 0 8 1 b.tif plain",
-        "burn a.tif 0 0 8 1 b.tif",
-        "burn a.tif 0 0 8 1 b.tif plain plain",
-        "burn a.tif 0 0 8 1 b.tif g4x",
-        "burn a.tif 0 0 8 1 b.tif Plain",
-        "burn a.tif 00 0 8 1 b.tif plain",
-        "burn a.tif 0 01 8 1 b.tif plain",
-        "burn a.tif 0 0 1234567890 1 b.tif plain",
-        "burn a.tif 0 0 8 +1 b.tif plain",
-        "burn a.tif 0 0 8 1x b.tif plain",
-        "burn a.tif 0 0 -8 1 b.tif plain",
-        "burn -a.tif 0 0 8 1 b.tif plain",
-        "burn a.tif 0 0 8 1 -b.tif plain",
-        "burn  0 0 8 1 b.tif plain",
-        "burn a.tif 0 0 8 1  plain",
-    ] {
-        let seen = ran(alloc, line, &NOTHING_FAILS)?;
-        assert_eq!(rt; seen.status, 1, "{line}");
-        assert_eq!(rt; seen.out.written(), b"words refused\n".as_slice(), "{line}");
-        assert!(rt; seen.folder.files().is_empty(), "{line}");
+    for line in &NO_LINES {
+        check_refused(&rt, rt.alloc(), line, 1, "words refused\n")?;
     }
     Ok(())
 }
@@ -324,8 +331,8 @@ fn a_fault_of_the_source_leaves_nothing(rt: HostRuntime) -> Result<(), Fail> {
         ..NOTHING_FAILS
     };
     let seen = ran(rt.alloc(), WORKED, &failing)?;
-    assert_eq!(rt; seen.status, 3);
-    assert_eq!(rt; seen.out.written(), b"source fault\n".as_slice());
+    assert!(rt; seen.status == 3);
+    assert!(rt; seen.out.written() == b"source fault\n".as_slice());
     assert!(rt; seen.folder.files().is_empty());
     Ok(())
 }
@@ -341,14 +348,13 @@ fn a_fault_of_the_folder_leaves_a_prefix(rt: HostRuntime) -> Result<(), Fail> {
             ..NOTHING_FAILS
         };
         let seen = ran(rt.alloc(), WORKED, &failing)?;
-        assert_eq!(rt; seen.status, 4, "at call {call}");
-        assert_eq!(rt;
-            seen.out.written(),
-            b"folder fault\n".as_slice(),
+        assert!(rt; seen.status == 4, "at call {call}");
+        assert!(rt;
+            seen.out.written() == b"folder fault\n".as_slice(),
             "at call {call}"
         );
         let part = seen.folder.files().first().map(|file| file.bytes.len());
-        assert_eq!(rt; part.unwrap_or(0), length, "at call {call}");
+        assert!(rt; part.unwrap_or(0) == length, "at call {call}");
     }
     Ok(())
 }
@@ -361,9 +367,9 @@ fn a_fault_of_the_out_leaves_a_prefix(rt: HostRuntime) -> Result<(), Fail> {
     };
     for (line, printed, files) in [(WORKED, "burne", 1), ("burn", "words r", 0)] {
         let seen = ran(rt.alloc(), line, &failing)?;
-        assert_eq!(rt; seen.status, 7, "{line}");
-        assert_eq!(rt; seen.out.written(), printed.as_bytes(), "{line}");
-        assert_eq!(rt; seen.folder.files().len(), files, "{line}");
+        assert!(rt; seen.status == 7, "{line}");
+        assert!(rt; seen.out.written() == printed.as_bytes(), "{line}");
+        assert!(rt; seen.folder.files().len() == files, "{line}");
     }
     Ok(())
 }
@@ -393,8 +399,8 @@ fn the_words_after_the_name_are_carried_out(rt: HostRuntime) -> Result<(), Fail>
     ] {
         let words = words_of(alloc, line)?;
         let seen = answered(alloc, Ok(words.into_iter()))?;
-        assert_eq!(rt; seen.status, status, "{line}");
-        assert_eq!(rt; seen.folder.files().is_empty(), status > 0, "{line}");
+        assert!(rt; seen.status == status, "{line}");
+        assert!(rt; seen.folder.files().is_empty() == (status > 0), "{line}");
     }
     Ok(())
 }
@@ -407,8 +413,8 @@ fn words_that_the_system_does_not_give_are_told_apart(rt: HostRuntime) -> Result
         (ErrorKind::InvalidData, 1, "words refused\n"),
     ] {
         let seen = answered(alloc, Err(io::Error::from(kind)))?;
-        assert_eq!(rt; seen.status, status, "{printed}");
-        assert_eq!(rt; seen.out.written(), printed.as_bytes(), "{printed}");
+        assert!(rt; seen.status == status, "{printed}");
+        assert!(rt; seen.out.written() == printed.as_bytes(), "{printed}");
     }
     Ok(())
 }

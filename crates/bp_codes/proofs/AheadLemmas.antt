@@ -17,9 +17,9 @@ front_four fill bytes q within =
     let room : 32 ≤ length rest * 8 = omega (arith, length-drop q bytes) in
     let four = four_bytes fill (get_or rest 0 0) (get_or rest 1 0) (get_or rest 2 0) (get_or rest 3 0) in
     let front : take 32 (bits_of fill rest) ≡ four =
-        first_four fill 32 rest (omega arith) room ∙ take_all 32 four (omega (arith, length-bits_of fill (get_or rest 0 0 ∷ get_or rest 1 0 ∷ get_or rest 2 0 ∷ get_or rest 3 0 ∷ []))) in
+    first_four fill 32 rest (omega arith) room ∙ take_all 32 four (omega (arith, length-bits_of fill (get_or rest 0 0 ∷ get_or rest 1 0 ∷ get_or rest 2 0 ∷ get_or rest 3 0 ∷ []))) in
     let behind : drop 32 (bits_of fill rest) ≡ bits_of fill (drop (q + 4) bytes) =
-        drop-bits_of fill 4 0 rest ∙ ap (bits_of fill) (drop-drop 4 q bytes) in
+    drop-bits_of fill 4 0 rest ∙ ap (bits_of fill) (drop-drop 4 q bytes) in
     sym (take-append-drop 32 (bits_of fill rest)) ∙ ap (λ xs. xs ++ drop 32 (bits_of fill rest)) front ∙ ap (λ xs. four ++ xs) behind
     ∙ ap (λ xs. xs ++ bits_of fill (drop (q + 4) bytes)) (rw (in_the_rest bytes q 0, in_the_rest bytes q 1, in_the_rest bytes q 2, in_the_rest bytes q 3, add-zero q) refl)
 
@@ -65,8 +65,8 @@ ahead_from bytes at q r word place small within is =
     let behind = bits_of High (drop (q + 4 + 4) bytes) in
     let left : length (drop r bits) ≡ 64 - r = length-drop r bits in
     let there : drop at (bits_of High bytes) ≡ drop r bits ++ behind =
-        ap (λ n. drop n (bits_of High bytes)) place ∙ drop-bits_of High q r bytes ∙ ap (drop r) (front_eight bytes q within)
-        ∙ drop-append-le r bits behind (omega (arith, length-eight bytes q)) in
+    ap (λ n. drop n (bits_of High bytes)) place ∙ drop-bits_of High q r bytes ∙ ap (drop r) (front_eight bytes q within)
+    ∙ drop-append-le r bits behind (omega (arith, length-eight bytes q)) in
     let first : take 57 (drop r bits ++ replicate r false) ≡ take 57 (drop r bits) = take-append-le 57 (drop r bits) (replicate r false) (omega (arith, left)) in
     let second : take 57 (drop r bits ++ behind) ≡ take 57 (drop r bits) = take-append-le 57 (drop r bits) behind (omega (arith, left)) in
     let all : 64 - r + r ≡ 64 = omega arith in
@@ -104,8 +104,8 @@ take_less (suc n) (suc m) (x ∷ xs) h = ap (λ ys. x ∷ ys) (take_less n m xs 
 pub window_ahead : (word skipped count : ℕ) (bits : List Bool) → IsAhead word bits → skipped + count ≤ 57 → word * 2 ^ skipped % 2 ^ 64 / 2 ^ (64 - count) ≡ number_of (take count (drop skipped bits))
 window_ahead word skipped count bits a short =
     let front : take (skipped + count) a.digits ≡ take (skipped + count) bits =
-        sym (take_less (skipped + count) 57 a.digits short) ∙ ap (take (skipped + count)) a.same ∙ take_less (skipped + count) 57 bits short in
+    sym (take_less (skipped + count) 57 a.digits short) ∙ ap (take (skipped + count)) a.same ∙ take_less (skipped + count) 57 bits short in
     let same : take count (drop skipped a.digits) ≡ take count (drop skipped bits) =
-        sym (drop-take skipped count a.digits) ∙ ap (drop skipped) front ∙ drop-take skipped count bits in
+    sym (drop-take skipped count a.digits) ∙ ap (drop skipped) front ∙ drop-take skipped count bits in
     ap (λ v. v * 2 ^ skipped % 2 ^ 64 / 2 ^ (64 - count)) (sym a.number)
     ∙ sym (middle a.digits skipped count (64 - skipped - count) 64 a.count (omega arith)) ∙ ap number_of same

@@ -126,6 +126,6 @@ finds_ahead codes longest index bits word skipped entry found kept short full fe
     let window = window_ahead word skipped longest bits a (omega arith) in
     let there : longest ≡ min longest (length (drop skipped bits)) = omega (arith, length-drop skipped bits, a.long) in
     let answer : entry ≡ entry_number codes (next_row codes (drop skipped bits)) =
-        is ∙ ap (λ n. get_or index (2 ^ longest + n) 0) window ∙ entry_is codes longest index (drop skipped bits) longest kept short there in
+    is ∙ ap (λ n. get_or index (2 ^ longest + n) 0) window ∙ entry_is codes longest index (drop skipped bits) longest kept short there in
     let P : Option Found → Type 0 = λ f. Finds codes (drop skipped bits) f in
     subst P (sym says) (says_found codes entry (drop skipped bits) full few answer)

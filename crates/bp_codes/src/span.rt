@@ -1,5 +1,5 @@
 // Bits, read out of bytes.
-ghost use Rattle.std.specs.Prelude.{◌≡◌, ◌*◌, ◌+◌, ◌^◌, ◌<◌, ◌≤◌, length, slice_get, slice_index, Some, take, drop, IfSome};
+ghost use Rattle.std.specs.Prelude.{◌≡◌, ◌*◌, ◌/◌, ◌+◌, IsTrue, is_some, ◌^◌, ◌<◌, ◌≤◌, length, slice_get, slice_index, Some, take, drop, IfSome};
 ghost use Rattle.bp_codes.specs.Ahead.{IsAhead};
 ghost use Rattle.bp_codes.specs.Bits.{word_at};
 ghost use Rattle.bp_codes.specs.declared.span.Fill.TheVariants.{High};
@@ -55,7 +55,9 @@ impl BitSpan<'_> {
     #[inline(always)]
     pub fn ahead(&self, at: u64) -> Option<u64>
         requires { at ≤ length (span_bits self.now) }
-        ensures { IfSome result (λ word. IsAhead word (drop at (span_bits self.now))) }
+        ensures ahead { IfSome result (λ word. IsAhead word (drop at (span_bits self.now))) }
+        ensures there { self.now.fill ≡ High → at / 8 + 8 ≤ length self.now.bytes.now
+            → IsTrue (is_some result) }
     {
         let first = (at / 8) as usize;
         match self.fill {

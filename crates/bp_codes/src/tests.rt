@@ -1,5 +1,7 @@
 // What is read where codes were written, and the bits of a span at its end.
-use crate::code::NoCode;
+ghost use Rattle.std.specs.Prelude.{◌<◌};
+use crate::ahead::{black_ahead, mode_ahead, white_ahead};
+use crate::code::{Code, Found, NoCode};
 use crate::span::{BitSpan, Fill};
 use crate::tables::{CodeTable, black, modes, white};
 use std::process::Abort;
@@ -34,6 +36,54 @@ fn each_code_is_read_back(rt: HostRuntime) {
     reads_back(&rt, &white());
     reads_back(&rt, &black());
     reads_back(&rt, &modes());
+}
+
+// What comes next at a bit of eight bytes that hold three ones, a code, and zeros.
+fn ahead_of(code: Code, at: u64) -> Option<u64>
+    requires { at < 8 }
+{
+    let len = u32::from(code.len).min(13);
+    let bytes = (0b111 << 61 | u64::from(code.bits) << (61 - len)).to_be_bytes();
+    let span = BitSpan {
+        bytes: &bytes,
+        fill: Fill::High,
+    };
+    span.ahead(at)
+}
+
+#[test]
+fn each_run_code_is_found_ahead(rt: HostRuntime) {
+    let (white, black) = (white(), black());
+    for row in 0..104 {
+        let code = white.code_of(row);
+        let want = Some(Found {
+            row,
+            len: u64::from(code.len),
+        });
+        let word = ahead_of(code, 0).expect(&rt, "a look-ahead");
+        assert_eq!(rt; white_ahead(word, 3), want, "white {row}");
+        let code = black.code_of(row);
+        let want = Some(Found {
+            row,
+            len: u64::from(code.len),
+        });
+        let word = ahead_of(code, 1).expect(&rt, "a look-ahead");
+        assert_eq!(rt; black_ahead(word, 2), want, "black {row}");
+    }
+}
+
+#[test]
+fn each_mode_is_found_ahead(rt: HostRuntime) {
+    let modes = modes();
+    for row in 0..9 {
+        let code = modes.code_of(row);
+        let want = Some(Found {
+            row,
+            len: u64::from(code.len),
+        });
+        let word = ahead_of(code, 3).expect(&rt, "a look-ahead");
+        assert_eq!(rt; mode_ahead(word), want, "mode {row}");
+    }
 }
 
 #[test]

@@ -1,6 +1,5 @@
 -- What the loops of the tests need.
 use Rattle.std.proofs.Common.{◌≡◌, ℕ, zero, suc, ◌+◌, ◌<◌, ◌≤◌, Bool, true, false, cond, eqb, ◌&&◌, List, [], ◌∷◌, ◌++◌, append_assoc, length, Option, Some, None, refl, sym, ap, ◌∙◌, arith, get_or, slice_set, replicate}
-use Rattle.bp_matter.specs.ValidPrefixes.{after_productions}
 use Rattle.bp_matter.specs.ValidProductions.{all_marked_on, mark, is_marked, marked_on, blank, stand_once}
 use Rattle.bp_matter.specs.ValidPages.{has_rows}
 use Rattle.std.specs.Prelude.{not, is_none}
@@ -12,10 +11,6 @@ use Rattle.bp_matter.specs.declared.rows.ProductionRow.{ProductionRow}
 
 pub add-one-is : (n : ℕ) → suc n ≡ n + 1
 add-one-is n = omega arith
-
-pub after_none : (text : List ℕ) (rows : List ProductionRow) → after_productions text None rows ≡ None
-after_none text [] = refl
-after_none text (row ∷ rows) = refl
 
 pub marked_none : (rows : List ProductionRow) → all_marked_on None rows ≡ None
 marked_none [] = refl

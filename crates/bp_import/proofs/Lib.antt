@@ -1,0 +1,5 @@
+pub mod ScanLemmas
+pub mod ColumnLemmas
+pub mod BreakLemmas
+pub mod TurnLemmas
+mod Examples

@@ -1,0 +1,13 @@
+pub mod Batch
+pub mod Breaks
+pub mod Columns
+pub mod Digest
+pub mod Families
+pub mod Files
+pub mod Importing
+pub mod Places
+pub mod Records
+pub mod Refusals
+pub mod Scans
+pub mod Steps
+pub mod WordPages

@@ -1,0 +1,88 @@
+// The images of a batch, read line by line of its OPT file.
+ghost use Rattle.std.specs.Prelude.{◌≡◌, IfErr, IfSome};
+ghost use Rattle.bp_import.specs.Importing.{Comes, IsCalm, after_step};
+ghost use Rattle.bp_import.specs.Refusals.{refused_at};
+ghost use Rattle.bp_import.specs.Scans.{BytesAnswer, LineAnswers, path_of_line, scan_seen, scan_with};
+
+use crate::files::{IMAGE, path_below, read_file};
+use crate::refusals::ImportRefusal;
+use bp_core::{Refusal, Rule, RuleKind, Text, path_of};
+use bp_load::OptLine;
+use bp_outside::Source;
+use bp_rows::{Page, import_sides};
+use bp_tiff::read_tiff;
+use std::alloc::Global;
+
+/// An image file and the page in it.
+#[derive(Drop)]
+pub struct ScanFile {
+    pub bytes: Vec<u8>,
+    pub page: Page,
+}
+
+/// The image that line `number` of the OPT file names, below the folder `name`. PathRefused, what
+/// `read_file` and `read_tiff` refuse, or PageLimit where its sides aren't those of an import; each with
+/// the line.
+pub fn read_image<S: Source>(
+    alloc: Global,
+    source: &mut S,
+    name: &Text,
+    line: &OptLine,
+    number: u32,
+) -> Result<ScanFile, ImportRefusal>
+    ensures told { IfSome (S.shows source.old).files (λ files.
+        Comes scan_seen (LineAnswers files name.now number line.now) result) }
+    ensures after { S.shows source.new ≡ after_step (S.shows source.old) result }
+{
+    let path = image_path(alloc, name, line, number)?;
+    let bytes = read_file(alloc, source, &path, IMAGE, number)?;
+    let page = read_page(alloc, &bytes, number)?;
+    Ok(ScanFile { bytes, page })
+}
+
+// The path that line `number` names, below the folder `name`.
+fn image_path(
+    alloc: Global,
+    name: &Text,
+    line: &OptLine,
+    number: u32,
+) -> Result<Text, ImportRefusal>
+    ensures answer { Comes (λ path. path)
+        (λ answer. path_of_line name.now number line.now ≡ answer) result }
+    ensures calm { IfErr result IsCalm }
+{
+    match path_of(alloc, line.path.as_str()) {
+        Ok(path) => Ok(path_below(alloc, name, path.as_str())?),
+        Err(refusal) => Err(at_line(refusal, number)),
+    }
+}
+
+// The same refusal, with the line where it is by a rule.
+fn at_line(refusal: Refusal, number: u32) -> ImportRefusal
+    ensures { result ≡ refused_at number refusal }
+{
+    match refusal {
+        Refusal::Rule(rule) => ImportRefusal::Rule(Rule {
+            line: number,
+            ..rule
+        }),
+        Refusal::OutOfMemory => ImportRefusal::OutOfMemory,
+    }
+}
+
+// The page of the bytes at line `number`.
+fn read_page(alloc: Global, bytes: &[u8], number: u32) -> Result<Page, ImportRefusal>
+    ensures answer { Comes (λ page. scan_with bytes.now page) (BytesAnswer number bytes.now) result }
+    ensures calm { IfErr result IsCalm }
+{
+    let page = match read_tiff(alloc, bytes) {
+        Ok(page) => page,
+        Err(refusal) => return Err(at_line(refusal, number)),
+    };
+    let (width, height) = (page.width(), page.height());
+    if import_sides(width, height) {
+        Ok(page)
+    } else {
+        Err(at_line(Refusal::Rule(Rule::page_limit(width, height)), number))
+    }
+}

@@ -1,0 +1,42 @@
+// The words of a batch and the pages that they stand on.
+ghost use Rattle.std.specs.Prelude.{◌≡◌, ◌<◌, ◌^◌, length, List};
+ghost use Rattle.bp_core.specs.Answers.{Answers};
+ghost use Rattle.bp_load.specs.declared.opt.OptLine.{OptLine};
+ghost use Rattle.bp_import.specs.Breaks.{place_of};
+ghost use Rattle.bp_import.specs.Places.{Finds};
+ghost use Rattle.bp_import.specs.WordPages.{places_of};
+
+use crate::breaks::Places;
+use bp_core::{Refusal, Rule, RuleKind, Text};
+use bp_text::WordRow;
+use std::alloc::Global;
+
+/// The place of the line of each word. WordsPage with the number of the first record, from 1, whose
+/// image id no line has.
+pub fn places_of(
+    alloc: Global,
+    places: &Places<'_>,
+    rows: &[WordRow],
+) -> Result<Vec<usize>, Refusal>
+    requires { length rows.now < 2 ^ 32 }
+    ensures { (lines : List OptLine) → Finds places.now lines
+        → Answers (λ found. found.items) result (places_of lines rows.now) }
+{
+    let mut found = Vec::with_capacity(alloc, rows.len())?;
+    let mut number = 0;
+    for row in rows {
+        number += 1;
+        match place_of(places, &row.image) {
+            Some(place) => found.push(place)?,
+            None => return Err(Refusal::Rule(Rule::at_line(RuleKind::WordsPage, number))),
+        }
+    }
+    Ok(found)
+}
+
+fn place_of(places: &Places<'_>, image: &Text) -> Option<usize>
+    ensures { (lines : List OptLine) → Finds places.now lines
+        → result ≡ place_of image.now lines }
+{
+    places.get(image.as_str()).copied()
+}

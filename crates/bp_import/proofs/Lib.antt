@@ -1,4 +1,5 @@
 pub mod ScanLemmas
+pub mod ScanTurns
 pub mod ColumnLemmas
 pub mod BreakLemmas
 pub mod TurnLemmas

@@ -1,5 +1,5 @@
 -- The images of a batch, read line by line of its OPT file.
-use Rattle.std.specs.Prelude.{ℕ, ◌≡◌, ◌+◌, List, [], ◌∷◌, Result, Ok, Err, if◌then◌else◌}
+use Rattle.std.specs.Prelude.{ℕ, ◌≡◌, ◌+◌, List, [], ◌∷◌, ◌++◌, map, Result, Ok, Err, if◌then◌else◌}
 use Rattle.std.specs.Option.{ok_or}
 use Rattle.bp_core.specs.InTurn.{onto}
 use Rattle.bp_core.specs.Paths.{path_in}
@@ -14,6 +14,11 @@ use Rattle.bp_tiff.specs.Read.{TiffAnswers}
 use Rattle.bp_import.specs.Files.{below, file_at}
 use Rattle.bp_import.specs.Steps.{◌>>=◌}
 use Rattle.bp_import.specs.declared.files.TheConstants.{IMAGE}
+use Rattle.bp_import.specs.Digest.{HasTaken, digest_of}
+use Rattle.bp_import.specs.declared.digest.FilesDigest.{FilesDigest}
+use Rattle.bp_import.specs.declared.refusals.ImportRefusal.{ImportRefusal}
+use Rattle.bp_import.specs.declared.refusals.ImportRefusal.TheVariants as refusals
+use Rattle.bp_import.specs.declared.scans.Images.{Images}
 use Rattle.bp_import.specs.declared.scans.ScanFile.{ScanFile}
 
 -- an image file and the page in it
@@ -85,3 +90,21 @@ abbrev pub LinesAnswer : FileMap → List ℕ → ℕ → List OptLine → Resul
 LinesAnswer files name n [] answer = answer ≡ Ok []
 LinesAnswer files name n (line ∷ lines) answer =
     InTurn (LineAnswers files name n line) (LinesAnswer files name (n + 1) lines) answer
+
+-- the pages of all lines were read, and the digest of the files before them took theirs as well
+pub record ReadsImages (files : FileMap) (name : List ℕ) (lines : List OptLine)
+    (before : FilesDigest) (images : Images) : Type 0 where
+  pub scans : List Scan
+  pub read : LinesAnswer files name 1 lines (Ok scans)
+  pub pages : images.pages ≡ map (λ scan. scan.page) scans
+  pub digest : (taken : List (List ℕ)) → HasTaken before taken
+      → images.digest ≡ digest_of (taken ++ map (λ scan. scan.bytes) scans)
+
+-- what reading the images gave: all of them, or the first rule
+abbrev pub GivesImages : FileMap → List ℕ → List OptLine → FilesDigest
+    → Result Images ImportRefusal → Type 0
+GivesImages files name lines before (Ok images) = ReadsImages files name lines before images
+GivesImages files name lines before (Err (refusals.Rule rule)) =
+    LinesAnswer files name 1 lines (Err rule)
+GivesImages files name lines before (Err refusals.SourceFault) = Unit {0}
+GivesImages files name lines before (Err refusals.OutOfMemory) = Unit {0}

@@ -19,5 +19,5 @@ pub use families::parents_of;
 pub use files::{DAT, FILE_LIMIT, IMAGE, OPT, WORDS, path_below, read_file};
 pub use records::{Record, fields_of, records_of};
 pub use refusals::ImportRefusal;
-pub use scans::{ScanFile, read_image};
+pub use scans::{Images, PageList, ScanFile, read_image, read_images};
 pub use word_pages::places_of;

@@ -1,6 +1,6 @@
 // Why a batch wasn't read.
 use bp_core::{OutOfMemory, Refusal, Rule};
-use std::alloc::AllocError;
+use std::alloc::{AllocError, AllocFailed};
 use std::convert::From;
 use thiserror::Error;
 
@@ -49,6 +49,17 @@ impl From<AllocError> for ImportRefusal {
     ghost from_gives = { λ _ refusal. refusal ≡ refusals.OutOfMemory };
 
     fn from(_error: AllocError) -> ImportRefusal {
+        ImportRefusal::OutOfMemory
+    }
+}
+
+impl<T: Drop> From<AllocFailed<T>> for ImportRefusal {
+    ghost use Rattle.std.specs.Prelude.{◌≡◌};
+    ghost use Rattle.bp_import.specs.declared.refusals.ImportRefusal.TheVariants as refusals;
+
+    ghost from_gives = { λ _ refusal. refusal ≡ refusals.OutOfMemory };
+
+    fn from(_error: AllocFailed<T>) -> ImportRefusal {
         ImportRefusal::OutOfMemory
     }
 }

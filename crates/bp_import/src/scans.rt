@@ -1,17 +1,21 @@
 // The images of a batch, read line by line of its OPT file.
-ghost use Rattle.std.specs.Prelude.{◌≡◌, IfErr, IfSome};
+ghost use Rattle.std.specs.Prelude.{◌≡◌, ◌<◌, ◌+◌, ◌^◌, length, IfErr, IfSome};
 ghost use Rattle.bp_import.specs.Importing.{Comes, IsCalm, after_step};
 ghost use Rattle.bp_import.specs.Refusals.{refused_at};
-ghost use Rattle.bp_import.specs.Scans.{BytesAnswer, LineAnswers, path_of_line, scan_seen, scan_with};
+ghost use Rattle.bp_import.specs.Scans.{BytesAnswer, GivesImages, LineAnswers, path_of_line, scan_seen, scan_with};
 
+use crate::digest::FilesDigest;
 use crate::files::{IMAGE, path_below, read_file};
 use crate::refusals::ImportRefusal;
-use bp_core::{Refusal, Rule, RuleKind, Text, path_of};
+use bp_core::{ListOf, Refusal, Rule, RuleKind, Text, path_of};
 use bp_load::OptLine;
 use bp_outside::Source;
 use bp_rows::{Page, import_sides};
 use bp_tiff::read_tiff;
 use std::alloc::Global;
+
+/// A list of pages.
+pub type PageList = ListOf<Page>;
 
 /// An image file and the page in it.
 #[derive(Drop)]
@@ -38,6 +42,47 @@ pub fn read_image<S: Source>(
     let bytes = read_file(alloc, source, &path, IMAGE, number)?;
     let page = read_page(alloc, &bytes, number)?;
     Ok(ScanFile { bytes, page })
+}
+
+/// The pages of a batch, in the order of the OPT lines, and the digest of all its files.
+#[derive(Drop)]
+pub struct Images {
+    pub pages: PageList,
+    pub digest: [u8; 32],
+}
+
+/// The images of all lines, one after the other. `digest` has taken the files that were read before. A
+/// line that names the file of another is read again, and its file counts twice in the digest. What
+/// `read_image` refuses, at the first such line.
+pub fn read_images<S: Source>(
+    alloc: Global,
+    source: &mut S,
+    name: &Text,
+    lines: &[OptLine],
+    mut digest: FilesDigest,
+) -> Result<Images, ImportRefusal>
+    requires { length lines.now + 1 < 2 ^ 32 }
+    ensures told { IfSome (S.shows source.old).files (λ files.
+        GivesImages files name.now lines.now digest result) }
+    ensures after { S.shows source.new ≡ after_step (S.shows source.old) result }
+{
+    let mut pages = Vec::with_capacity(alloc, lines.len())?;
+    let mut number = 0;
+    let mut rest = lines;
+    while let Some((line, others)) = rest.split_first() {
+        number += 1;
+        let scan = match read_image(alloc, source, name, line, number) {
+            Ok(scan) => scan,
+            Err(refusal) => return Err(refusal),
+        };
+        digest.take(&scan.bytes);
+        pages.push(scan.page)?;
+        rest = others;
+    }
+    Ok(Images {
+        pages: ListOf::from_vec(pages),
+        digest: digest.finish(),
+    })
 }
 
 // The path that line `number` names, below the folder `name`.

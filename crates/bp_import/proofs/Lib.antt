@@ -3,4 +3,5 @@ pub mod ScanTurns
 pub mod ColumnLemmas
 pub mod BreakLemmas
 pub mod TurnLemmas
+pub mod WordLemmas
 mod Examples

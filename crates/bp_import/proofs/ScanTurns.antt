@@ -38,7 +38,7 @@ read_none files name lines before = record {
   then = λ others h. subst (LinesAnswer files name 1 lines) (sym (front_none others)) h;
 }
 
-map-one : {X Y : Type 0} (f : X → Y) (front : List X) (x : X) → map f (front ++ x ∷ []) ≡ map f front ++ f x ∷ []
+pub map-one : {X Y : Type 0} (f : X → Y) (front : List X) (x : X) → map f (front ++ x ∷ []) ≡ map f front ++ f x ∷ []
 map-one f [] x = refl
 map-one f (y ∷ front) x = ap (λ ys. f y ∷ ys) (map-one f front x)
 

@@ -1,6 +1,6 @@
 -- The words of a batch and the pages that they stand on.
-use Rattle.std.specs.Prelude.{ℕ, List, [], ◌∷◌, map, Option, Some, None, Result, if◌then◌else◌}
-use Rattle.std.specs.List.{filter}
+use Rattle.std.specs.Prelude.{ℕ, ◌≡◌, Bool, List, [], ◌∷◌, map, nat_lt, Option, Some, None, Result, Ok, Err, if◌then◌else◌}
+use Rattle.std.specs.List.{filter, list_all}
 use Rattle.std.specs.Str.{bytes_eq}
 use Rattle.bp_core.specs.InTurn.{read_each}
 use Rattle.bp_core.specs.Rectangle.{lies_inside}
@@ -42,3 +42,13 @@ row_inside lines pages row = word_inside (page_on row.image lines pages) row.wor
 abbrev pub words_inside : List OptLine → List Image → List WordRow → Result (List Word) Rule
 words_inside lines pages rows =
     read_each (row_inside lines pages) (rule_at_line WordOutside) 1 rows
+
+-- what testing the words gave: all lie inside their pages, or the first rule
+abbrev pub GivesInside : List OptLine → List Image → List WordRow → Result (Unit {0}) Rule → Type 0
+GivesInside lines pages rows (Ok _) =
+    words_inside lines pages rows ≡ Ok (map (λ row. row.word) rows)
+GivesInside lines pages rows (Err rule) = words_inside lines pages rows ≡ Err rule
+
+-- each place is that of a page
+abbrev pub are_places : ℕ → List ℕ → Bool
+are_places count places = list_all (λ place. nat_lt place count) places

@@ -10,6 +10,8 @@ mod files;
 mod records;
 mod refusals;
 mod scans;
+#[cfg(test)]
+mod tests;
 mod word_pages;
 
 pub use breaks::{Places, page_counts, places_by_breaks};
@@ -20,4 +22,4 @@ pub use files::{DAT, FILE_LIMIT, IMAGE, OPT, WORDS, path_below, read_file};
 pub use records::{Record, fields_of, records_of};
 pub use refusals::ImportRefusal;
 pub use scans::{Images, PageList, ScanFile, read_image, read_images};
-pub use word_pages::places_of;
+pub use word_pages::{places_of, words_inside};

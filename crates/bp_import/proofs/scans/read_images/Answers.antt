@@ -1,6 +1,5 @@
-use Rattle.std.proofs.Common.{◌≡◌, ℕ, ◌+◌, ◌∙◌, Ok, Err, List, [], ◌∷◌, sym, ap, subst, rules, arith, refl}
+use Rattle.std.proofs.Common.{◌+◌, ◌∙◌, Ok, Err, subst, rules}
 use Rattle.std.specs.Prelude.{IfSome}
-use Rattle.bp_outside.specs.Source.{SourceView}
 use Rattle.bp_import.specs.Importing.{Comes}
 use Rattle.bp_import.specs.Scans.{LineAnswers, Scan, scan_seen}
 use Rattle.bp_import.specs.declared.scans.ScanFile.{ScanFile}
@@ -25,6 +24,6 @@ loop-line-preserved g c =
     }
 
 pub returns-clause-told : goal.returns-clause-told
-returns-clause-told g c = 
+returns-clause-told g c =
     let l = c.loop-line in
     if_whole _ c.args.name.now c.args.lines.now (l.number + 1) l.rest.now c.args.digest l.digest l.pages.items _ l.invariant.told c.in_default.ensures.cases c.from_vec.ensures c.finish.ensures

@@ -1,5 +1,6 @@
 // What is read where codes were written, and the bits of a span at its end.
 ghost use Rattle.std.specs.Prelude.{◌<◌};
+
 use crate::ahead::{black_ahead, mode_ahead, white_ahead};
 use crate::code::{Code, Found, NoCode};
 use crate::span::{BitSpan, Fill};

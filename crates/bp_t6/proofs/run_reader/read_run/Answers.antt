@@ -25,7 +25,7 @@ returns-then-code-room-clause-found c =
     let found = c.in-Some-code_ahead.ensures (drop c.args.from bits) ahead in
     let is = ap (next_row codes) (sym (led_to bits c.args.from start c.requires.from)) ∙ found.0 in
     let end = run_end codes bits start start 0 code.row code.len (none_yet codes bits start) is found.1 c.if-code-lt-TERMINATING_CODES.true in
-    record { run = end.run; has = end.has; size = end.size ∙ omega arith; codes = end.codes; }
+    record { run = end.run; has = end.has; size = end.size ∙ omega arith; codes = end.codes }
 
 pub returns-then-code-room-clause-next : goal.returns-then-code-room-clause-next
 returns-then-code-room-clause-next c =

@@ -1,9 +1,9 @@
 -- a1, a2, b1 and b2 in lists of places.
-use Rattle.std.proofs.Common.{ℕ, zero, suc, ◌+◌, ◌-◌, ◌<◌, ◌≤◌, ◌≡◌, Bool, true, false, not, List, length, refl, ap, sym, ◌∙◌, subst, arith, inl, inr, ◌⊎◌}
+use Rattle.std.proofs.Common.{ℕ, zero, suc, ◌+◌, ◌*◌, ◌-◌, ◌<◌, ◌≤◌, ◌≡◌, Bool, true, false, not, List, length, refl, ap, sym, ◌∙◌, subst, arith, inl, inr, ◌⊎◌}
 use Rattle.std.proofs.lemmas.Bool.{cases_lt}
 use Rattle.std.proofs.lemmas.List.{get_or_past}
 use Rattle.bp_rows.specs.Changes.{differs, place_at, odd, Rises, Shows}
-use Rattle.bp_rows.proofs.ShownLemmas.{odd_one, twice, up}
+use Rattle.bp_rows.proofs.ShownLemmas.{odd_one, odd_two, twice, up}
 use Rattle.bp_t6.specs.Places.{Place, leaves, least, a1, b1}
 use Rattle.bp_t6.specs.Coding.{IsNext, IsNextFrom}
 use Rattle.bp_t6.proofs.LeastLemmas.{prev, pix, is_least, least-end, hit}
@@ -190,3 +190,10 @@ from_back places width k back at right to black rises next some none more on ste
         let two : j + 1 + 2 ≡ k = omega (arith, some h) in
         omega (arith, next.behind (j + 1) two, up places width j rises)
     before j e (inr h) = let zero : k ≡ 0 = omega arith in absurd (omega (arith, none zero))
+
+-- some steps of two keep the colour
+pub odd_steps : (start steps : ℕ) → odd (start + 2 * steps) ≡ odd start
+odd_steps start zero = let e : start + 2 * zero ≡ start = omega arith in ap odd e
+odd_steps start (suc steps) =
+    let e : start + 2 * suc steps ≡ start + 2 * steps + 2 = omega arith in
+    ap odd e ∙ odd_two (start + 2 * steps) ∙ odd_steps start steps

@@ -13,7 +13,7 @@ ghost use Rattle.bp_t6.specs.Reading.{IfFault, IsUnder, Steps, ModeReads, ModeSt
 use crate::lengths::VERTICAL_REACH;
 use crate::missing::missing_kind;
 use crate::reading::{Stop, Under};
-use crate::row::{next_from, place_in};
+use crate::row::{next_from, next_near, place_in};
 use crate::run_reader::{ReadFault, read_run};
 use crate::tables::CodeTables;
 use crate::turns::turn;
@@ -116,7 +116,7 @@ fn go_over(above: &[u32], width: u32, under: Under, right: u32, at: u64) -> Unde
     Under {
         right,
         black: !under.black,
-        from: next_from(above, back, right, width),
+        from: next_near(above, back, right, width),
         at,
     }
 }

@@ -9,4 +9,4 @@ returns-clause-from c = λ h.
     let back = c.if-under-gt0.back in
     let some : 0 < u.from → back ≡ u.from - 1 = elim c.if-under-gt0.branch [ then-under-gt0 w ↦ (λ p. w.back-is) | else-under-gt0 w ↦ (λ p. absurd (omega (arith, w.if-under-gt0.false))) ] in
     let none : u.from ≡ 0 → back ≡ 1 = elim c.if-under-gt0.branch [ then-under-gt0 w ↦ (λ p. absurd (omega (arith, w.if-under-gt0.true))) | else-under-gt0 w ↦ (λ p. w.back-is) ] in
-    from_back above w u.from back c.next_from.result u.right c.args.right u.black c.requires.above c.requires.from some none c.requires.more h (record { colour = c.next_from.ensures.colour; behind = c.next_from.ensures.behind; ahead = c.next_from.ensures.ahead })
+    from_back above w u.from back c.next_near.result u.right c.args.right u.black c.requires.above c.requires.from some none c.requires.more h (record { colour = c.next_near.ensures.colour; behind = c.next_near.ensures.behind; ahead = c.next_near.ensures.ahead })

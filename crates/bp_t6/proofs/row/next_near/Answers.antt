@@ -1,0 +1,6 @@
+use Rattle.std.proofs.Common.{◌∙◌}
+use Rattle.bp_t6.proofs.PlaceLemmas.{odd_steps}
+use Rattle.bp_t6.proofs.row.next_near.Goals as goal
+
+pub returns-clause-colour : goal.returns-clause-colour
+returns-clause-colour c = c.next_from.ensures.colour ∙ odd_steps c.args.start c.from.result

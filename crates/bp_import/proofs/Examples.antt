@@ -1,8 +1,9 @@
 -- Worked examples of the definitions in specs/, each run by the check.
 use Rattle.std.proofs.Common.{ℕ, ◌≡◌, Bool, true, false, List, [], ◌∷◌, ◌++◌, Some, None, Ok, Err, refl}
-use Rattle.std.specs.Prelude.{codes}
-use Rattle.std.specs.Str.{chars, is_utf8}
+use Rattle.std.specs.Prelude.{codes, if◌then◌else◌, Result}
+use Rattle.std.specs.Str.{bytes_eq, chars, is_utf8}
 use Rattle.std.proofs.Math.Utf8.{encode}
+use Rattle.bp_core.specs.declared.rules.Rule.{Rule}
 use Rattle.bp_core.specs.Rules.{bare_rule, rule_at_line}
 use Rattle.bp_core.specs.declared.rules.RuleKind.TheVariants as kinds
 use Rattle.bp_load.specs.declared.opt.OptLine.{OptLine}
@@ -10,13 +11,16 @@ use Rattle.bp_rows.specs.Image.{Image}
 use Rattle.bp_rows.specs.declared.resolution.Unit.TheVariants as units
 use Rattle.bp_text.specs.declared.words.Word.{Word}
 use Rattle.bp_text.specs.declared.words.WordRow.{WordRow}
+use Rattle.csv.proofs.OnLiterals.{csv_on_literals}
+use Rattle.bp_outside.specs.Source.{FileMap}
+use Rattle.bp_import.specs.Batch.{Plan, batch_with, plan_by}
 use Rattle.bp_import.specs.Breaks.{breaks_of, cut, page_counts}
 use Rattle.bp_import.specs.Columns.{are_columns, is_column, table_of}
 use Rattle.bp_import.specs.Digest.{framed}
 use Rattle.bp_import.specs.Families.{parents_of}
 use Rattle.bp_import.specs.Files.{dat_path, file_read}
 use Rattle.bp_import.specs.Records.{fields_of, record_of}
-use Rattle.bp_import.specs.Scans.{scan_of, scan_read}
+use Rattle.bp_import.specs.Scans.{LinesAnswer, scan_of, scan_read}
 use Rattle.bp_import.specs.WordPages.{places_of, words_inside, words_on}
 use Rattle.bp_import.specs.declared.files.TheConstants.{DAT, IMAGE}
 use Rattle.bp_import.specs.declared.records.Record.{Record}
@@ -250,3 +254,60 @@ bad_file = refl
 
 framed_bytes : framed (codes "ab") ≡ 2 ∷ 0 ∷ 0 ∷ 0 ∷ 0 ∷ 0 ∷ 0 ∷ 0 ∷ codes "ab"
 framed_bytes = refl
+
+-- ---- what a folder comes to
+
+-- what is read of a file in a folder of these three
+abbrev folder : List ℕ → List ℕ → List ℕ → ℕ → List ℕ → Result (List ℕ) Rule
+folder dat opt csv which path =
+    file_read which 0
+    (if bytes_eq path (codes "B0/load.dat") then Some dat
+    else (if bytes_eq path (codes "B0/load.opt") then Some opt
+    else (if bytes_eq path (codes "B0/words.csv") then Some csv else None)))
+
+abbrev no_documents : Plan
+no_documents = record {
+  name = codes "B0";
+  files = header ∷ [] ∷ [] ∷ [];
+  fields = [];
+  docs = [];
+  parents = [];
+  lines = [];
+  words = [];
+}
+
+empty_folder : plan_by (folder header [] []) (codes "B0") ≡ Ok no_documents
+unfolding csv_on_literals chars is_utf8 encode
+empty_folder = refl
+
+-- no document is in it, once its images are read
+empty_docs : (batch_with no_documents []).docs ≡ []
+empty_docs = refl
+
+-- with no image to read
+no_images : (files : FileMap) → LinesAnswer files (codes "B0") 1 [] (Ok [])
+no_images files = refl
+
+bad_name : plan_by (folder header [] []) (codes "B/0") ≡ Err (bare_rule kinds.PathRefused)
+bad_name = refl
+
+no_folder : plan_by (folder header [] []) (codes "B1") ≡ Err (bare_rule kinds.FileAbsent)
+no_folder = refl
+
+-- the DAT file's columns come before the OPT file, which has two fields
+columns_first : plan_by (folder (quoted (codes "DOCID")) (codes "A,B") []) (codes "B0") ≡ Err (bare_rule kinds.DatColumns)
+unfolding chars is_utf8 encode
+columns_first = refl
+
+opt_next : plan_by (folder header (codes "A,B") (codes "x")) (codes "B0") ≡ Err (rule_at_line kinds.OptShape 1)
+unfolding chars is_utf8 encode
+opt_next = refl
+
+-- a line without a record comes before the words
+breaks_next : plan_by (folder header (codes "A,,a.tif,Y") (codes "x")) (codes "B0") ≡ Err (rule_at_line kinds.DocBreaks 1)
+unfolding chars is_utf8 encode
+breaks_next = refl
+
+words_last : plan_by (folder header [] (codes "x")) (codes "B0") ≡ Err (rule_at_line kinds.WordShape 1)
+unfolding csv_on_literals chars is_utf8 encode
+words_last = refl

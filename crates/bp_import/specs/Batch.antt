@@ -34,17 +34,18 @@ pub record Plan : Type 0 where
   pub lines : List OptLine
   pub words : List WordRow
 
--- the steps before the images, in the order of their rules
-abbrev pub plan_of : FileMap → List ℕ → Result Plan Rule
-plan_of files name = do
+-- the steps before the images, in the order of their rules, where `read` says what is read of the file
+-- of that number at a path
+abbrev pub plan_by : (ℕ → List ℕ → Result (List ℕ) Rule) → List ℕ → Result Plan Rule
+plan_by read name = do
   _ ← demand (is_batch_name name) (bare_rule PathRefused)
-  dat ← file_at files (dat_path name) DAT 0
+  dat ← read DAT (dat_path name)
   table ← table_of dat
-  opt ← file_at files (opt_path name) OPT 0
+  opt ← read OPT (opt_path name)
   lines ← opt_of opt
   _ ← breaks_of (records_of table) lines
   parents ← parents_of (records_of table)
-  csv ← file_at files (words_path name) WORDS 0
+  csv ← read WORDS (words_path name)
   words ← words_of csv
   _ ← places_of lines words
   Ok (record {
@@ -56,6 +57,10 @@ plan_of files name = do
     lines = lines;
     words = words;
   })
+
+-- the same of these files
+abbrev pub plan_of : FileMap → List ℕ → Result Plan Rule
+plan_of files name = plan_by (λ which path. file_at files path which 0) name
 
 -- the page of each line, with its words
 abbrev pub pages_of : List WordRow → List OptLine → List Scan → List BatchPage

@@ -10,4 +10,5 @@ pub mod Records
 pub mod Refusals
 pub mod Scans
 pub mod Steps
+pub mod Tables
 pub mod WordPages

@@ -10,6 +10,7 @@ mod files;
 mod records;
 mod refusals;
 mod scans;
+mod tables;
 #[cfg(test)]
 mod tests;
 mod word_pages;
@@ -22,4 +23,5 @@ pub use files::{DAT, FILE_LIMIT, IMAGE, OPT, WORDS, path_below, read_file};
 pub use records::{Record, fields_of, records_of};
 pub use refusals::ImportRefusal;
 pub use scans::{Images, PageList, ScanFile, read_image, read_images};
+pub use tables::read_table;
 pub use word_pages::{places_of, words_inside};

@@ -2,14 +2,15 @@
 -- rows.
 use Rattle.std.proofs.Common.{ℕ, ◌≡◌, ◌+◌, ◌-◌, ◌*◌, ◌<◌, ◌≤◌, true, false, Option, Some, None, List, ◌++◌, length, take, drop, sym, ap, ◌∙◌, arith, ⊎_elim, eqb, IsTrue, take-take, length-drop, length-take-le}
 use Rattle.std.specs.Option.{SomeIff, option_eq}
-use Rattle.std.proofs.lemmas.Bool.{cases_eq, eqb-true, false≢true}
+use Rattle.std.proofs.lemmas.Bool.{cases_eq, eqb-true, eq-eqb, false≢true}
 use Rattle.std.proofs.lemmas.Bool.Decides.{nat_tests}
 use Rattle.std.proofs.lemmas.Grind.{common_steps}
 use Rattle.std.proofs.Math.Seq.{take-add}
 use Rattle.std.proofs.lemmas.List.{length-take, drop-drop}
 use Rattle.bp_rows.specs.Bits.{row_bytes}
 use Rattle.bp_tiff.specs.declared.layout.Layout.{Layout}
-use Rattle.bp_tiff.specs.Appending.{AppendsStrip, HoldsAll, rows_before, rows_from}
+use Rattle.bp_tiff.specs.Appending.{AppendsStrip, HoldsAll, rows_before}
+use Rattle.bp_tiff.specs.Standing.{Follows, rows_from}
 use Rattle.bp_tiff.specs.Layout.{IsLaid, strips_due}
 use Rattle.bp_tiff.specs.Read.{strip_bytes, strip_rows}
 use Rattle.bp_tiff.specs.Values.{value_at}
@@ -19,34 +20,30 @@ use Rattle.bp_tiff.proofs.InTurnLemmas.{packed_adds, rows_more, at_end}
 distributed : (a b s : ℕ) → (a + b) * s ≡ a * s + b * s
 distributed a b s = omega arith
 
--- strip k begins where the rows before it end, and has all its rows
-pub follows : (bytes : List ℕ) (l : Layout) (first k : ℕ)
-    → let offset = value_at bytes l.directory l.strips.offsets k in
-    let long = value_at bytes l.directory l.strips.lengths k in
-    let s = row_bytes l.sides.width in
-    l.coding.is_t6 ≡ false
+-- the rows of a strip that stands behind the others
+pub appends_next : (bytes : List ℕ) (l : Layout) (first k : ℕ)
+    → l.coding.is_t6 ≡ false
     → k * l.strips.rows < l.sides.height
-    → first + k * l.strips.rows * s ≡ offset
-    → strip_rows l k * s ≤ long
-    → offset + long ≤ length bytes
+    → Follows bytes l first k
+    → value_at bytes l.directory l.strips.offsets k + value_at bytes l.directory l.strips.lengths k ≤ length bytes
     → AppendsStrip bytes l k (rows_from bytes l first (rows_before l k)) (rows_from bytes l first (rows_before l (k + 1)))
-follows bytes l first k packed within there enough inside =
+appends_next bytes l first k packed within next inside =
     let offset = value_at bytes l.directory l.strips.offsets k in
     let long = value_at bytes l.directory l.strips.lengths k in
     let s = row_bytes l.sides.width in
     let m = rows_before l k in let n = strip_rows l k in
     let before : m ≡ k * l.strips.rows = omega arith in
-    let at : first + m * s ≡ offset = ap (λ q. first + q * s) before ∙ there in
+    let at : first + m * s ≡ offset = ap (λ q. first + q * s) before ∙ sym next.begins in
     let size : length (strip_bytes bytes l k) ≡ long = length-take-le long (drop offset bytes) (omega (arith, length-drop offset bytes)) in
     let part : take (n * s) (drop (m * s) (drop first bytes)) ≡ take (n * s) (strip_bytes bytes l k) =
     ap (take (n * s)) (drop-drop (m * s) first bytes ∙ ap (λ q. drop q bytes) at)
-    ∙ sym (take-take (n * s) long (drop offset bytes) enough) in
+    ∙ sym (take-take (n * s) long (drop offset bytes) next.whole) in
     let joined : rows_from bytes l first (rows_before l (k + 1)) ≡ rows_from bytes l first m ++ take (n * s) (strip_bytes bytes l k) =
     ap (λ q. take (q * s) (drop first bytes)) (rows_more l k within)
     ∙ ap (λ q. take q (drop first bytes)) (distributed m n s)
     ∙ take-add (m * s) (n * s) (drop first bytes)
     ∙ ap (λ x. rows_from bytes l first m ++ x) part in
-    packed_adds bytes l k (rows_from bytes l first m) (rows_from bytes l first (rows_before l (k + 1))) packed (omega (arith, size)) joined
+    packed_adds bytes l k (rows_from bytes l first m) (rows_from bytes l first (rows_before l (k + 1))) packed (omega (arith, size, next.whole)) joined
 
 has_height : (w h : ℕ) → IsTrue (sides_are_allowed w h) → 0 < h
 has_height w h allowed = grind (arith, common_steps, nat_tests)
@@ -72,3 +69,10 @@ ends_within bytes l first inside all =
 pub sum_of_difference : (found : Option ℕ) (first offset before : ℕ) → SomeIff found (first ≤ offset) (offset - first) → option_eq eqb found (Some before) ≡ true → first + before ≡ offset
 sum_of_difference None first offset before is same = absurd (false≢true same)
 sum_of_difference (Some d) first offset before is same = omega (arith, eqb-true d before same, is.0, is.1)
+
+-- another difference, or none
+pub no_sum : (found : Option ℕ) (first offset before : ℕ) → SomeIff found (first ≤ offset) (offset - first) → option_eq eqb found (Some before) ≡ false → ¬ (first + before ≡ offset)
+no_sum None first offset before is other sum = is (omega arith)
+no_sum (Some d) first offset before is other sum =
+    let same : d ≡ before = omega (arith, is.0, is.1, sum) in
+    false≢true (sym other ∙ eq-eqb d before same)

@@ -1,5 +1,5 @@
 -- The rows that a reader has put one behind another.
-use Rattle.std.specs.Prelude.{ℕ, ◌*◌, ◌-◌, ◌≡◌, min, true, false, List, ◌++◌, length, take, drop}
+use Rattle.std.specs.Prelude.{ℕ, ◌*◌, ◌-◌, ◌≡◌, min, true, false, List, ◌++◌, length}
 use Rattle.bp_codes.specs.declared.span.Fill.{Fill}
 use Rattle.bp_codes.specs.declared.span.Fill.TheVariants.{High}
 use Rattle.bp_core.specs.declared.rules.Rule.{Rule}
@@ -44,7 +44,3 @@ pub record HasRead (bytes : List ℕ) (l : Layout) (k : ℕ) (out : List ℕ) : 
 pub record HoldsAll (bytes : List ℕ) (l : Layout) (rows : List ℕ) : Type 0 where
   pub long : length rows ≡ l.sides.height * row_bytes l.sides.width
   pub holds : StripsHold bytes l l.strips.count 0 (lines_in l l.sides.height rows)
-
--- so many packed rows as stand in the file from a place on
-abbrev pub rows_from : List ℕ → Layout → ℕ → ℕ → List ℕ
-rows_from bytes l at rows = take (rows * row_bytes l.sides.width) (drop at bytes)

@@ -10,6 +10,7 @@ pub mod Passed
 pub mod Places
 pub mod Read
 pub mod Rules
+pub mod Standing
 pub mod Tiff
 pub mod Units
 pub mod Values

@@ -1,5 +1,6 @@
 // Page files read.
-ghost use Rattle.std.specs.Prelude.{◌≡◌, ℕ, ◌+◌, ◌*◌, ◌≤◌, ◌<◌, [], not, true, false, Result, length, min, take, drop, IsTrue, IfOk, IfErr, if◌then◌else◌};
+ghost use Rattle.std.specs.Prelude.{◌≡◌, ℕ, ◌+◌, ◌*◌, ◌≤◌, ◌<◌, [], not, true, false, Result, Ok, length, min, take, drop, IsTrue, IfOk, IfErr, if◌then◌else◌};
+ghost use Rattle.std.specs.Result.{IsOk};
 ghost use Rattle.std.specs.Vec.{vec_capacity};
 ghost use Rattle.bp_codes.specs.declared.span.Fill.TheVariants.{High, Low};
 ghost use Rattle.bp_core.specs.declared.rules.Rule.{Rule};
@@ -8,10 +9,12 @@ ghost use Rattle.bp_rows.specs.Image.{Image};
 ghost use Rattle.bp_rows.specs.Limits.{sides_are_allowed};
 ghost use Rattle.bp_core.specs.Answers.{Answers, IfRule};
 ghost use Rattle.bp_tiff.specs.Appending.{HoldsAll, kept_fill, lines_in};
-ghost use Rattle.bp_tiff.specs.Layout.{IsLaid};
+ghost use Rattle.bp_tiff.specs.declared.layout.Layout.{Layout as Laid};
+ghost use Rattle.bp_tiff.specs.Layout.{IsLaid, layout_of};
 ghost use Rattle.bp_tiff.specs.PageRules.{IsPageRule};
 ghost use Rattle.bp_tiff.specs.Pixels.{value_in, packed_values};
 ghost use Rattle.bp_tiff.specs.Read.{page_of, StripsBreak, TiffReads, TiffFault, TiffAnswers};
+ghost use Rattle.bp_tiff.specs.Standing.{StandTogether};
 
 use crate::laws::one_answer;
 use crate::layout::{Coding, Layout, read_layout};
@@ -49,13 +52,19 @@ pub fn read_tiff(alloc: Global, bytes: &[u8]) -> Result<Page, Refusal>
 }
 
 /// The same of a file that is handed over: where its rows stand in it without compression and one
-/// behind another, they become the page's in the memory that the file had, and none is taken.
+/// behind another, as in most plain files, they become the page's in the memory that the file had,
+/// and none is taken.
 pub fn take_tiff(alloc: Global, file: Vec<u8>) -> Result<Page, Refusal>
     ensures found { IfOk result (λ p. TiffReads file.items p) }
     ensures refused { IfErr result (IfRule (TiffFault file.items)) }
     ensures kind { IfErr result (IfRule (λ rule. IsPageRule rule.kind)) }
     ensures exact { (answer : Result Image Rule) → TiffAnswers file.items answer
         → Answers (λ p. p) result answer }
+
+    // Such a page is had without a want of memory.
+    ensures given { (l : Laid) → layout_of file.items ≡ Ok l
+        → StandTogether file.items l
+        → IsOk result }
 {
     one_answer();
     take_over(alloc, file)
@@ -78,6 +87,9 @@ fn read(alloc: Global, bytes: &[u8]) -> Result<Page, Refusal>
 fn take_over(alloc: Global, file: Vec<u8>) -> Result<Page, Refusal>
     ensures found { IfOk result (λ p. TiffReads file.items p) }
     ensures refused { IfErr result (IfRule (TiffFault file.items)) }
+    ensures given { (l : Laid) → layout_of file.items ≡ Ok l
+        → StandTogether file.items l
+        → IsOk result }
 {
     let layout = match read_layout(&file) {
         Ok(layout) => layout,
@@ -109,6 +121,7 @@ fn rows_of(alloc: Global, file: Vec<u8>, layout: &Layout) -> Result<Vec<u8>, Ref
     ensures found { IfOk result (λ rows. HoldsAll file.items layout.now rows.items) }
     ensures refused { let l = layout.now in
         IfErr result (IfRule (StripsBreak file.items l l.strips.count 0)) }
+    ensures given { StandTogether file.items layout.now → IsOk result }
 {
     let size = bytes_of_strip(layout.sides.width, layout.sides.height);
     match place_of_rows(&file, layout) {

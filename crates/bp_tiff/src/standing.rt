@@ -1,8 +1,9 @@
 // Rows that stand in the file as a page keeps them: without compression, one behind another.
-ghost use Rattle.std.specs.Prelude.{◌≡◌, ◌+◌, ◌*◌, ◌≤◌, ◌<◌, true, false, length, take, drop, IfSome};
+ghost use Rattle.std.specs.Prelude.{◌≡◌, ◌+◌, ◌*◌, ◌≤◌, ◌<◌, true, false, length, None, IfSome};
 ghost use Rattle.bp_rows.specs.Bits.{row_bytes};
-ghost use Rattle.bp_tiff.specs.Appending.{AppendsStrip, HoldsAll, rows_before, rows_from};
+ghost use Rattle.bp_tiff.specs.Appending.{HoldsAll};
 ghost use Rattle.bp_tiff.specs.Layout.{IsLaid};
+ghost use Rattle.bp_tiff.specs.Standing.{Follows, StandTogether, rows_from};
 
 use crate::layout::Layout;
 use crate::strips::rows_at;
@@ -15,6 +16,7 @@ pub fn place_of_rows(bytes: &[u8], layout: &Layout) -> Option<usize>
         IfSome result (λ at. at + size ≤ length bytes.now) }
     ensures holds { let l = layout.now in
         IfSome result (λ at. HoldsAll bytes.now l (rows_from bytes.now l at l.sides.height)) }
+    ensures none { result ≡ None → ¬ (StandTogether bytes.now layout.now) }
 {
     if layout.coding.is_t6 {
         return None;
@@ -31,12 +33,9 @@ pub fn place_of_rows(bytes: &[u8], layout: &Layout) -> Option<usize>
 // Whether strip k begins where the rows before it end, and has bytes for all of its own.
 fn strip_follows(bytes: &[u8], layout: &Layout, first: usize, k: u32) -> bool
     requires laid { IsLaid bytes.now layout.now }
-    requires packed { layout.now.coding.is_t6 ≡ false }
     requires within { k < layout.now.strips.count }
-    ensures { let l = layout.now in
-        let before = rows_from bytes.now l first (rows_before l k) in
-        let after = rows_from bytes.now l first (rows_before l (k + 1)) in
-        result ≡ true → AppendsStrip bytes.now l k before after }
+    ensures yes { result ≡ true → Follows bytes.now layout.now first k }
+    ensures no { result ≡ false → ¬ (Follows bytes.now layout.now first k) }
 {
     let offset = layout.strips.offsets.at(bytes, &layout.directory, k) as usize;
     let length = layout.strips.lengths.at(bytes, &layout.directory, k) as usize;

@@ -159,16 +159,34 @@ fn check_written(rt: &impl Abort, alloc: Global, case: &Case) -> Result<(), Refu
     Ok(())
 }
 
+// A page of these sides, this resolution across and 200 to the unit down, and these rows.
+fn check_page(rt: &impl Abort, page: &Page, sides: (u32, u32), across: (Res, Unit), rows: &[u8]) {
+    assert!(rt; (page.width(), page.height()) == sides);
+    assert!(rt; (page.xres(), page.unit()) == across);
+    assert!(rt; page.yres() == TWO_HUNDRED);
+    assert!(rt; page.strip() == rows);
+}
+
+// Both readers find this page in the file.
+fn check_both(
+    rt: &impl Abort,
+    alloc: Global,
+    file: Vec<u8>,
+    sides: (u32, u32),
+    across: (Res, Unit),
+    rows: &[u8],
+) -> Result<(), Refusal> {
+    let read = read_tiff(alloc, &file)?;
+    check_page(rt, &read, sides, across, rows);
+    let taken = take_tiff(alloc, file)?;
+    check_page(rt, &taken, sides, across, rows);
+    Ok(())
+}
+
 fn check_read(rt: &impl Abort, alloc: Global, case: &Case) -> Result<(), Refusal> {
     let bytes = file(alloc, case.changes, case.strip)?;
-    let read = read_tiff(alloc, &bytes)?;
-    assert!(rt; read.width() == case.width && read.height() == 1);
-    assert!(rt; read.xres() == case.xres && read.unit() == case.unit);
-    assert!(rt; read.strip() == case.strip);
-    let taken = take_tiff(alloc, bytes)?;
-    assert!(rt; taken.xres() == case.xres && taken.unit() == case.unit);
-    assert!(rt; taken.strip() == case.strip);
-    Ok(())
+    let across = (case.xres, case.unit);
+    check_both(rt, alloc, bytes, (case.width, 1), across, case.strip)
 }
 
 #[test]
@@ -231,22 +249,19 @@ fn rule(kind: RuleKind, a: u64, b: u64) -> Rule {
     }
 }
 
+const INCH: (Res, Unit) = (TWO_HUNDRED, Unit::Inch);
+
 #[test]
 fn a_g4_file_is_read(rt: HostRuntime) -> Result<(), Fail> {
-    let page = read_tiff(rt.alloc(), &G4)?;
-    assert!(rt; page.width() == 8 && page.height() == 1);
-    assert!(rt; page.xres() == TWO_HUNDRED && page.unit() == Unit::Inch);
-    assert!(rt; page.strip() == [0xFF].as_slice());
+    let bytes = G4.to_vec(rt.alloc())?;
+    check_both(&rt, rt.alloc(), bytes, (8, 1), INCH, &[0xFF])?;
     Ok(())
 }
 
 #[test]
 fn a_strangers_file_is_read(rt: HostRuntime) -> Result<(), Fail> {
-    let page = read_tiff(rt.alloc(), &STRANGE)?;
-    assert!(rt; page.width() == 8 && page.height() == 3);
-    assert!(rt; page.xres() == TWO_HUNDRED && page.yres() == TWO_HUNDRED);
-    assert!(rt; page.unit() == Unit::Inch);
-    assert!(rt; page.strip() == [0xFF, 0xFF, 0xFF].as_slice());
+    let bytes = STRANGE.to_vec(rt.alloc())?;
+    check_both(&rt, rt.alloc(), bytes, (8, 3), INCH, &[0xFF, 0xFF, 0xFF])?;
     Ok(())
 }
 
@@ -294,14 +309,20 @@ const FORMS: [(&[(usize, u8)], &[u8], &[u8]); 6] = [
     ),
 ];
 
+// Both readers find these rows in the file.
+fn check_rows(rt: &impl Abort, alloc: Global, file: Vec<u8>, rows: &[u8]) -> Result<(), Refusal> {
+    let read = read_tiff(alloc, &file)?;
+    assert!(rt; read.strip() == rows);
+    let taken = take_tiff(alloc, file)?;
+    assert!(rt; taken.strip() == rows);
+    Ok(())
+}
+
 #[test]
 fn packed_rows_of_every_form_are_read(rt: HostRuntime) -> Result<(), Fail> {
     for (changes, strip, rows) in &FORMS {
         let bytes = file(rt.alloc(), changes, strip)?;
-        let page = read_tiff(rt.alloc(), &bytes)?;
-        assert!(rt; page.strip() == *rows);
-        let taken = take_tiff(rt.alloc(), bytes)?;
-        assert!(rt; taken.strip() == *rows);
+        check_rows(&rt, rt.alloc(), bytes, rows)?;
     }
     Ok(())
 }
@@ -378,27 +399,43 @@ const DAMAGES: [(&[(usize, u8)], RuleKind, u64, u64); 17] = [
     (&[(18, 7)], RuleKind::T6BadPlace, 0, 11),
 ];
 
-#[test]
-fn a_damaged_file_is_refused(rt: HostRuntime) -> Result<(), Fail> {
-    for (changes, kind, a, b) in &DAMAGES {
-        let bytes = changed(rt.alloc(), &G4, changes)?;
-        assert!(rt; broken(rt.alloc(), &bytes) == Some(rule(*kind, *a, *b)));
+// Other bytes in the stranger's file. No code begins with sixteen zeros: the row is counted in the
+// page, the bit in the strip.
+const STRANGE_DAMAGES: [(&[(usize, u8)], RuleKind, u64, u64); 2] = [
+    (&[(43, 5)], RuleKind::TiffCompression, 5, 0),
+    (&[(136, 0), (137, 0), (138, 0)], RuleKind::T6BadCode, 2, 0),
+];
+
+fn check_damages(
+    rt: &impl Abort,
+    alloc: Global,
+    bytes: &[u8],
+    damages: &[(&[(usize, u8)], RuleKind, u64, u64)],
+) -> Result<(), AllocError> {
+    for (changes, kind, a, b) in damages {
+        let bytes = changed(alloc, bytes, changes)?;
+        assert!(rt; broken(alloc, &bytes) == Some(rule(*kind, *a, *b)));
     }
     Ok(())
 }
 
 #[test]
-fn a_damaged_file_of_a_stranger_is_refused(rt: HostRuntime) -> Result<(), Fail> {
-    let other = changed(rt.alloc(), &STRANGE, &[(43, 5)])?;
-    let compression = rule(RuleKind::TiffCompression, 5, 0);
-    assert!(rt; broken(rt.alloc(), &other) == Some(compression));
+fn a_damaged_file_is_refused(rt: HostRuntime) -> Result<(), Fail> {
+    check_damages(&rt, rt.alloc(), &G4, &DAMAGES)?;
+    check_damages(&rt, rt.alloc(), &STRANGE, &STRANGE_DAMAGES)?;
+    Ok(())
+}
+
+#[test]
+fn the_first_40_bytes_are_refused(rt: HostRuntime) {
     let bounds = rule(RuleKind::TiffBounds, 0, 0);
-    assert!(rt; broken(rt.alloc(), &STRANGE[..40]) == Some(bounds));
-    // no code begins with sixteen zeros: the row is counted in the page, the bit in the strip
-    let third = changed(rt.alloc(), &STRANGE, &[(136, 0), (137, 0), (138, 0)])?;
-    assert!(rt; broken(rt.alloc(), &third) == Some(rule(RuleKind::T6BadCode, 2, 0)));
-    // a plain strip of three bytes, where two rows of nine pixels need four
+    assert!(&rt; broken(rt.alloc(), &STRANGE[..40]) == Some(bounds));
+}
+
+// A plain strip of three bytes, where two rows of nine pixels need four.
+#[test]
+fn a_short_plain_strip_is_refused(rt: HostRuntime) -> Result<(), Fail> {
     let short = file(rt.alloc(), &[(18, 9), (30, 2), (126, 3)], &[0, 0, 0])?;
-    assert!(rt; broken(rt.alloc(), &short) == Some(Rule::bare(RuleKind::TiffStrips)));
+    assert!(&rt; broken(rt.alloc(), &short) == Some(Rule::bare(RuleKind::TiffStrips)));
     Ok(())
 }

@@ -1,4 +1,5 @@
-use Rattle.bp_tiff.specs.Appending.{HasRead, rows_before, rows_from}
+use Rattle.bp_tiff.specs.Appending.{HasRead, rows_before}
+use Rattle.bp_tiff.specs.Standing.{rows_from}
 use Rattle.bp_tiff.proofs.standing.place_of_rows.Given as goal
 
 abbrev pub invariant-loop-k : goal.invariant-loop-k

@@ -1,5 +1,6 @@
 -- Files of strangers and damaged files, read by the definitions in specs/ and run by the check.
-use Rattle.std.proofs.Common.{ℕ, ◌≡◌, ◌+◌, true, false, List, [], ◌∷◌, ◌++◌, Ok, Err, Result, take, drop, length, replicate, refl, map}
+use Rattle.std.proofs.Common.{ℕ, ◌≡◌, ◌+◌, true, false, List, [], ◌∷◌, ◌++◌, Ok, Err, Result, take, drop, length, replicate, refl, map, sym, subst, arith}
+use Rattle.std.proofs.Math.Nat.{le_refl}
 use Rattle.std.specs.List.{range_with_len}
 use Rattle.bp_codes.specs.declared.span.Fill.TheVariants.{High, Low}
 use Rattle.bp_core.specs.declared.rules.Rule.{Rule}
@@ -10,6 +11,7 @@ use Rattle.bp_tiff.specs.declared.numbers.ByteOrder.TheVariants.{Little, Big}
 use Rattle.bp_tiff.specs.Directory.{directory_in, entry_of}
 use Rattle.bp_tiff.specs.Layout.{layout_of, sides_of, coding_of, strips_of, scale_of}
 use Rattle.bp_tiff.specs.Rules.{tiff_head, tiff_bounds, tiff_missing, tiff_type, tiff_meaning, tiff_compression, tiff_strips, many_pages}
+use Rattle.bp_tiff.specs.Standing.{Follows, StandTogether}
 use Rattle.bp_tiff.specs.Values.{number_of, number_among, values_of, resolution_of}
 use Rattle.bp_tiff.proofs.Examples.{g4_file, plain_file, two_hundred}
 
@@ -177,3 +179,18 @@ first_counts = refl
 other_compression : layout_of (take 43 strange_file ++ (5 ∷ []) ++ drop 44 strange_file) ≡ Err (tiff_compression 5)
 unfolding layout_of directory_in entry_of number_of number_among values_of resolution_of sides_of coding_of strips_of scale_of
 other_compression = refl
+
+-- ---- rows that stand together
+
+-- the one strip of the plain file does
+plain_stands : StandTogether plain_file plain_layout
+plain_stands = record {
+  packed = refl;
+  each = λ k within.
+      let first : k ≡ 0 = omega arith in
+      subst (λ (j : ℕ). Follows plain_file plain_layout 186 j) (sym first) (record { begins = refl; whole = le_refl 1 });
+}
+
+-- it doesn't follow on a row that ends a byte further
+plain_apart : ¬ (Follows plain_file plain_layout 187 0)
+plain_apart follows = let same : 186 ≡ 187 = follows.begins in absurd (omega (arith, same))

@@ -42,3 +42,4 @@ pub use rows::{
 };
 pub use tables::Tables;
 pub use taking::read_tables;
+pub use kinds::Kind;

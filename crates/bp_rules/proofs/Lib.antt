@@ -1,0 +1,10 @@
+pub mod ListLemmas
+pub mod DocLemmas
+pub mod PageLemmas
+pub mod ProductionLemmas
+pub mod ImportLemmas
+pub mod PutLemmas
+pub mod DecidingLemmas
+pub mod LoadLemmas
+pub mod RoomLemmas
+pub mod Examples

@@ -1,0 +1,9 @@
+pub mod Beginning
+pub mod Changes
+pub mod Importing
+pub mod ImportRows
+pub mod Limits
+pub mod Loading
+pub mod Room
+pub mod Steps
+pub mod Written

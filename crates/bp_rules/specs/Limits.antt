@@ -1,0 +1,81 @@
+-- The limits of a matter that a batch may pass.
+use Rattle.std.specs.Prelude.{◌≤◌, ℕ, ◌+◌, ◌*◌, List, [], ◌∷◌, length, nat_lt, Option, Some, None, if◌then◌else◌}
+use Rattle.bp_core.specs.Rules.{bare_rule}
+use Rattle.bp_core.specs.declared.rules.Rule.{Rule}
+use Rattle.bp_core.specs.declared.rules.RuleKind.TheVariants.{MatterFull}
+use Rattle.bp_matter.specs.Batches.{BatchShown, pages_in}
+use Rattle.bp_matter.specs.Matter.{Matter}
+use Rattle.bp_matter.specs.ValidPages.{pixels_of}
+use Rattle.bp_matter.specs.declared.batches.BatchDoc.{BatchDoc}
+use Rattle.bp_matter.specs.declared.batches.BatchPage.{BatchPage}
+use Rattle.bp_matter.specs.declared.limits.TheConstants.{MAX_BATCHES, MAX_DOCUMENTS, MAX_FIELDS, MAX_PAGES, MAX_PIXELS}
+use Rattle.bp_rules.specs.ImportRows.{lacking}
+
+-- the number of each limit
+abbrev pub documents_limit : ℕ
+documents_limit = 1
+
+abbrev pub pages_limit : ℕ
+pages_limit = 2
+
+abbrev pub pixels_limit : ℕ
+pixels_limit = 3
+
+abbrev pub fields_limit : ℕ
+fields_limit = 4
+
+abbrev pub batches_limit : ℕ
+batches_limit = 6
+
+-- the matter would be full: which limit is passed, and the number that it would reach
+abbrev pub full_rule : ℕ → ℕ → Rule
+full_rule which reached = record (bare_rule MatterFull) { a = which; b = reached }
+
+-- the pixels of pages
+abbrev pub pixels_on : List BatchPage → ℕ
+pixels_on [] = 0
+pixels_on (p ∷ ps) = p.page.width * p.page.height + pixels_on ps
+
+-- the pixels of all pages of documents
+abbrev pub pixels_in : List BatchDoc → ℕ
+pixels_in [] = 0
+pixels_in (doc ∷ docs) = pixels_on doc.pages + pixels_in docs
+
+-- what the matter would reach of each
+abbrev pub documents_after : Matter → BatchShown → ℕ
+documents_after m b = length m.docs + length b.docs
+
+abbrev pub pages_after : Matter → BatchShown → ℕ
+pages_after m b = length m.pages + pages_in b.docs
+
+abbrev pub pixels_after : Matter → BatchShown → ℕ
+pixels_after m b = pixels_of m.pages + pixels_in b.docs
+
+abbrev pub fields_after : Matter → BatchShown → ℕ
+fields_after m b = length m.fields + length (lacking m.fields b.fields)
+
+abbrev pub batches_after : Matter → ℕ
+batches_after m = length m.batches + 1
+
+-- the first limit that the batch would pass, if it passes one
+abbrev pub limit_passed : Matter → BatchShown → Option Rule
+limit_passed m b =
+    if nat_lt MAX_DOCUMENTS (documents_after m b)
+    then Some (full_rule documents_limit (documents_after m b))
+    else (if nat_lt MAX_PAGES (pages_after m b)
+    then Some (full_rule pages_limit (pages_after m b))
+    else (if nat_lt MAX_PIXELS (pixels_after m b)
+    then Some (full_rule pixels_limit (pixels_after m b))
+    else (if nat_lt MAX_FIELDS (fields_after m b)
+    then Some (full_rule fields_limit (fields_after m b))
+    else (if nat_lt MAX_BATCHES (batches_after m)
+    then Some (full_rule batches_limit (batches_after m))
+    else None))))
+
+-- no limit is passed
+pub record WithinLimits (m : Matter) (b : BatchShown) : Type 0 where
+  pub documents : documents_after m b ≤ MAX_DOCUMENTS
+  pub pages : pages_after m b ≤ MAX_PAGES
+  pub pixels : pixels_after m b ≤ MAX_PIXELS
+  pub fields : fields_after m b ≤ MAX_FIELDS
+  pub batches : batches_after m ≤ MAX_BATCHES

@@ -1,0 +1,67 @@
+-- Steps: what a matter and its keeper are after one.
+use Rattle.std.specs.Prelude.{◌≡◌, ℕ, List, Option, Some, Result, Ok, Err, IfSome}
+use Rattle.std.specs.Option.{option_map}
+use Rattle.std.specs.Result.{IsOk}
+use Rattle.bp_core.specs.Counts.{risen}
+use Rattle.bp_core.specs.declared.kept.Row.{Row}
+use Rattle.bp_keep.specs.Keeper.{KeeperView}
+use Rattle.bp_keep.specs.Puts.{put_all}
+use Rattle.bp_matter.specs.Batches.{BatchShown}
+use Rattle.bp_matter.specs.KeptRows.{rows_of}
+use Rattle.bp_matter.specs.Matter.{Matter}
+use Rattle.bp_rules.specs.Changes.{after, puts_of}
+use Rattle.bp_rules.specs.Importing.{import_of}
+use Rattle.bp_rules.specs.declared.changes.Edit.{Edit}
+use Rattle.bp_rules.specs.declared.importing.Imported.{Imported}
+use Rattle.bp_rules.specs.declared.stepping.Counted.{Counted}
+use Rattle.bp_rules.specs.declared.stepping.StepRefusal.{StepRefusal}
+use Rattle.bp_rules.specs.declared.stepping.StepRefusal.TheVariants as stops
+
+-- the rows of a keeper, if it tells them, are those of the matter
+abbrev pub Keeps : KeeperView → Matter → Type 0
+Keeps keeper m = IfSome keeper.rows (λ rows. rows ≡ rows_of m)
+
+-- the rows that are told now were told before, and are those with the puts of a change
+abbrev pub PutsMade : Option (List Row) → Edit → Option (List Row) → Type 0
+PutsMade before edit now = IfSome now (λ rows. option_map (put_all (puts_of edit)) before ≡ Some rows)
+
+-- a change was made: its puts are made of whatever rows, so a keeper that kept the matter keeps
+-- the matter after it
+pub record Made (m : Matter) (keeper : KeeperView) (edit : Edit) (m' : Matter)
+    (keeper' : KeeperView) : Type 0 where
+  pub matter : m' ≡ after m edit
+  pub puts : PutsMade keeper.rows edit keeper'.rows
+  pub kept : Keeps keeper m → Keeps keeper' m'
+  pub faults : keeper'.faults ≡ keeper.faults
+  pub sure : keeper'.sure ≡ keeper.sure
+
+-- nothing was changed, but that the keeper's count of faults is this one
+pub record Stays (m : Matter) (keeper : KeeperView) (count : ℕ) (m' : Matter)
+    (keeper' : KeeperView) : Type 0 where
+  pub matter : m' ≡ m
+  pub rows : IfSome keeper'.rows (λ now. keeper.rows ≡ Some now)
+  pub faults : keeper'.faults ≡ count
+  pub sure : keeper'.sure ≡ keeper.sure
+
+-- the numbers that are told of an import
+abbrev pub counted_of : Imported → Counted
+counted_of imported = record { documents = imported.documents; pages = imported.pages }
+
+-- an import was made, and its numbers told
+pub record ImportMade (m : Matter) (b : BatchShown) (keeper : KeeperView) (counted : Counted)
+    (m' : Matter) (keeper' : KeeperView) : Type 0 where
+  pub imported : Imported
+  pub answer : import_of m b ≡ Ok imported
+  pub numbers : counted ≡ counted_of imported
+  pub made : Made m keeper imported.change m' keeper'
+
+-- what a step of an import gives: the import made and kept; or a rule, a fault of the keeper or
+-- want of memory, which leave all
+abbrev pub StepsImport : Matter → BatchShown → KeeperView → Result Counted StepRefusal → Matter
+    → KeeperView → Type 0
+StepsImport m b keeper (Ok counted) m' keeper' = ImportMade m b keeper counted m' keeper'
+StepsImport m b keeper (Err (stops.Rule rule)) m' keeper' =
+    (import_of m b ≡ Err rule) × (m' ≡ m) × (keeper' ≡ keeper)
+StepsImport m b keeper (Err stops.KeeperFault) m' keeper' =
+    IsOk (import_of m b) × Stays m keeper (risen keeper.faults) m' keeper'
+StepsImport m b keeper (Err stops.OutOfMemory) m' keeper' = Stays m keeper keeper.faults m' keeper'

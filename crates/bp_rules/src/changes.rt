@@ -1,0 +1,129 @@
+// Changes of a matter, and the puts that keep them.
+ghost use Rattle.std.specs.Prelude.{◌≡◌, ◌++◌, ◌∷◌, [], IfOk, OnOk, IsTrue, map};
+ghost use Rattle.std.specs.List.{list_all};
+ghost use Rattle.bp_rules.specs.Changes.{put_of, puts_of, rows_kept};
+ghost use Rattle.bp_rules.specs.Written.{EditWritten, RowsWritten};
+
+use bp_core::{ListOf, OutOfMemory, Put, PutList, Row};
+use bp_matter::{BatchRow, DocRow, FieldRow, Kind, PageRow, PageWords};
+use std::alloc::Global;
+use std::marker::Model;
+
+/// The rows that a batch becomes, each list numbered on from that of the matter.
+#[derive(Debug, Drop)]
+pub struct ImportRows {
+    pub fields: ListOf<FieldRow>,
+    pub docs: ListOf<DocRow>,
+    pub pages: ListOf<PageRow>,
+    pub batch: BatchRow,
+    pub words: ListOf<PageWords>,
+}
+
+/// What a change does to the tables.
+// A review call that changes other lists gets a variant here, an arm in `apply` and in `puts_of`
+// below, and a case in `after` and `puts_of` of specs/Changes.antt.
+#[derive(Debug, Drop)]
+pub enum Edit {
+    Nothing,
+    Import(ImportRows),
+}
+
+/// A change of a matter that was decided. Contracts see its `Edit`; its puts are those of it.
+#[derive(Debug, Drop)]
+pub struct Change {
+    edit: Edit,
+    puts: PutList,
+}
+
+impl Model for Change {
+    ghost use Rattle.std.specs.Prelude.{◌≡◌};
+    ghost use Rattle.bp_rules.specs.Changes.{puts_of};
+    ghost use Rattle.bp_rules.specs.declared.changes.Edit.{Edit};
+
+    ghost Value = { Edit };
+
+    ghost view = { λ c. c.edit };
+
+    ghost invariant = { λ c. c.puts ≡ puts_of c.edit };
+}
+
+impl Change {
+    // The change, with its puts.
+    pub(crate) fn new(alloc: Global, edit: Edit) -> Result<Change, OutOfMemory>
+        requires { EditWritten edit }
+        ensures { IfOk result (λ change. change ≡ edit) }
+    {
+        let puts = puts_of(alloc, &edit)?;
+        Ok(Change { edit, puts })
+    }
+
+    /// What becomes of the kept rows, in ascending order of key.
+    pub fn puts(&self) -> &PutList
+        ensures { result.now ≡ puts_of self.now }
+    {
+        &self.puts
+    }
+
+    // What it does to the tables.
+    pub(crate) fn into_edit(self) -> Edit
+        ensures { result ≡ self }
+    {
+        let Change { edit, puts } = self;
+        let _puts = puts;
+        edit
+    }
+}
+
+fn puts_of(alloc: Global, edit: &Edit) -> Result<PutList, OutOfMemory>
+    requires { EditWritten edit.now }
+    ensures { IfOk result (λ puts. puts ≡ puts_of edit.now) }
+{
+    match edit {
+        Edit::Nothing => Ok(ListOf::new(alloc)),
+        Edit::Import(rows) => import_puts(alloc, rows),
+    }
+}
+
+fn import_puts(alloc: Global, rows: &ImportRows) -> Result<PutList, OutOfMemory>
+    requires { RowsWritten rows.now }
+    ensures { IfOk result (λ puts. puts ≡ map put_of (rows_kept rows.now)) }
+{
+    let mut puts = Vec::new(alloc);
+    push_puts(alloc, &mut puts, rows.fields.as_slice())?;
+    push_puts(alloc, &mut puts, rows.docs.as_slice())?;
+    push_puts(alloc, &mut puts, rows.pages.as_slice())?;
+    push_put(alloc, &mut puts, &rows.batch)?;
+    push_puts(alloc, &mut puts, rows.words.as_slice())?;
+    Ok(ListOf::from_vec(puts))
+}
+
+// Adds the puts that keep these rows.
+fn push_puts<T: Kind>(alloc: Global, puts: &mut Vec<Put>, rows: &[T]) -> Result<(), OutOfMemory>
+    requires { IsTrue (list_all T.is_written rows.now) }
+    ensures { OnOk result (puts.new.items ≡ puts.old.items ++ map put_of (map T.kept_of rows.now)) }
+{
+    for row in rows {
+        push_put(alloc, puts, row)?;
+    }
+    Ok(())
+}
+
+fn push_put<T: Kind>(alloc: Global, puts: &mut Vec<Put>, row: &T) -> Result<(), OutOfMemory>
+    requires { IsTrue (T.is_written row.now) }
+    ensures { OnOk result (puts.new.items ≡ puts.old.items ++ put_of (T.kept_of row.now) ∷ []) }
+{
+    let put = put_of(row.keep(alloc)?);
+    puts.push(put)?;
+    Ok(())
+}
+
+fn put_of(row: Row) -> Put
+    ensures { result ≡ put_of row }
+{
+    Put {
+        kind: row.kind,
+        k1: row.k1,
+        k2: row.k2,
+        body: Some(row.body),
+    }
+}

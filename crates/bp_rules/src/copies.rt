@@ -1,0 +1,46 @@
+// Copies of what a batch holds.
+ghost use Rattle.std.specs.Prelude.{◌≡◌, IfOk};
+
+use bp_core::{ListOf, OutOfMemory, Text};
+use bp_rows::Page;
+use bp_text::{Word, WordList};
+use std::alloc::Global;
+
+pub(crate) fn copy_text(text: &Text) -> Result<Text, OutOfMemory>
+    ensures { IfOk result (λ copy. copy ≡ text.now) }
+{
+    Ok(text.clone()?)
+}
+
+pub(crate) fn copy_words(alloc: Global, words: &WordList) -> Result<WordList, OutOfMemory>
+    ensures { IfOk result (λ copies. copies ≡ words.now) }
+{
+    let mut copies = Vec::new(alloc);
+    for word in words.as_slice() {
+        copies.push(Word {
+            line: word.line,
+            rect: word.rect,
+            text: copy_text(&word.text)?,
+        })?;
+    }
+    Ok(ListOf::from_vec(copies))
+}
+
+// A page is made again from its strip, which is the strip of no other.
+pub(crate) fn copy_page(alloc: Global, page: &Page) -> Result<Page, OutOfMemory>
+    ensures { IfOk result (λ copy. copy ≡ page.now) }
+{
+    let strip = Vec::from_slice(alloc, page.strip())?;
+    let made = Page::from_strip(
+        page.width(),
+        page.height(),
+        page.xres(),
+        page.yres(),
+        page.unit(),
+        strip,
+    );
+    match made {
+        Ok(copy) => Ok(copy),
+        Err(_) => Err(OutOfMemory),
+    }
+}

@@ -1,0 +1,23 @@
+//! The rules of a matter: how it begins, how it is loaded from its keeper, and how it changes.
+//!
+//! A change is decided on tables (`decide_import`), room is made for it (`make_room`), its puts are
+//! committed to the keeper, and it is made (`apply`), which can't fail; `step_import` does all of
+//! it. What an import does to a matter is `import_of` of specs/Importing.antt.
+#![tactic(auto)]
+
+mod applying;
+mod beginning;
+mod changes;
+mod copies;
+mod import_rows;
+mod importing;
+mod limits;
+mod loading;
+mod stepping;
+
+pub use applying::{apply, make_room};
+pub use beginning::begin;
+pub use changes::{Change, Edit, ImportRows};
+pub use importing::{Imported, decide_import};
+pub use loading::{LoadRefusal, load_tables};
+pub use stepping::{Counted, StepRefusal, step_import};

@@ -1,0 +1,47 @@
+// Loading the tables of a matter.
+ghost use Rattle.std.specs.Prelude.{◌≡◌};
+ghost use Rattle.bp_rules.specs.Loading.{LoadsTables};
+
+use bp_core::{OutOfMemory, Refusal, Rule, RuleKind};
+use bp_keep::{KeepRefusal, Keeper};
+use bp_matter::laws::rows_law;
+use bp_matter::{Tables, read_tables};
+use std::alloc::Global;
+use thiserror::Error;
+
+/// Why no tables were loaded.
+#[derive(Clone, Copy, Debug, PartialEq, Eq, Error)]
+pub enum LoadRefusal {
+    /// NoMatter where there is no row, KeptRowBad where the rows are those of no valid matter.
+    #[error("{0}")]
+    Rule(Rule),
+    /// The keeper failed.
+    #[error("keeping rows failed")]
+    KeeperFault,
+    /// There was too little memory.
+    #[error("out of memory")]
+    OutOfMemory,
+}
+
+/// The tables that the keeper has the rows of. It leaves the rows.
+pub fn load_tables<K: Keeper>(alloc: Global, keeper: &mut K) -> Result<Tables, LoadRefusal>
+    ensures { LoadsTables (K.shows keeper.old) result (K.shows keeper.new) }
+{
+    rows_law();
+    let rows = match keeper.load(alloc) {
+        Ok(rows) => rows,
+        Err(KeepRefusal::Failed) => return Err(LoadRefusal::KeeperFault),
+        Err(KeepRefusal::OutOfMemory) => return Err(LoadRefusal::OutOfMemory),
+    };
+    if rows.is_empty() {
+        return Err(LoadRefusal::Rule(Rule::bare(RuleKind::NoMatter)));
+    }
+    match read_tables(alloc, &rows) {
+        Ok(tables) => {
+            tables.know_valid();
+            Ok(tables)
+        }
+        Err(Refusal::Rule(rule)) => Err(LoadRefusal::Rule(rule)),
+        Err(Refusal::OutOfMemory) => Err(LoadRefusal::OutOfMemory),
+    }
+}

@@ -30,6 +30,7 @@ mod writing;
 
 pub use batches::{Batch, BatchDoc, BatchDocList, BatchPage, BatchPageList};
 pub use calls::{Call, DocView, Reply};
+pub use kinds::Kind;
 pub use limits::{
     MAX_BATCHES, MAX_BOX, MAX_DESCRIPTION, MAX_DESIGNATION, MAX_DOCUMENTS, MAX_FIELDS, MAX_ID,
     MAX_NAME, MAX_PAGES, MAX_PIXELS, MAX_PRODUCTIONS, MAX_STAFF,
@@ -42,4 +43,3 @@ pub use rows::{
 };
 pub use tables::Tables;
 pub use taking::read_tables;
-pub use kinds::Kind;

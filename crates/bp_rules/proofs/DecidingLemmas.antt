@@ -25,7 +25,7 @@ made_nothing : (m : Matter) (t : Bool) (told imported : Imported) (rule : Rule) 
 made_nothing m true told imported rule v none h =
     let same : told ≡ imported = cc in
     let nothing : Nothing ≡ imported.change = sym none ∙ ap (λ (i : Imported). i.change) same in
-    subst (λ e. CanBeMade m e) nothing (record { valid = v; rows = refl; })
+    subst (λ e. CanBeMade m e) nothing (record { valid = v; rows = refl })
 made_nothing m false told imported rule v none h = absurd cc
 
 -- a batch whose name is kept

@@ -139,7 +139,7 @@ families-new : (before batch : ℕ) (places : List (Option ℕ)) (q : ℕ) (docs
 families-new before batch places q [] h = refl
 families-new before batch places q (doc ∷ docs) h =
     let parts = and_parts (eqb doc.parent 1 || eqb doc.parent 1) (parents_stand 2 doc.parent docs) h in
-    let own : doc.parent ≡ 1 = elim (or_cases (eqb doc.parent 1) (eqb doc.parent 1) parts.0) [ | inl e ↦ eqb-true doc.parent 1 e | inr e ↦ eqb-true doc.parent 1 e ] in
+    let own : doc.parent ≡ 1 = elim (or_cases (eqb doc.parent 1) (eqb doc.parent 1) parts.0) [ inl e ↦ eqb-true doc.parent 1 e | inr e ↦ eqb-true doc.parent 1 e ] in
     and_from (eqb (before + doc.parent) (before + 1) || eqb (before + doc.parent) q) (are_families (before + doc.parent) (doc_rows before batch places (before + 1 + 1) docs))
     (or_left (eqb (before + doc.parent) (before + 1)) (eqb (before + doc.parent) q) (eq-eqb (before + doc.parent) (before + 1) (omega arith)))
     (doc-families before batch places 2 doc.parent (before + 1 + 1) (before + doc.parent) docs parts.1 (omega arith) refl)

@@ -50,7 +50,7 @@ within-limits m b h =
     let p3 = passed 4000000000 (pixels_after m b) _ _ p2.1 in
     let p4 = passed 64 (fields_after m b) _ _ p3.1 in
     let p5 = passed 1000 (batches_after m) _ _ p4.1 in
-    record { documents = p1.0; pages = p2.0; pixels = p3.0; fields = p4.0; batches = p5.0; }
+    record { documents = p1.0; pages = p2.0; pixels = p3.0; fields = p4.0; batches = p5.0 }
 
 -- the parents of the documents that were there, and of those that come
 old-parents : (docs : List DocRow) → is_numbered doc_key 1 docs ≡ true → are_families 1 docs ≡ true → list_all (λ (d : DocRow). leb d.parent.0 (length docs)) docs ≡ true
@@ -182,4 +182,4 @@ pub import-made : (m : Matter) (b : BatchShown) → ((n : Matter) → IsValid n 
     → CanBeMade m (Import (import_rows m b)) × RowsWritten (import_rows m b)
 import-made m b order v is h apart scalars =
     let valid = import-valid m b v is h apart (name-short b.name is.name scalars) empty-short in
-    (record { valid = valid; rows = import-puts m (import_rows m b) (order (with_rows m (import_rows m b)) valid); }, rows-written m b valid)
+    (record { valid = valid; rows = import-puts m (import_rows m b) (order (with_rows m (import_rows m b)) valid) }, rows-written m b valid)

@@ -282,7 +282,7 @@ parts-of fields docs pages row h =
     let p1 = and_parts (request_fits fields (length docs) row.production.request) (not (eqb (length row.production.items) 0) && (list_all (item_fits (length fields) docs pages) row.production.items && are_whole docs 0 1 row.production.items)) (sym (assoc4 (request_fits fields (length docs) row.production.request) (not (eqb (length row.production.items) 0)) (list_all (item_fits (length fields) docs pages) row.production.items) (are_whole docs 0 1 row.production.items)) ∙ h) in
     let p2 = and_parts (not (eqb (length row.production.items) 0)) (list_all (item_fits (length fields) docs pages) row.production.items && are_whole docs 0 1 row.production.items) p1.1 in
     let p3 = and_parts (list_all (item_fits (length fields) docs pages) row.production.items) (are_whole docs 0 1 row.production.items) p2.1 in
-    record { request = p1.0; some = p2.0; items = p3.0; whole = p3.1; }
+    record { request = p1.0; some = p2.0; items = p3.0; whole = p3.1 }
 
 item-found : (fields : ℕ) (docs : List DocRow) (pages : List PageRow) (i : Item) → item_fits fields docs pages i ≡ true → item_of (find_key doc_key i.doc.0 docs) i ≡ true
 item-found fields docs pages i h = (and_parts (item_of (find_key doc_key i.doc.0 docs) i) (is_ground i.treatment && (is_designation i.designation && (item_marks_fit fields pages i && item_texts_fit i))) (sym (assoc5 (item_of (find_key doc_key i.doc.0 docs) i) (is_ground i.treatment) (is_designation i.designation) (item_marks_fit fields pages i) (item_texts_fit i)) ∙ h)).0

@@ -117,7 +117,7 @@ grow kept {before} {puts} {after} xs ys w =
     subst (λ (l : List Row). Weaves (map kept xs ++ before) (map kept ys ++ puts) l) parts (keep (map kept xs) (add (map kept ys) w))
 
 nothing : Weaves [] [] []
-nothing = record { strands = []; is_old = refl; is_new = refl; is_all = refl; }
+nothing = record { strands = []; is_old = refl; is_new = refl; is_all = refl }
 
 -- the same of the last list
 last : {T : Type 0} (kept : T → Row) (xs ys : List T) → Weaves (map kept xs) (map kept ys) (map kept (xs ++ ys))

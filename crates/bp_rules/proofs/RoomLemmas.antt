@@ -16,8 +16,16 @@ kept-count rows =
     let batch = batch_kept rows.batch ∷ words in
     let pages = map page_kept rows.pages ++ batch in
     let docs = map doc_kept rows.docs ++ pages in
-    omega (arith, length-append (map field_kept rows.fields) docs, length-append (map doc_kept rows.docs) pages, length-append (map page_kept rows.pages) batch,
-    length-map rows.fields field_kept, length-map rows.docs doc_kept, length-map rows.pages page_kept, length-map rows.words words_kept)
+    omega (
+      arith,
+      length-append (map field_kept rows.fields) docs,
+      length-append (map doc_kept rows.docs) pages,
+      length-append (map page_kept rows.pages) batch,
+      length-map rows.fields field_kept,
+      length-map rows.docs doc_kept,
+      length-map rows.pages page_kept,
+      length-map rows.words words_kept,
+    )
 
 -- what is left in each list
 pub record Rooms (n a b c d e f g h i j k l : ℕ) : Type 0 where
@@ -40,4 +48,4 @@ rooms n a b c d e f g h i j k l le =
     let p9 = min-parts n i (min j (min k l)) p8.1 in
     let p10 = min-parts n j (min k l) p9.1 in
     let p11 = min-parts n k l p10.1 in
-    record { fields = p2.0; docs = p3.0; pages = p4.0; batches = p11.0; words = p11.1; }
+    record { fields = p2.0; docs = p3.0; pages = p4.0; batches = p11.0; words = p11.1 }

@@ -7,10 +7,13 @@
 //     bp_bench words ROWS TIMES
 //     bp_bench kept WORDS BOXES TIMES
 //     bp_bench produced BOXES TIMES
+//     bp_bench matter FILE DOCS PAGES TIMES
+//     bp_bench strips FILE PAGES TIMES
 #![tactic(auto)]
 
 mod codes;
 mod dat;
+mod matter;
 mod opt;
 mod pages;
 mod sums;
@@ -19,16 +22,17 @@ mod words;
 use anyhow::{Result, bail};
 use std::alloc::Global;
 use std::env;
+use std::rt::Files;
 
 fn main(rt: HostRuntime) -> Result<()> {
     let words: Vec<String> = env::args(&rt)?.collect(rt.alloc())?;
-    let sum = run(rt.alloc(), words.as_slice())?;
+    let sum = run(&rt, rt.alloc(), words.as_slice())?;
     println!(rt; "{sum}")?;
     Ok(())
 }
 
 // What the words ask for; the checksum of what came out.
-fn run(alloc: Global, words: &[String]) -> Result<u64> {
+fn run<R: Files + Alloc>(rt: &R, alloc: Global, words: &[String]) -> Result<u64> {
     let [_program, job, operands @ ..] = words else {
         bail!("no job was named");
     };
@@ -39,6 +43,8 @@ fn run(alloc: Global, words: &[String]) -> Result<u64> {
         "words" => words::read(alloc, operands),
         "kept" => words::keep(alloc, operands),
         "produced" => pages::run(alloc, operands),
+        "matter" => matter::read(rt, alloc, operands),
+        "strips" => matter::strips(rt, alloc, operands),
         other => bail!("no job {other}"),
     }
 }

@@ -33,8 +33,8 @@ compression_of bytes d = do
   _ ← require (value == 1 || value == 4) (tiff_compression value)
   Ok (value == 4)
 
--- section 8, BitsPerSample to FillOrder: one bit a pixel from the top left; which value is black, and
--- which bit of a byte is the first
+-- section 8, BitsPerSample to FillOrder: one bit a pixel from the top left; which value is black,
+-- and which bit of a byte is the first
 unfoldable pub coding_of : List ℕ → Directory → Result Coding Rule
 coding_of bytes d = do
   _ ← number_among bytes d tags.BITS_PER_SAMPLE (Some 1) (1 ∷ [])

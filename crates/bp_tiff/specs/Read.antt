@@ -9,13 +9,13 @@ use Rattle.bp_tiff.specs.Values.{value_at}
 
 -- ---- one strip
 
--- the bytes of strip k, counted from 0
+-- section 8, StripOffsets, StripByteCounts: the bytes of strip k, counted from 0
 abbrev pub strip_bytes : List ℕ → Layout → ℕ → List ℕ
 strip_bytes bytes l k =
     take (value_at bytes l.directory l.strips.lengths k)
     (drop (value_at bytes l.directory l.strips.offsets k) bytes)
 
--- how many rows it has: the last has those that are left
+-- section 8, RowsPerStrip: how many rows it has; the last has those that are left
 abbrev pub strip_rows : Layout → ℕ → ℕ
 strip_rows l k = min l.strips.rows (l.sides.height - k * l.strips.rows)
 

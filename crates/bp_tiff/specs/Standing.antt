@@ -6,7 +6,8 @@ use Rattle.bp_tiff.specs.declared.layout.Layout.{Layout}
 use Rattle.bp_tiff.specs.Read.{strip_rows}
 use Rattle.bp_tiff.specs.Values.{value_at}
 
--- strip k begins where the rows before it end, the first of which begins there, and has its own whole
+-- strip k, counted from 0, begins where the rows before it end, which begin at a place, and has
+-- bytes for all rows of its own
 pub record Follows (bytes : List ℕ) (l : Layout) (first k : ℕ) : Type 0 where
   pub begins : value_at bytes l.directory l.strips.offsets k
       ≡ first + k * l.strips.rows * row_bytes l.sides.width

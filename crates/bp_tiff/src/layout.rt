@@ -66,8 +66,9 @@ pub struct Layout {
 
 /// All that a file of one bilevel page says of it beside the pixels. It takes no memory.
 ///
-/// `bytes` are the whole file (TIFF 6.0, sections 2, 8 and 11). The first entry of a tag counts, and
-/// tags that aren't named here are skipped. The answer is the first of these rules that is broken:
+/// `bytes` are the whole file (TIFF 6.0, sections 2, 8 and 11). The first entry of a tag counts,
+/// and tags that aren't named here are skipped. The answer is the first of these rules that is
+/// broken:
 /// - TiffHead: fewer than 8 bytes, neither `II` nor `MM`, or not 42;
 /// - TiffBounds with 0: the directory leaves the file; TiffManyPages: another one follows;
 /// - of ImageWidth and ImageLength: PageLimit with both, where a page can't have these sides;

@@ -26,6 +26,22 @@ const DOC: [u8; 27] = [
     1, 1, 0, 0, 0, 2, 0, 0, 0, 1, 0, 0, 0, 1, 0, 0, 0, b'A', 1, 0, 0, 0, 1, 0, 0, 0, b'v',
 ];
 
+// Document 2, of one page and of the same family, with the id B.
+const SECOND: [u8; 22] = [
+    1, 1, 0, 0, 0, 1, 0, 0, 0, 1, 0, 0, 0, 1, 0, 0, 0, b'B', 0, 0, 0, 0,
+];
+
+// First by staff 1, responsive, Redact, C.
+const CALLED: [u8; 17] = [1, 1, 1, 0, 0, 0, 0, 0, 0, 0, 1, 1, 1, 0, 0, 0, b'C'];
+
+// On page 1, for AC.
+const BOXED: [u8; 22] = [
+    1, 1, 0, 0, 0, 0, 0, 0, 0, 0, 0, 0, 0, 8, 0, 0, 0, 1, 0, 0, 0, 0,
+];
+
+// Of the description d alone.
+const LOGGED: [u8; 18] = [1, 0, 0, 0, 0, 0, 0, 0, 0, 0, 0, 0, 0, 1, 0, 0, 0, b'd'];
+
 // AB- with four digits, of which the numbers 1 to 3 are taken.
 const PREFIX: [u8; 17] = [1, 4, 4, 0, 0, 0, 0, 0, 0, 0, 3, 0, 0, 0, b'A', b'B', b'-'];
 
@@ -59,38 +75,14 @@ const ROWS: [(u8, u32, u32, &[u8]); 17] = [
     (1, 1, 0, &STAFF),
     (2, 1, 0, &[1, 1, 0, 0, 0, b'F']),
     (3, 1, 0, &DOC),
-    (
-        3,
-        2,
-        0,
-        &[
-            1, 1, 0, 0, 0, 1, 0, 0, 0, 1, 0, 0, 0, 1, 0, 0, 0, b'B', 0, 0, 0, 0,
-        ],
-    ),
+    (3, 2, 0, &SECOND),
     (4, 1, 1, &PAGE),
     (4, 1, 2, &PAGE),
     (4, 2, 1, &PAGE),
-    (
-        5,
-        2,
-        0,
-        &[1, 1, 1, 0, 0, 0, 0, 0, 0, 0, 1, 1, 1, 0, 0, 0, b'C'],
-    ),
-    (
-        6,
-        2,
-        1,
-        &[
-            1, 1, 0, 0, 0, 0, 0, 0, 0, 0, 0, 0, 0, 8, 0, 0, 0, 1, 0, 0, 0, 0,
-        ],
-    ),
+    (5, 2, 0, &CALLED),
+    (6, 2, 1, &BOXED),
     (7, 2, 1, &[1, 2]),
-    (
-        8,
-        2,
-        0,
-        &[1, 0, 0, 0, 0, 0, 0, 0, 0, 0, 0, 0, 0, 1, 0, 0, 0, b'd'],
-    ),
+    (8, 2, 0, &LOGGED),
     (9, 1, 0, &PREFIX),
     (10, 1, 0, &PRODUCTION),
     (11, 1, 0, &BATCH),
@@ -338,17 +330,25 @@ fn a_broken_fact_is_refused(rt: HostRuntime) -> Result<(), Fail> {
     Ok(())
 }
 
+// X with four digits, of which none is taken.
+const UNUSED: [u8; 15] = [1, 4, 1, 0, 0, 0, 0, 0, 0, 0, 1, 0, 0, 0, b'X'];
+
 // Rows by which a fact of validity breaks, each with its place.
-const STRANGE: [(usize, (u8, u32, u32, &[u8])); 9] = [
+const STRANGE: [(usize, (u8, u32, u32, &[u8])); 17] = [
     (1, (1, 2, 0, &STAFF)), // a digest twice
     (2, (2, 2, 0, &[1, 1, 0, 0, 0, b'F'])), // a field's name twice
     (2, (2, 3, 0, &[1, 1, 0, 0, 0, b'G'])), // a gap in the numbers
+    (4, (3, 4, 0, &DOC)), // the same
     (7, (4, 2, 2, &PAGE)), // a page that its document hasn't
+    (8, (5, 3, 0, &CALLED)), // a call of no document
+    (9, (6, 2, 1, &BOXED)), // a box twice
+    (9, (6, 2, 1001, &BOXED)), // a box past the last number
+    (9, (6, 3, 1, &BOXED)), // a box of no document
+    (10, (7, 2, 2, &[1, 2])), // a field of none
+    (10, (7, 3, 1, &[1, 2])), // a held field of no document
+    (11, (8, 3, 0, &LOGGED)), // an entry of no document
     (12, (9, 2, 0, &PREFIX)), // a prefix twice
-    (
-        12,
-        (9, 2, 0, &[1, 4, 1, 0, 0, 0, 0, 0, 0, 0, 1, 0, 0, 0, b'X']),
-    ), // a prefix of nothing
+    (12, (9, 2, 0, &UNUSED)), // a prefix of nothing
     (13, (10, 2, 0, &PRODUCTION)), // a production twice
     (14, (11, 2, 0, &BATCH)), // a batch's name twice
     (17, (12, 2, 2, &[1, 0, 0, 0, 0])), // words of no page

@@ -18,11 +18,11 @@ use Rattle.bp_import.specs.Breaks.{breaks_of, cut, page_counts}
 use Rattle.bp_import.specs.Columns.{are_columns, is_column, table_of}
 use Rattle.bp_import.specs.Digest.{framed}
 use Rattle.bp_import.specs.Families.{parents_of}
-use Rattle.bp_import.specs.Files.{dat_path, file_read}
+use Rattle.bp_import.specs.Files.{dat_path, file_read, file_rule}
 use Rattle.bp_import.specs.Records.{fields_of, record_of}
 use Rattle.bp_import.specs.Scans.{LinesAnswer, scan_of, scan_read}
 use Rattle.bp_import.specs.WordPages.{places_of, words_inside, words_on}
-use Rattle.bp_import.specs.declared.files.TheConstants.{DAT, IMAGE}
+use Rattle.bp_import.specs.declared.files.TheConstants.{DAT, FILE_LIMIT, IMAGE, OPT, WORDS}
 use Rattle.bp_import.specs.declared.records.Record.{Record}
 
 -- ---- columns
@@ -220,7 +220,7 @@ page width height = record {
   rows = [];
 }
 
--- the third word ends at column 9 of its page, the first at the edge of it
+-- the second and the third word end at the right edge of their pages
 all_inside : words_inside three_lines (page 4 2 ∷ page 9 2 ∷ page 1 1 ∷ []) three_words ≡ Ok (word (codes "b") 0 4 ∷ word (codes "a") 0 4 ∷ word (codes "c") 4 5 ∷ [])
 all_inside = refl
 
@@ -235,22 +235,42 @@ path_of_the_dat = refl
 absent_dat : file_read DAT 0 None ≡ Err (record (bare_rule kinds.FileAbsent) { a = 0 })
 absent_dat = refl
 
+absent_opt : file_read OPT 0 None ≡ Err (record (bare_rule kinds.FileAbsent) { a = 1 })
+absent_opt = refl
+
+absent_words : file_read WORDS 0 None ≡ Err (record (bare_rule kinds.FileAbsent) { a = 2 })
+absent_words = refl
+
+long_image : file_rule kinds.FileTooLong IMAGE 7 ≡ record { kind = kinds.FileTooLong; line = 7; a = 3; b = 0 }
+long_image = refl
+
+-- 128 MiB
+the_limit : FILE_LIMIT ≡ 134217728
+the_limit = refl
+
 absent_image : file_read IMAGE 7 None ≡ Err (record (rule_at_line kinds.FileAbsent 7) { a = 3 })
 absent_image = refl
 
 file_that_is_there : file_read DAT 0 (Some (codes "x")) ≡ Ok (codes "x")
 file_that_is_there = refl
 
--- the limits of an import: 20,000 rows and no more
+-- the limits of an import: 20,000 rows and no more, 200,000,000 pixels and no more
 tallest : scan_of 2 [] (page 10000 20000) ≡ Ok (record { bytes = []; page = page 10000 20000 })
 tallest = refl
 
-too_tall : scan_of 2 [] (page 10000 20001) ≡ Err (record { kind = kinds.PageLimit; line = 2; a = 10000; b = 20001 })
+too_tall : scan_of 2 [] (page 1 20001) ≡ Err (record { kind = kinds.PageLimit; line = 2; a = 1; b = 20001 })
 too_tall = refl
+
+too_many_pixels : scan_of 2 [] (page 20000 10001) ≡ Err (record { kind = kinds.PageLimit; line = 2; a = 20000; b = 10001 })
+too_many_pixels = refl
 
 -- a rule of the file is told with the line
 bad_file : scan_read 5 [] (Err (record (bare_rule kinds.TiffCompression) { a = 5 })) ≡ Err (record { kind = kinds.TiffCompression; line = 5; a = 5; b = 0 })
 bad_file = refl
+
+-- a fault of the codes keeps its row and its bit
+bad_codes : scan_read 5 [] (Err (record (bare_rule kinds.T6BadCode) { a = 3; b = 17 })) ≡ Err (record { kind = kinds.T6BadCode; line = 5; a = 3; b = 17 })
+bad_codes = refl
 
 framed_bytes : framed (codes "ab") ≡ 2 ∷ 0 ∷ 0 ∷ 0 ∷ 0 ∷ 0 ∷ 0 ∷ 0 ∷ codes "ab"
 framed_bytes = refl

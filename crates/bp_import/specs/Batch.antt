@@ -34,8 +34,8 @@ pub record Plan : Type 0 where
   pub lines : List OptLine
   pub words : List WordRow
 
--- the steps before the images, in the order of their rules, where `read` says what is read of the file
--- of that number at a path
+-- the steps before the images, in the order of their rules, where `read` says what is read of the
+-- file of that number at a path
 abbrev pub plan_by : (ℕ → List ℕ → Result (List ℕ) Rule) → List ℕ → Result Plan Rule
 plan_by read name = do
   _ ← demand (is_batch_name name) (bare_rule PathRefused)
@@ -96,7 +96,8 @@ batch_by plan scans = do
   Ok (batch_with plan scans)
 
 -- the plan comes to this once its images are read
-pub record ImagesAnswer (files : FileMap) (plan : Plan) (answer : Result BatchShown Rule) : Type 0 where
+pub record ImagesAnswer (files : FileMap) (plan : Plan) (answer : Result BatchShown Rule) :
+    Type 0 where
   pub scans : Result (List Scan) Rule
   pub read : LinesAnswer files plan.name 1 plan.lines scans
   pub gives : answer ≡ scans >>= batch_by plan

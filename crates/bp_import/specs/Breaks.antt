@@ -35,8 +35,8 @@ docs_after docs line = if line.doc_break then drop 1 docs else docs
 abbrev pub broken_behind : List OptLine → Rule
 broken_behind before = rule_at_line DocBreaks (length before + 1)
 
--- breaks and records go together in the lines behind others; or the first line that is broken, which
--- is the one past the last where records are left
+-- breaks and records go together in the lines behind others; or the first line that is broken,
+-- which is the one past the last where records are left
 abbrev pub breaks_behind : List OptLine → List Record → List OptLine → Result (Unit {0}) Rule
 breaks_behind before docs [] = demand (length docs == 0) (broken_behind before)
 breaks_behind before docs (line ∷ lines) =

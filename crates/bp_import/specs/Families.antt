@@ -16,8 +16,9 @@ abbrev pub is_family : Option (List ℕ) → List ℕ → Bool
 is_family None family = false
 is_family (Some before) family = bytes_eq family before
 
--- the place of the parent of each document, from document n on; the one before it is of this family,
--- whose parent stands at `parent`. Or the first document that is neither a parent nor of that family
+-- the place of the parent of each document, from document n on; the one before it is of this
+-- family, whose parent stands at `parent`. Or the first document that is neither a parent nor of
+-- that family
 abbrev pub parents_from : ℕ → Option (List ℕ) → ℕ → List Record → Result (List ℕ) Rule
 parents_from n before parent [] = Ok []
 parents_from n before parent (doc ∷ docs) =

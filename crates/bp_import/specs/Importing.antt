@@ -9,7 +9,8 @@ use Rattle.bp_import.specs.declared.refusals.ImportRefusal.{ImportRefusal}
 use Rattle.bp_import.specs.declared.refusals.ImportRefusal.TheVariants as refusals
 
 -- what a step gave, seen by view, is a defined answer, unless the source failed or memory ran out
-abbrev pub Comes : {X V : Type 0} → (X → V) → (Result V Rule → Type 0) → Result X ImportRefusal → Type 0
+abbrev pub Comes : {X V : Type 0}
+    → (X → V) → (Result V Rule → Type 0) → Result X ImportRefusal → Type 0
 Comes view Answer (Ok x) = Answer (Ok (view x))
 Comes view Answer (Err (refusals.Rule rule)) = Answer (Err rule)
 Comes view Answer (Err refusals.SourceFault) = Unit {0}

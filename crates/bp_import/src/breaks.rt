@@ -16,9 +16,9 @@ use std::collections::BTreeMap;
 pub type Places<'a> = BTreeMap<&'a str, usize>;
 
 /// Tests that breaks and records go together, and gives the places of the lines. DocBreaks with the
-/// first line, from 1, that is broken: it repeats an image id, it has a break and isn't the first page
-/// of the next record, or it is line 1 and has no break. Where records are left, that is the line past
-/// the last.
+/// first line, from 1, that is broken: it repeats an image id, it has a break and isn't the first
+/// page of the next record, or it is line 1 and has no break. Where records are left, that is the
+/// line past the last.
 pub fn places_by_breaks<'a>(
     alloc: Global,
     docs: &[Record],

@@ -12,8 +12,8 @@ use std::collections::BTreeSet;
 /// The most bytes of the name of a column.
 pub const MAX_COLUMN: usize = 64;
 
-/// Whether an import takes these columns: BEGDOC and BEGATTACH are among them, no two have one name,
-/// and each name has 1 to 64 bytes and no newline.
+/// Whether an import takes these columns: BEGDOC and BEGATTACH are among them, no two have one
+/// name, and each name has 1 to 64 bytes and no newline.
 pub fn are_columns(alloc: Global, columns: &[Text]) -> Result<bool, OutOfMemory>
     ensures { IfOk result (λ taken. taken ≡ are_columns columns.now) }
 {
@@ -53,8 +53,8 @@ fn has_no_newline(text: &Text) -> bool
     text.as_str().chars().all(|c| c != '\n')
 }
 
-// Whether no two texts are alike. They are gone through from the last, so that each is compared with
-// those behind it.
+// Whether no two texts are alike. They are gone through from the last, so that each is compared
+// with those behind it.
 fn all_differ(alloc: Global, texts: &[Text]) -> Result<bool, OutOfMemory>
     ensures { IfOk result (λ differ. differ ≡ all_differ itself texts.now) }
 {

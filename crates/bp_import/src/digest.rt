@@ -4,8 +4,8 @@ ghost use Rattle.bp_import.specs.Digest.{HasTaken, digest_of};
 
 use sha2::{Digest, Sha256};
 
-/// The digest of files that are taken one after another: the SHA-256 (FIPS 180-4) of each one's length
-/// as 64 bits, the low byte first, and its bytes.
+/// The digest of files that are taken one after another: the SHA-256 (FIPS 180-4) of each one's
+/// length as 64 bits, the low byte first, and its bytes.
 #[derive(Drop)]
 pub struct FilesDigest {
     hasher: Sha256,

@@ -25,9 +25,9 @@ pub const WORDS: u64 = 2;
 /// An image file.
 pub const IMAGE: u64 = 3;
 
-/// The bytes of a file of a batch. FileAbsent where there is none at this path, FileTooLong where it has
-/// more than FILE_LIMIT bytes, each with the number of the file and the OPT line of an image, which is 0
-/// for the others.
+/// The bytes of a file of a batch. FileAbsent where there is none at this path, FileTooLong where
+/// it has more than FILE_LIMIT bytes, each with the number of the file and the OPT line of an
+/// image, which is 0 for the others.
 pub fn read_file<S: Source>(
     alloc: Global,
     source: &mut S,

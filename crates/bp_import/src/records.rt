@@ -39,7 +39,8 @@ pub fn records_of(
     Ok(docs)
 }
 
-/// The fields of a batch with these columns: all that an import doesn't use itself. It takes no memory.
+/// The fields of a batch with these columns: all that an import doesn't use itself. It takes no
+/// memory.
 pub fn fields_of(columns: TextList) -> TextList
     ensures { result ≡ fields_of columns }
 {
@@ -48,7 +49,8 @@ pub fn fields_of(columns: TextList) -> TextList
     ListOf::from_vec(fields)
 }
 
-// The record of a row. The cells are taken from the last on, so that the first column of a name counts.
+// The record of a row. The cells are taken from the last on, so that the first column of a name
+// counts.
 fn record_of(alloc: Global, columns: &[Text], row: TextList) -> Result<Record, OutOfMemory>
     requires { length row ≡ length columns.now }
     ensures { IfOk result (λ doc. doc ≡ record_of columns.now row) }

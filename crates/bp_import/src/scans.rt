@@ -25,8 +25,8 @@ pub struct ScanFile {
 }
 
 /// The image that line `number` of the OPT file names, below the folder `name`. PathRefused, what
-/// `read_file` and `read_tiff` refuse, or PageLimit where its sides aren't those of an import; each with
-/// the line.
+/// `read_file` and `read_tiff` refuse, or PageLimit where its sides aren't those of an import; each
+/// with the line.
 pub fn read_image<S: Source>(
     alloc: Global,
     source: &mut S,
@@ -51,9 +51,9 @@ pub struct Images {
     pub digest: [u8; 32],
 }
 
-/// The images of all lines, one after the other. `digest` has taken the files that were read before. A
-/// line that names the file of another is read again, and its file counts twice in the digest. What
-/// `read_image` refuses, at the first such line.
+/// The images of all lines, one after the other. `digest` has taken the files that were read
+/// before. A line that names the file of another is read again, and its file counts twice in the
+/// digest. What `read_image` refuses, at the first such line.
 pub fn read_images<S: Source>(
     alloc: Global,
     source: &mut S,

@@ -15,8 +15,8 @@ use bp_core::{Refusal, Rule, RuleKind, TextList};
 use bp_load::{Dat, read_dat};
 use std::alloc::Global;
 
-/// The table of a DAT file with columns that an import takes. DatEncoding, or DatShape at line 1; then
-/// DatColumns; then DatShape at the first bad line behind.
+/// The table of a DAT file with columns that an import takes. DatEncoding, or DatShape at line 1;
+/// then DatColumns; then DatShape at the first bad line behind.
 pub fn read_table(alloc: Global, bytes: &[u8]) -> Result<Dat, Refusal>
     requires { length bytes.now + 3 < 2 ^ 32 }
     ensures { Answers (λ dat. dat) result (table_of bytes.now) }
@@ -56,8 +56,8 @@ fn read_first_columns(alloc: Global, text: &str) -> Result<TextList, Refusal>
     }
 }
 
-// The columns that a line names, read as a file of this line alone. A mark stands before it, so that one
-// of its own isn't dropped.
+// The columns that a line names, read as a file of this line alone. A mark stands before it, so
+// that one of its own isn't dropped.
 fn columns_of_line(alloc: Global, line: &str) -> Result<TextList, Refusal>
     requires alone { filled_lines line.now ≡ line.now ∷ [] }
     requires short { length line.now + 3 < 2 ^ 32 }

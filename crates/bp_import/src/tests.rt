@@ -58,7 +58,8 @@ fn images(alloc: Global, opt: &str) -> Result<Result<Images, ImportRefusal>, All
     Ok(read_images(alloc, &mut source, &name, lines.as_slice(), digest))
 }
 
-// The digest was computed apart: of `abc` and of the standard's file, twice, each behind its length.
+// The digest was computed apart: of `abc` and of the standard's file, twice, each behind its
+// length.
 #[test]
 fn an_image_named_twice_counts_twice(rt: HostRuntime) -> Result<(), Fail> {
     let found = images(rt.alloc(), "P1,,a.tif,Y\nP2,,.\\a.tif\n")?;

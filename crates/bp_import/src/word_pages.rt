@@ -42,8 +42,8 @@ fn place_of(places: &Places<'_>, image: &Text) -> Option<usize>
     places.get(image.as_str()).copied()
 }
 
-/// Tests that each word lies inside its page, at its place among the pages. WordOutside with the number
-/// of the first record, from 1, whose word doesn't.
+/// Tests that each word lies inside its page, at its place among the pages. WordOutside with the
+/// number of the first record, from 1, whose word doesn't.
 pub fn words_inside(rows: &[WordRow], places: &[usize], pages: &[Page]) -> Result<(), Rule>
     requires few { length rows.now < 2 ^ 32 }
     requires even { length places.now ≡ length rows.now }

@@ -14,6 +14,8 @@ mod importing;
 mod limits;
 mod loading;
 mod stepping;
+#[cfg(test)]
+mod tests;
 
 pub use applying::{apply, make_room};
 pub use beginning::begin;

@@ -1,5 +1,5 @@
-// Runs library calls as often as its words say, and prints a checksum of what came out, for scripts that time
-// the built program from outside (bench/).
+// Runs library calls as often as its words say, and prints a checksum of what came out, for scripts
+// that time the built program from outside (bench/).
 //
 //     bp_bench codes white|black index|scan TIMES
 //     bp_bench dat ROWS TIMES

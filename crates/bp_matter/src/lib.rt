@@ -23,8 +23,6 @@ mod reading;
 mod rows;
 mod tables;
 mod taking;
-#[cfg(test)]
-mod tests;
 mod texts;
 mod writing;
 

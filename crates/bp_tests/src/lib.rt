@@ -1,0 +1,14 @@
+//! Tests of public calls, in a crate of their own: a crate with tests is proved twice. Each module
+//! tests one crate, over values that were written out from a format or a standard.
+#![tactic(auto)]
+
+#[cfg(test)]
+mod kept_rows;
+#[cfg(test)]
+mod limits;
+#[cfg(test)]
+mod matters;
+#[cfg(test)]
+mod productions;
+#[cfg(test)]
+mod validity;

@@ -6,3 +6,4 @@ pub mod TableLemmas
 pub mod TurnLemmas
 pub mod WordLemmas
 mod Examples
+pub mod LawLemmas

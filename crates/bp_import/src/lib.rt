@@ -2,11 +2,13 @@
 //! into a `Batch`, whole or with the first rule that it breaks.
 #![tactic(auto)]
 
+mod batch;
 mod breaks;
 mod columns;
 mod digest;
 mod families;
 mod files;
+mod laws;
 mod records;
 mod refusals;
 mod scans;
@@ -15,11 +17,13 @@ mod tables;
 mod tests;
 mod word_pages;
 
+pub use batch::read_batch;
 pub use breaks::{Places, page_counts, places_by_breaks};
 pub use columns::{MAX_COLUMN, are_columns, is_begattach, is_begdoc, is_field};
 pub use digest::FilesDigest;
 pub use families::parents_of;
 pub use files::{DAT, FILE_LIMIT, IMAGE, OPT, WORDS, path_below, read_file};
+pub use laws::one_batch;
 pub use records::{Record, fields_of, records_of};
 pub use refusals::ImportRefusal;
 pub use scans::{Images, PageList, ScanFile, read_image, read_images};

@@ -9,10 +9,13 @@
 //     bp_bench produced BOXES TIMES
 //     bp_bench matter FILE DOCS PAGES TIMES
 //     bp_bench strips FILE PAGES TIMES
+//     bp_bench import FOLDER NAME TIMES
+//     bp_bench import_parts FOLDER NAME TIMES
 #![tactic(auto)]
 
 mod codes;
 mod dat;
+mod import;
 mod matter;
 mod opt;
 mod pages;
@@ -45,6 +48,8 @@ fn run<R: Files + Alloc>(rt: &R, alloc: Global, words: &[String]) -> Result<u64>
         "produced" => pages::run(alloc, operands),
         "matter" => matter::read(rt, alloc, operands),
         "strips" => matter::strips(rt, alloc, operands),
+        "import" => import::import(rt, alloc, operands),
+        "import_parts" => import::parts(rt, alloc, operands),
         other => bail!("no job {other}"),
     }
 }

@@ -1,0 +1,59 @@
+#!/bin/sh
+# An import beside the sum of its parts: processor time of `read_batch` and `step_import` over a made batch of letter pages
+# at 300 dots an inch (Group 4, 376 words each), beside that of reading each image file, digesting it, reading its page and
+# coding its strip; then the growth up to 450 pages (a matter has at most 4,000,000,000 pixels, and so 475 such pages);
+# and of 1,000 to 10,000 documents of one small page, which is to grow in a line. A time is the least of three runs.
+# A word: how many letter pages, 200 where none is given. Needs rt on PATH and python3.
+set -eu
+here=$(CDPATH='' cd -- "$(dirname -- "$0")" && pwd)
+bench=$here/../crates/bp_bench/out/bp_bench
+letter=$here/../examples/letter.tif
+pages=${1:-200}
+scratch=$(mktemp -d)
+trap 'rm -rf "$scratch"' EXIT
+(cd "$here/../crates/bp_bench" && rt run -- codes white index 1) > "$scratch/build.log" 2>&1 || { cat "$scratch/build.log"; exit 1; }
+
+# the file of an almost white page of 64 by 32 pixels
+python3 - "$scratch/small.tif" << 'END'
+import struct, sys
+entries = [(256, 4, 64), (257, 4, 32), (258, 3, 1), (259, 3, 1), (262, 3, 0), (273, 4, 122), (278, 4, 32), (279, 4, 256)]
+strip = bytes(8) * 31 + b"\0\0\0\1\0\0\0\0"
+head = b"II" + struct.pack("<HI", 42, 8) + struct.pack("<H", len(entries))
+for tag, kind, value in entries:
+    head += struct.pack("<HHI", tag, kind, 1) + (struct.pack("<I", value) if kind == 4 else struct.pack("<HH", value, 0))
+head += struct.pack("<I", 0)
+open(sys.argv[1], "wb").write(head.ljust(122, b"\0") + strip)
+END
+
+# job, name: the least seconds of processor time of three runs, and the most memory in MB
+cost_of() {
+    python3 -c 'import resource, subprocess, sys
+least, most = None, 0
+for _ in range(3):
+    before = resource.getrusage(resource.RUSAGE_CHILDREN)
+    subprocess.run(sys.argv[1:], check=True, stdout=subprocess.DEVNULL)
+    after = resource.getrusage(resource.RUSAGE_CHILDREN)
+    used = after.ru_utime + after.ru_stime - before.ru_utime - before.ru_stime
+    least = used if least is None else min(least, used)
+    most = max(most, after.ru_maxrss)
+print(f"{least:.4f} {most / 1024:.0f}")' "$bench" "$1" "$scratch" "$2" 1
+}
+
+# name, pages, image, words a page, pages a document
+make() { python3 "$here/make_import.py" "$scratch/$1" "$2" "$3" "$4" "$5"; }
+
+for count in "$pages" 300 450; do
+    make "L$count" "$count" "$letter" 376 3
+    set -- $(cost_of import_parts "L$count") $(cost_of import "L$count")
+    awk -v n="$count" -v parts="$1" -v whole="$3" -v memory="$4" 'BEGIN {
+        printf "%5d letter pages: parts %.2f s, import %.2f s, %.3f times; %.2f ms and %.2f MB a page\n",
+            n, parts, whole, whole / parts, 1000 * whole / n, memory / n }'
+    rm -rf "$scratch/L$count"
+done
+for count in 1000 2000 5000 10000; do
+    make "S$count" "$count" "$scratch/small.tif" 4 1
+    set -- $(cost_of import "S$count")
+    awk -v n="$count" -v whole="$1" -v memory="$2" 'BEGIN {
+        printf "%5d documents of a small page: import %.3f s, %.1f us a document, %.0f MB\n", n, whole, 1000000 * whole / n, memory }'
+    rm -rf "$scratch/S$count"
+done

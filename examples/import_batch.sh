@@ -1,0 +1,16 @@
+#!/bin/sh
+# Takes the batch CVI_001 into a new matter with a keeper in memory, by the calls that the command `import` makes
+# (`read_batch` and `step_import`), from its files as they stand here: the program keeps no rows from one command to the
+# next yet. Then reads it by the rules of an import once more, by check_batch.py. Both are to find 31 pages.
+# Needs rt on PATH, python3, and Debian's libtiff-tools and netpbm.
+set -eu
+here=$(CDPATH='' cd -- "$(dirname -- "$0")" && pwd)
+bench=$here/../crates/bp_bench
+log=$(mktemp)
+trap 'rm -f "$log"' EXIT
+(cd "$bench" && rt run) < /dev/null > "$log" 2>&1 || { cat "$log"; exit 1; }
+
+pages=$("$bench/out/bp_bench" import "$here" CVI_001 1)
+[ "$pages" = 31 ] || { echo "import_batch.sh: $pages pages came in, and not 31" >&2; exit 1; }
+"$here/check_batch.py" | tail -n 1
+echo "the batch came in: $pages pages"

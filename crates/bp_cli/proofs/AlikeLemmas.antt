@@ -17,10 +17,14 @@ use Rattle.bp_rows.proofs.BurnedLemmas.{burned-AgreeOutside}
 use Rattle.bp_tiff.specs.Read.{TiffReads, TiffAnswers}
 use Rattle.bp_tiff.proofs.OneAnswerLemmas.{OneAnswer}
 use Rattle.bp_cli.specs.declared.burn.TheConstants.{FILE_LIMIT}
-use Rattle.bp_cli.specs.Endings.{Outcome, refused}
+use Rattle.std.specs.Prelude.{IfSome}
+use Rattle.bp_core.specs.declared.kept.Row.{Row}
+use Rattle.bp_cli.specs.Endings.{Outcome, World, refused}
+use Rattle.bp_cli.specs.Init.{init_gives}
+use Rattle.bp_cli.specs.Runs.{Tells}
 use Rattle.bp_cli.specs.Words.{◌>>=◌}
-use Rattle.bp_cli.specs.Burn.{BurnLine, BurnPaths, HasPage, BurnAlike, lacks_a_side, burn_page, burn_read, burn_gives, paths_of, path_refused, FileAnswers, PathAnswers, BurnsAt}
-use Rattle.bp_cli.specs.Commands.{CommandLine, Matter, burn, AlikeFor, ComesTo}
+use Rattle.bp_cli.specs.Burn.{BurnLine, BurnPaths, HasPage, BurnAlike, lacks_a_side, burn_page, burn_read, burn_gives, paths_of, path_refused, FileAnswers, PathAnswers, BurnsAt, BurnComes}
+use Rattle.bp_cli.specs.Commands.{CommandLine, Matter, burn, init, uses_of, AlikeFor, ComesTo, IsOutcome}
 
 -- ---- one outcome
 
@@ -48,6 +52,7 @@ comes_one one b (Some paths) files o o' x y = burns_one one b paths files o o' x
 
 pub one_outcome : OneAnswer → (c : CommandLine) (matter : Matter) (o o' : Outcome) → ComesTo c matter o → ComesTo c matter o' → o ≡ o'
 one_outcome one (burn b) matter o o' x y = comes_one one b (paths_of b) matter.files o o' x y
+one_outcome one (init digest) matter o o' x y = sym x ∙ y
 
 -- ---- and there is one
 
@@ -70,6 +75,7 @@ some_comes some b (Some paths) files =
 
 pub some_outcome : SomeAnswer → (c : CommandLine) (matter : Matter) → (o : Outcome) × ComesTo c matter o
 some_outcome some (burn b) matter = some_comes some b (paths_of b) matter.files
+some_outcome some (init digest) matter = (init_gives digest matter.rows, refl)
 
 -- ---- two matters
 
@@ -124,3 +130,17 @@ comes_alike one b (Some f) (Some t) files files' o named alike comes =
 pub outcome_alike : OneAnswer → (c : CommandLine) (matter matter' : Matter) (outcome : Outcome) → AlikeFor c matter matter' → ComesTo c matter' outcome → ComesTo c matter outcome
 outcome_alike one (burn b) matter matter' outcome alike comes =
     comes_alike one b (path_in b.from) (path_in b.to) matter.files matter'.files outcome refl alike comes
+outcome_alike one (init digest) matter matter' outcome alike comes = ap (init_gives digest) alike ∙ comes
+
+-- ---- what is told
+
+-- the outcome over a told matter
+pub told_outcome : (c : CommandLine) (before : World) (matter : Matter) (outcome : Outcome) → Tells (uses_of c).files before.source.files matter.files → Tells (uses_of c).rows before.keeper.rows matter.rows → IsOutcome c before outcome → ComesTo c matter outcome
+told_outcome (burn b) before matter outcome files rows is =
+    let P : Option FileMap → Type 0 = λ o. IfSome o (λ t. t ≡ is.files) in
+    let same : matter.files ≡ is.files = subst P files is.same in
+    subst (λ (fs : FileMap). BurnComes b fs outcome) (sym same) is.comes
+told_outcome (init digest) before matter outcome files rows is =
+    let P : Option (List Row) → Type 0 = λ o. IfSome o (λ t. is.rows ≡ t) in
+    let same : is.rows ≡ matter.rows = subst P rows is.same in
+    ap (init_gives digest) (sym same) ∙ is.gives

@@ -29,15 +29,17 @@ use Rattle.bp_outside.specs.declared.refusals.FolderRefusal.TheVariants as folde
 use Rattle.bp_cli.specs.declared.stops.Stop.{Stop}
 use Rattle.bp_cli.specs.declared.stops.Stop.TheVariants as stops
 use Rattle.bp_cli.specs.declared.burn.TheConstants.{FILE_LIMIT}
-use Rattle.bp_cli.specs.Endings.{Outcome, done, refused, Ending, World, world, after_kind, failed_folder, AddsPart, Makes, Ends, partly, untouched}
+use Rattle.bp_core.specs.declared.kept.Row.{Row}
+use Rattle.bp_keep.specs.Keeper.{KeeperView, SameRows}
+use Rattle.bp_cli.specs.Endings.{Outcome, done, refused, Ending, World, world, after_kind, failed_folder, KeeperLeft, AddsPart, Makes, Ends, partly, untouched}
 use Rattle.bp_core.specs.declared.rectangle.Rect.{Rect}
 use Rattle.bp_core.specs.declared.rules.RuleKind.{RuleKind}
 use Rattle.bp_core.specs.declared.refusals.Refusal.{Refusal}
 use Rattle.bp_core.specs.declared.refusals.Refusal.TheVariants as refusals
 use Rattle.bp_rows.specs.Limits.{sides_are_imported}
-use Rattle.bp_cli.specs.Burn.{BurnLine, BurnPaths, paths_of, path_refused, lacks_a_side, burn_page, burn_read, FileAnswers, PathAnswers, BurnsAt, BurnComes, burn_done, burn_gives, counted_line}
+use Rattle.bp_cli.specs.Burn.{BurnLine, BurnPaths, paths_of, path_refused, lacks_a_side, burn_page, burn_read, FileAnswers, PathAnswers, BurnsAt, BurnComes, BurnOutcome, burn_done, burn_gives, counted_line}
 use Rattle.bp_cli.specs.Burning.{page_put, NamesPath, NamesPaths, MeetsPageRule, BurnsBytes, PutsPage}
-use Rattle.bp_cli.specs.Commands.{burn, IsOutcome}
+use Rattle.bp_cli.specs.Commands.{burn, uses_of, IsOutcome}
 use Rattle.bp_cli.specs.Stops.{StopsFor, StopsForFolder, read_stop}
 
 -- ---- files that a source doesn't tell
@@ -62,26 +64,22 @@ comes_of b paths files outcome named at =
     let P : Option BurnPaths → Type 0 = λ o. elim o [ None ↦ outcome ≡ refused path_refused | Some ps ↦ BurnsAt b ps files outcome ] in
     subst P (sym named) at
 
-outcome_at : (b : BurnLine) (paths : BurnPaths) (before : World) (found : Option (List ℕ)) (answer : Result Image Rule) (told : Option FileMap) → paths_of b ≡ Some paths → PathAnswers found answer → before.source.files ≡ told → IfSome told (λ files. map.get files paths.from ≡ found) → IsOutcome (burn b) before (burn_gives b.form paths.to (burn_read b.area answer))
-outcome_at b paths before found answer (Some files) named answers is there =
-    let P : Option FileMap → Type 0 = λ o. IfSome o (λ t. t ≡ files) in
-    record {
-      matter = record { files = files };
-      told = subst P (sym is) refl;
-      comes = comes_of b paths files _ named (record { answer = answer; found = subst (λ (f : Option (List ℕ)). PathAnswers f answer) (sym there) answers; gives = refl });
-    }
-outcome_at b paths before found answer None named answers is there =
-    let P : Option FileMap → Type 0 = λ o. IfSome o (λ t. t ≡ one_file paths.from found) in
-    record {
-      matter = record { files = one_file paths.from found };
-      told = subst P (sym is) tt;
-      comes = comes_of b paths (one_file paths.from found) _ named (record { answer = answer; found = subst (λ (f : Option (List ℕ)). PathAnswers f answer) (sym (get-one_file paths.from found)) answers; gives = refl });
-    }
+outcome_at : (b : BurnLine) (paths : BurnPaths) (told : Option FileMap) (found : Option (List ℕ)) (answer : Result Image Rule) → paths_of b ≡ Some paths → PathAnswers found answer → IfSome told (λ files. map.get files paths.from ≡ found) → BurnOutcome b told (burn_gives b.form paths.to (burn_read b.area answer))
+outcome_at b paths (Some files) found answer named answers there = record {
+  files = files;
+  same = refl;
+  comes = comes_of b paths files _ named (record { answer = answer; found = subst (λ (f : Option (List ℕ)). PathAnswers f answer) (sym there) answers; gives = refl });
+}
+outcome_at b paths None found answer named answers there = record {
+  files = one_file paths.from found;
+  same = tt;
+  comes = comes_of b paths (one_file paths.from found) _ named (record { answer = answer; found = subst (λ (f : Option (List ℕ)). PathAnswers f answer) (sym (get-one_file paths.from found)) answers; gives = refl });
+}
 
 -- the outcome over what stands at IN, by its answer
-outcome_is : (b : BurnLine) (paths : BurnPaths) (before : World) (found : Option (List ℕ)) (answer : Result Image Rule) (outcome : Outcome) → paths_of b ≡ Some paths → PathAnswers found answer → IfSome before.source.files (λ files. map.get files paths.from ≡ found) → burn_gives b.form paths.to (burn_read b.area answer) ≡ outcome → IsOutcome (burn b) before outcome
-outcome_is b paths before found answer outcome named answers there is =
-    subst (IsOutcome (burn b) before) is (outcome_at b paths before found answer before.source.files named answers refl there)
+outcome_is : (b : BurnLine) (paths : BurnPaths) (told : Option FileMap) (found : Option (List ℕ)) (answer : Result Image Rule) (outcome : Outcome) → paths_of b ≡ Some paths → PathAnswers found answer → IfSome told (λ files. map.get files paths.from ≡ found) → burn_gives b.form paths.to (burn_read b.area answer) ≡ outcome → BurnOutcome b told outcome
+outcome_is b paths told found answer outcome named answers there is =
+    subst (BurnOutcome b told) is (outcome_at b paths told found answer named answers there)
 
 -- ---- a word that names no path
 
@@ -90,13 +88,9 @@ no_path_over b files none =
     let P : Option BurnPaths → Type 0 = λ o. elim o [ None ↦ refused path_refused ≡ refused path_refused | Some ps ↦ BurnsAt b ps files (refused path_refused) ] in
     subst P (sym none) refl
 
-no_path_outcome : (b : BurnLine) (before : World) (told : Option FileMap) → paths_of b ≡ None → before.source.files ≡ told → IsOutcome (burn b) before (refused path_refused)
-no_path_outcome b before (Some files) none is =
-    let P : Option FileMap → Type 0 = λ o. IfSome o (λ t. t ≡ files) in
-    record { matter = record { files = files }; told = subst P (sym is) refl; comes = no_path_over b files none }
-no_path_outcome b before None none is =
-    let P : Option FileMap → Type 0 = λ o. IfSome o (λ t. t ≡ one_file [] None) in
-    record { matter = record { files = one_file [] None }; told = subst P (sym is) tt; comes = no_path_over b (one_file [] None) none }
+no_path_outcome : (b : BurnLine) (told : Option FileMap) → paths_of b ≡ None → BurnOutcome b told (refused path_refused)
+no_path_outcome b (Some files) none = record { files = files; same = refl; comes = no_path_over b files none }
+no_path_outcome b None none = record { files = one_file [] None; same = tt; comes = no_path_over b (one_file [] None) none }
 
 -- ---- what the burned page, or its rule, comes from
 
@@ -165,65 +159,80 @@ long_answers : (bytes : List ℕ) (answer : Result Image Rule) → FILE_LIMIT < 
 long_answers bytes answer long is =
     subst (λ (b : Bool). FileAnswersIf b bytes answer) (sym (lt-ltb FILE_LIMIT (length bytes) long)) is
 
-pub made_page : (b : BurnLine) (paths : BurnPaths) (before : World) (source' : SourceView) (bytes : List ℕ) (r : Result Image Stop) → paths_of b ≡ Some paths → length bytes ≤ FILE_LIMIT → IfSome before.source.files (λ files. map.get files paths.from ≡ Some bytes) → source' ≡ before.source → BurnsBytes b.area bytes r → Makes (IsOutcome (burn b) before) (page_put b.form paths.to) before.source r source'
-made_page b paths before source' bytes (Ok p) named short there stays it =
-    (outcome_is b paths before (Some bytes) it.answer (page_put b.form paths.to p) named (short_answers bytes it.answer short it.found) there (ap (burn_gives b.form paths.to) it.gives), stays)
-made_page b paths before source' bytes (Err (stops.Broken rule)) named short there stays it = (
-  outcome_is b paths before (Some bytes) it.comes.answer (refused rule) named (short_answers bytes it.comes.answer short it.comes.found) there (ap (burn_gives b.form paths.to) it.comes.gives),
-  stays ∙ sym (it.calm before.source),
+pub made_page : (b : BurnLine) (paths : BurnPaths) (before after : SourceView) (bytes : List ℕ) (r : Result Image Stop) → paths_of b ≡ Some paths → length bytes ≤ FILE_LIMIT → IfSome before.files (λ files. map.get files paths.from ≡ Some bytes) → after ≡ before → BurnsBytes b.area bytes r → Makes (BurnOutcome b before.files) (page_put b.form paths.to) before r after
+made_page b paths before after bytes (Ok p) named short there stays it =
+    (outcome_is b paths before.files (Some bytes) it.answer (page_put b.form paths.to p) named (short_answers bytes it.answer short it.found) there (ap (burn_gives b.form paths.to) it.gives), stays)
+made_page b paths before after bytes (Err (stops.Broken rule)) named short there stays it = (
+  outcome_is b paths before.files (Some bytes) it.comes.answer (refused rule) named (short_answers bytes it.comes.answer short it.comes.found) there (ap (burn_gives b.form paths.to) it.comes.gives),
+  stays ∙ sym (it.calm before),
 )
-made_page b paths before source' bytes (Err stops.OutOfMemory) named short there stays it = stays
-made_page b paths before source' bytes (Err stops.WordsRefused) named short there stays it = it
-made_page b paths before source' bytes (Err stops.SourceFault) named short there stays it = absurd it
-made_page b paths before source' bytes (Err stops.FolderFault) named short there stays it = it
+made_page b paths before after bytes (Err stops.OutOfMemory) named short there stays it = stays
+made_page b paths before after bytes (Err stops.WordsRefused) named short there stays it = it
+made_page b paths before after bytes (Err stops.SourceFault) named short there stays it = absurd it
+made_page b paths before after bytes (Err stops.FolderFault) named short there stays it = it
+made_page b paths before after bytes (Err stops.KeeperFault) named short there stays it = it
 
 -- a list longer than a number
 longer : (n : ℕ) → (bytes : List ℕ) × (n < length bytes)
 longer n = let zero_byte : ℕ = 0 in (replicate (n + 1) zero_byte, omega (arith, length-replicate (n + 1) zero_byte))
 
-too_long_there : (b : BurnLine) (paths : BurnPaths) (before : World) (files : FileMap) (found : Option (List ℕ)) → paths_of b ≡ Some paths → before.source.files ≡ Some files → map.get files paths.from ≡ found → IsSomeAnd found (λ bytes. FILE_LIMIT < length bytes) → IsOutcome (burn b) before (refused too_long_rule)
-too_long_there b paths before files None named is get long = elim long [ ]
-too_long_there b paths before files (Some bytes) named is get long =
-    let P : Option FileMap → Type 0 = λ o. IfSome o (λ fs. map.get fs paths.from ≡ Some bytes) in
-    outcome_is b paths before (Some bytes) (Err too_long_rule) (refused too_long_rule) named (long_answers bytes (Err too_long_rule) long refl) (subst P (sym is) get) refl
+too_long_there : (b : BurnLine) (paths : BurnPaths) (files : FileMap) (found : Option (List ℕ)) → paths_of b ≡ Some paths → map.get files paths.from ≡ found → IsSomeAnd found (λ bytes. FILE_LIMIT < length bytes) → BurnOutcome b (Some files) (refused too_long_rule)
+too_long_there b paths files None named get long = elim long [ ]
+too_long_there b paths files (Some bytes) named get long =
+    outcome_is b paths (Some files) (Some bytes) (Err too_long_rule) (refused too_long_rule) named (long_answers bytes (Err too_long_rule) long refl) get refl
 
-too_long : (b : BurnLine) (paths : BurnPaths) (before : World) (told : Option FileMap) → paths_of b ≡ Some paths → before.source.files ≡ told → IfSome told (λ files. IsSomeAnd (map.get files paths.from) (λ bytes. FILE_LIMIT < length bytes)) → IsOutcome (burn b) before (refused too_long_rule)
-too_long b paths before (Some files) named is long = too_long_there b paths before files (map.get files paths.from) named is refl long
-too_long b paths before None named is long =
-    let P : Option FileMap → Type 0 = λ o. IfSome o (λ fs. map.get fs paths.from ≡ Some (longer FILE_LIMIT).0) in
-    outcome_is b paths before (Some (longer FILE_LIMIT).0) (Err too_long_rule) (refused too_long_rule) named (long_answers (longer FILE_LIMIT).0 (Err too_long_rule) (longer FILE_LIMIT).1 refl) (subst P (sym is) tt) refl
+too_long : (b : BurnLine) (paths : BurnPaths) (told : Option FileMap) → paths_of b ≡ Some paths → IfSome told (λ files. IsSomeAnd (map.get files paths.from) (λ bytes. FILE_LIMIT < length bytes)) → BurnOutcome b told (refused too_long_rule)
+too_long b paths (Some files) named long = too_long_there b paths files (map.get files paths.from) named refl long
+too_long b paths None named long =
+    outcome_is b paths None (Some (longer FILE_LIMIT).0) (Err too_long_rule) (refused too_long_rule) named (long_answers (longer FILE_LIMIT).0 (Err too_long_rule) (longer FILE_LIMIT).1 refl) tt refl
 
-pub refused_read : (b : BurnLine) (paths : BurnPaths) (before : World) (source' : SourceView) (refusal : ReadRefusal) → paths_of b ≡ Some paths → IfSome before.source.files (ReadOver paths.from FILE_LIMIT (Err refusal)) → source' ≡ after_read before.source (Err refusal) → Makes (IsOutcome (burn b) before) (page_put b.form paths.to) before.source (Err (read_stop refusal)) source'
-refused_read b paths before source' reads.Absent named there after = (outcome_is b paths before None (Err (bare_rule kinds.FileAbsent)) (refused (bare_rule kinds.FileAbsent)) named refl there refl, after)
-refused_read b paths before source' reads.TooLong named there after = (too_long b paths before before.source.files named refl there, after)
-refused_read b paths before source' reads.Failed named there after = after
-refused_read b paths before source' reads.OutOfMemory named there after = after
+pub refused_read : (b : BurnLine) (paths : BurnPaths) (before after : SourceView) (refusal : ReadRefusal) → paths_of b ≡ Some paths → IfSome before.files (ReadOver paths.from FILE_LIMIT (Err refusal)) → after ≡ after_read before (Err refusal) → Makes (BurnOutcome b before.files) (page_put b.form paths.to) before (Err (read_stop refusal)) after
+refused_read b paths before after reads.Absent named there is = (outcome_is b paths before.files None (Err (bare_rule kinds.FileAbsent)) (refused (bare_rule kinds.FileAbsent)) named refl there refl, is)
+refused_read b paths before after reads.TooLong named there is = (too_long b paths before.files named there, is)
+refused_read b paths before after reads.Failed named there is = is
+refused_read b paths before after reads.OutOfMemory named there is = is
 
 -- ---- what the putting of the file leaves
+
+-- burn, and the keeper that it doesn't use
+abbrev pub BurnEnds : BurnLine → World → Ending → World → Type 0
+BurnEnds b before r after = Ends (uses_of (burn b)) (IsOutcome (burn b) before) before r after
+
+same_rows : (rows : Option (List Row)) → SameRows rows rows
+same_rows None = tt
+same_rows (Some rows) = refl
+
+pub unused : (keeper : KeeperView) → KeeperLeft None keeper.faults keeper keeper
+unused keeper = record { rows = same_rows keeper.rows; faults = refl; sure = refl }
 
 only_part : (to : List ℕ) (folder folder' : FolderView) (bytes : List ℕ) → PutsPart folder to bytes folder' → AddsPart folder (file to bytes ∷ []) folder'
 only_part to folder folder' bytes part = record { before = []; next = file to bytes; rest = []; files_are = refl; part = part }
 
 -- the file was put, or a part of it, or nothing
-pub put_ends : (b : BurnLine) (to : List ℕ) (before : World) (source' : SourceView) (folder' : FolderView) (bytes : List ℕ) (r : Ending) → IsOutcome (burn b) before (burn_done to bytes) → source' ≡ before.source → PutsPage to bytes before.folder r folder' → Ends (IsOutcome (burn b) before) before r (world source' folder')
+pub put_ends : (b : BurnLine) (to : List ℕ) (before : World) (source' : SourceView) (folder' : FolderView) (bytes : List ℕ) (r : Ending) → BurnOutcome b before.source.files (burn_done to bytes) → source' ≡ before.source → PutsPage to bytes before.folder r folder' → BurnEnds b before r (world source' before.keeper folder')
 put_ends b to before source' folder' bytes (Ok line) outcome stays put = record {
   files = file to bytes ∷ [];
-  outcome = subst (λ (l : List ℕ). IsOutcome (burn b) before (done l (file to bytes ∷ []))) (sym put.0) outcome;
+  rows = None;
+  outcome = subst (λ (l : List ℕ). BurnOutcome b before.source.files (done l (file to bytes ∷ []) None)) (sym put.0) outcome;
   source = stays;
+  keeper = unused before.keeper;
   folder = put.1;
 }
 put_ends b to before source' folder' bytes (Err stops.FolderFault) outcome stays put = record {
   line = counted_line (length bytes);
   files = file to bytes ∷ [];
+  rows = None;
   outcome = outcome;
   source = stays;
+  keeper = unused before.keeper;
   folder = only_part to (failed_folder before.folder) folder' bytes put;
 }
 put_ends b to before source' folder' bytes (Err stops.OutOfMemory) outcome stays put =
-    partly (counted_line (length bytes)) (file to bytes ∷ []) outcome stays (only_part to before.folder folder' bytes put)
+    partly (counted_line (length bytes)) (file to bytes ∷ []) None outcome stays (unused before.keeper) (only_part to before.folder folder' bytes put)
 put_ends b to before source' folder' bytes (Err stops.WordsRefused) outcome stays put = put
 put_ends b to before source' folder' bytes (Err (stops.Broken rule)) outcome stays put = absurd put
 put_ends b to before source' folder' bytes (Err stops.SourceFault) outcome stays put = absurd put
+put_ends b to before source' folder' bytes (Err stops.KeeperFault) outcome stays put = absurd put
 
 -- what putting a file in two parts gives
 pub put_refused : (to bytes : List ℕ) (folder folder' : FolderView) (refusal : FolderRefusal) (stop : Stop) → StopsForFolder refusal stop → PutsPart (after_refusal folder refusal) to bytes folder' → PutsPage to bytes folder (Err stop) folder'
@@ -232,18 +241,19 @@ put_refused to bytes folder folder' folders.OutOfMemory stop is part = subst (λ
 
 -- ---- where the steps before the file stopped
 
-made_stop : (b : BurnLine) (gives : Image → Outcome) (before : World) (source' : SourceView) (stop : Stop) → Makes (IsOutcome (burn b) before) gives before.source (Err stop) source' → Ends (IsOutcome (burn b) before) before (Err stop) (world source' before.folder)
+made_stop : (b : BurnLine) (gives : Image → Outcome) (before : World) (source' : SourceView) (stop : Stop) → Makes (BurnOutcome b before.source.files) gives before.source (Err stop) source' → BurnEnds b before (Err stop) (world source' before.keeper before.folder)
 made_stop b gives before source' stops.WordsRefused made = absurd made
-made_stop b gives before source' (stops.Broken rule) made = record { outcome = made.0; source = made.1; folder = refl }
-made_stop b gives before source' stops.SourceFault made = record { source = made; folder = refl }
+made_stop b gives before source' (stops.Broken rule) made = record { outcome = made.0; source = made.1; keeper = unused before.keeper; folder = refl }
+made_stop b gives before source' stops.SourceFault made = record { used = refl; source = made; keeper = unused before.keeper; folder = refl }
 made_stop b gives before source' stops.FolderFault made = absurd made
-made_stop b gives before source' stops.OutOfMemory made = untouched made refl
+made_stop b gives before source' stops.KeeperFault made = absurd made
+made_stop b gives before source' stops.OutOfMemory made = untouched made (unused before.keeper) refl
 
 -- the same, by the result that a `?` hands on
-pub made_stops : (b : BurnLine) (gives : Image → Outcome) (before : World) (source' : SourceView) (stop : Stop) (r : Ending) → IsErr r → IsErrAnd r (λ s. s ≡ stop) → Makes (IsOutcome (burn b) before) gives before.source (Err stop) source' → Ends (IsOutcome (burn b) before) before r (world source' before.folder)
+pub made_stops : (b : BurnLine) (gives : Image → Outcome) (before : World) (source' : SourceView) (stop : Stop) (r : Ending) → IsErr r → IsErrAnd r (λ s. s ≡ stop) → Makes (BurnOutcome b before.source.files) gives before.source (Err stop) source' → BurnEnds b before r (world source' before.keeper before.folder)
 made_stops b gives before source' stop (Ok line) is same made = absurd same
 made_stops b gives before source' stop (Err s) is same made =
-    subst (λ (t : Stop). Ends (IsOutcome (burn b) before) before (Err t) (world source' before.folder)) (sym same) (made_stop b gives before source' stop made)
+    subst (λ (t : Stop). BurnEnds b before (Err t) (world source' before.keeper before.folder)) (sym same) (made_stop b gives before source' stop made)
 
 -- ---- a word that names a path, or none
 
@@ -260,18 +270,20 @@ path_answer None path same = cc
 path_answer (Some p) path same = cc
 
 -- a word named no path
-path_stop : (b : BurnLine) (before : World) (stop : Stop) → NamesPaths b (Err stop) → Ends (IsOutcome (burn b) before) before (Err stop) before
+path_stop : (b : BurnLine) (before : World) (stop : Stop) → NamesPaths b (Err stop) → BurnEnds b before (Err stop) before
 path_stop b before stops.WordsRefused named = absurd named
 path_stop b before (stops.Broken rule) named = record {
-  outcome = subst (λ (r : Rule). IsOutcome (burn b) before (refused r)) (sym named.1) (no_path_outcome b before before.source.files named.0 refl);
+  outcome = subst (λ (r : Rule). BurnOutcome b before.source.files (refused r)) (sym named.1) (no_path_outcome b before.source.files named.0);
   source = sym (same_kind before.source path_refused rule (sym named.1) refl);
+  keeper = unused before.keeper;
   folder = refl;
 }
 path_stop b before stops.SourceFault named = absurd named
 path_stop b before stops.FolderFault named = absurd named
-path_stop b before stops.OutOfMemory named = untouched refl refl
+path_stop b before stops.KeeperFault named = absurd named
+path_stop b before stops.OutOfMemory named = untouched refl (unused before.keeper) refl
 
-pub path_stops : (b : BurnLine) (before : World) (stop : Stop) (r : Ending) → IsErr r → IsErrAnd r (λ s. s ≡ stop) → NamesPaths b (Err stop) → Ends (IsOutcome (burn b) before) before r before
+pub path_stops : (b : BurnLine) (before : World) (stop : Stop) (r : Ending) → IsErr r → IsErrAnd r (λ s. s ≡ stop) → NamesPaths b (Err stop) → BurnEnds b before r before
 path_stops b before stop (Ok line) is same named = absurd same
 path_stops b before stop (Err s) is same named =
-    subst (λ (t : Stop). Ends (IsOutcome (burn b) before) before (Err t) before) (sym same) (path_stop b before stop named)
+    subst (λ (t : Stop). BurnEnds b before (Err t) before) (sym same) (path_stop b before stop named)

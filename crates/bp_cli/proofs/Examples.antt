@@ -1,5 +1,5 @@
 -- Worked examples of the definitions in specs/, each run by the check.
-use Rattle.std.proofs.Common.{ℕ, ◌≡◌, Bool, true, false, List, [], ◌∷◌, Some, None, Ok, Err, refl}
+use Rattle.std.proofs.Common.{ℕ, ◌≡◌, Bool, true, false, List, [], ◌∷◌, ◌++◌, Some, None, Ok, Err, refl}
 use Rattle.std.specs.Prelude.{codes}
 use Rattle.std.specs.Fmt.{digits}
 use Rattle.std.specs.Str.{chars}
@@ -15,8 +15,12 @@ use Rattle.bp_cli.specs.declared.stops.Stop.TheVariants as stops
 use Rattle.bp_cli.specs.Words.{number_of, is_bad_word}
 use Rattle.bp_core.specs.declared.rectangle.Rect.{Rect}
 use Rattle.bp_cli.specs.Burn.{BurnLine, PathAnswers, burn_page, burn_read, burn_gives, paths_of}
-use Rattle.bp_cli.specs.Commands.{burn, command_of}
-use Rattle.bp_cli.specs.Endings.{done, status_of, text_of}
+use Rattle.hex.proofs.OnLiterals.{hex_on_literals}
+use Rattle.bp_core.specs.declared.kept.Row.{Row}
+use Rattle.bp_matter.specs.Fields.{word}
+use Rattle.bp_cli.specs.Init.{digest_of, init_gives}
+use Rattle.bp_cli.specs.Commands.{burn, init, command_of}
+use Rattle.bp_cli.specs.Endings.{done, refused, status_of, text_of}
 use Rattle.bp_cli.specs.Runs.{all_statuses}
 use Rattle.bp_cli.specs.declared.burn.TheConstants.{FILE_LIMIT}
 use Rattle.bp_cli.specs.declared.statuses.TheConstants.{OUT_FAULT}
@@ -76,6 +80,47 @@ burn_alone = refl
 no_words : command_of [] ≡ None
 no_words = refl
 
+-- ---- init
+
+-- the SHA-256 of `abc`, of FIPS 180-4
+abc : List ℕ
+abc = codes "ba7816bf8f01cfea414140de5dae2223b00361a396177a9cb410ff61f20015ad"
+
+abc_bytes : List ℕ
+abc_bytes =
+    186 ∷ 120 ∷ 22 ∷ 191 ∷ 143 ∷ 1 ∷ 207 ∷ 234 ∷ 65 ∷ 65 ∷ 64 ∷ 222 ∷ 93 ∷ 174 ∷ 34 ∷ 35
+    ∷ 176 ∷ 3 ∷ 97 ∷ 163 ∷ 150 ∷ 23 ∷ 122 ∷ 156 ∷ 180 ∷ 16 ∷ 255 ∷ 97 ∷ 242 ∷ 0 ∷ 21 ∷ 173 ∷ []
+
+init_line : command_of (codes "init" ∷ abc ∷ []) ≡ Some (init abc_bytes)
+unfolding abc abc_bytes hex_on_literals
+init_line = refl
+
+init_alone : command_of (codes "init" ∷ []) ≡ None
+init_alone = refl
+
+init_more : command_of (codes "init" ∷ abc ∷ codes "x" ∷ []) ≡ None
+unfolding abc
+init_more = refl
+
+high_hex : digest_of (codes "BA7816bf8f01cfea414140de5dae2223b00361a396177a9cb410ff61f20015ad") ≡ None
+high_hex = refl
+
+short_hex : digest_of (codes "ba7816bf8f01cfea414140de5dae2223b00361a396177a9cb410ff61f20015") ≡ None
+unfolding hex_on_literals
+short_hex = refl
+
+-- the kept row of staff 1: version, lead, the digest, and `lead`
+lead_row : Row
+lead_row =
+    record { kind = 1; k1 = 1; k2 = 0; body = 1 ∷ 2 ∷ (abc_bytes ++ (4 ∷ 0 ∷ 0 ∷ 0 ∷ codes "lead")) }
+
+matter_made : init_gives abc_bytes [] ≡ done (codes "matter made\n") [] (Some (lead_row ∷ []))
+unfolding abc_bytes lead_row word lib.Utf8.encode
+matter_made = refl
+
+matter_there : init_gives abc_bytes (lead_row ∷ []) ≡ refused (bare_rule kinds.MatterThere)
+matter_there = refl
+
 -- ---- the file, or the first broken rule
 
 -- a page of 8 by 1 pixels at 200 to the inch, all of one colour
@@ -132,7 +177,7 @@ paths_kept : paths_of (record (box 0 0 8 1) { from = codes "./p/a.tif" }) ≡ So
 unfolding box
 paths_kept = refl
 
-told : burn_gives Plain (codes "b.tif") (Ok (page true)) ≡ done (codes "burned 187\n") (file (codes "b.tif") (tiff_of Plain (page true)) ∷ [])
+told : burn_gives Plain (codes "b.tif") (Ok (page true)) ≡ done (codes "burned 187\n") (file (codes "b.tif") (tiff_of Plain (page true)) ∷ []) None
 unfolding page digits
 told = refl
 
@@ -145,10 +190,13 @@ outside_line = refl
 fault_line : (text_of (Err stops.SourceFault) ≡ codes "source fault\n") × (status_of (Err stops.SourceFault) ≡ 3)
 fault_line = (refl, refl)
 
+keeper_line : (text_of (Err stops.KeeperFault) ≡ codes "keeper fault\n") × (status_of (Err stops.KeeperFault) ≡ 5)
+keeper_line = (refl, refl)
+
 -- ---- the numbers of the program
 
-seven_statuses : all_statuses ≡ 0 ∷ 1 ∷ 2 ∷ 3 ∷ 4 ∷ 6 ∷ 7 ∷ []
-seven_statuses = refl
+eight_statuses : all_statuses ≡ 0 ∷ 1 ∷ 2 ∷ 3 ∷ 4 ∷ 5 ∷ 6 ∷ 7 ∷ []
+eight_statuses = refl
 
 done_status : status_of (Ok []) ≡ 0
 done_status = refl

@@ -2,6 +2,8 @@ mod ArgumentLemmas
 mod AlikeLemmas
 mod BurnLemmas
 mod Examples
+mod InitLemmas
+mod OperandLemmas
 mod PrintingLemmas
 mod RunLemmas
 mod StatusLemmas

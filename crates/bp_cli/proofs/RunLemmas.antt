@@ -1,21 +1,21 @@
 -- Lemmas of a run: every promise, from how its work ended and what was printed. No command is
 -- named.
 use Rattle.std.proofs.Common.{ℕ, ◌≡◌, Bool, true, false, List, [], ◌∷◌, Option, Some, None, Ok, Err, refl, sym, ap, subst, ◌∙◌, arith, inl, inr, ◌⊎◌}
-use Rattle.std.specs.Prelude.{IfSome}
+use Rattle.std.specs.Prelude.{IsTrue}
+use Rattle.bp_core.specs.declared.kept.Row.{Row}
 use Rattle.bp_core.specs.declared.rules.Rule.{Rule}
 use Rattle.bp_outside.specs.Counts.{Rose}
-use Rattle.bp_outside.specs.Source.{FileMap, SourceView}
+use Rattle.bp_outside.specs.Source.{SourceView}
 use Rattle.bp_outside.specs.Folder.{FolderView, PutsPart, nothing, prefix, with_file}
 use Rattle.bp_outside.specs.Out.{OutView, with_written}
 use Rattle.bp_outside.specs.declared.files.FileRow.{FileRow}
-use Rattle.bp_cli.specs.declared.stops.Stop.{Stop}
 use Rattle.bp_cli.specs.declared.stops.Stop.TheVariants as stops
 use Rattle.bp_cli.specs.Endings as outcomes
 use Rattle.bp_cli.specs.Endings.{Outcome, Ending, World, status_of, text_of, refused_line, failed_folder, with_files, AddsPart}
-use Rattle.bp_cli.specs.Commands.{CommandLine, Matter, IsOutcome, ComesTo, AlikeFor, Works}
+use Rattle.bp_cli.specs.Commands.{CommandLine, Matter, uses_of, IsOutcome, ComesTo, AlikeFor, Works}
 use Rattle.bp_cli.specs.Printing.{Prints, whole, cut, lacking, instead}
-use Rattle.bp_cli.specs.Runs.{Outside, Asks, Completes, SourceFailed, FolderFailed, NoneFailed, Ended, RanShort, WasCut, Gives, IsAmong, outcome_status, Runs}
-use Rattle.bp_cli.proofs.StatusLemmas.{rose_at, whole_of, out_rose, out_sure, among_three, among_two, status_known, is_done, is_words_refused, is_broken, is_source_fault, is_folder_fault, lacking_part, cut_part}
+use Rattle.bp_cli.specs.Runs.{Outside, Tells, Asks, Completes, SourceFailed, FolderFailed, KeeperFailed, InputsServed, NoneFailed, uses_by, AreSure, Ended, RanShort, WasCut, Gives, IsAmong, outcome_status, Runs}
+use Rattle.bp_cli.proofs.StatusLemmas.{rose_at, whole_of, out_rose, out_sure, among_three, among_two, status_known, is_done, is_words_refused, is_broken, is_source_fault, is_folder_fault, is_keeper_fault, lacking_part, cut_part}
 
 -- ---- what an ending says
 
@@ -46,29 +46,59 @@ words_none : (command : Option CommandLine) (before after : World) → Works com
 words_none None before after worked = refl
 words_none (Some c) before after worked = absurd worked
 
-none_refused : (command : Option CommandLine) (before after : World) (e : Ending) → command ≡ None → Works command before e after → e ≡ Err stops.WordsRefused
-none_refused None before after e is worked = worked.0
-none_refused (Some c) before after e is worked = cc
+abbrev Refused : Ending → Type 0
+Refused e = (e ≡ Err stops.WordsRefused) ⊎ (e ≡ Err stops.OutOfMemory)
 
-not_words : (s : Stop) → let e : Ending = Err s in e ≡ Err stops.WordsRefused → s ≡ stops.WordsRefused
-not_words s same = cc
+none_ending : (command : Option CommandLine) (before after : World) (e : Ending) → command ≡ None → Works command before e after → (status_of e ≡ 1) ⊎ (status_of e ≡ 6)
+none_ending None before after e is worked =
+    elim worked.stop [ inl refused ↦ inl (ap status_of refused) | inr lacks ↦ inr (ap status_of lacks) ]
+none_ending (Some c) before after e is worked = cc
+
+not_source : let e : Ending = Err stops.SourceFault in Refused e → ⊥
+not_source (inl same) = let s : 3 ≡ 1 = ap status_of same in omega (arith, s)
+not_source (inr same) = let s : 3 ≡ 6 = ap status_of same in omega (arith, s)
+
+not_folder : let e : Ending = Err stops.FolderFault in Refused e → ⊥
+not_folder (inl same) = let s : 4 ≡ 1 = ap status_of same in omega (arith, s)
+not_folder (inr same) = let s : 4 ≡ 6 = ap status_of same in omega (arith, s)
+
+not_keeper : let e : Ending = Err stops.KeeperFault in Refused e → ⊥
+not_keeper (inl same) = let s : 5 ≡ 1 = ap status_of same in omega (arith, s)
+not_keeper (inr same) = let s : 5 ≡ 6 = ap status_of same in omega (arith, s)
 
 source_rose : (command : Option CommandLine) (before after : World) → Works command before (Err stops.SourceFault) after → Rose before.source.faults after.source.faults
-source_rose None before after worked = let same = not_words stops.SourceFault worked.0 in cc
+source_rose None before after worked = absurd (not_source worked.stop)
 source_rose (Some c) before after worked = rose_at before.source.faults after.source.faults (ap (λ (s : SourceView). s.faults) worked.source)
 
 source_sure : (command : Option CommandLine) (before after : World) → Works command before (Err stops.SourceFault) after → after.source.sure ≡ before.source.sure
-source_sure None before after worked = let same = not_words stops.SourceFault worked.0 in cc
+source_sure None before after worked = absurd (not_source worked.stop)
 source_sure (Some c) before after worked = ap (λ (s : SourceView). s.sure) worked.source
 
 folder_rose : (command : Option CommandLine) (before after : World) → Works command before (Err stops.FolderFault) after → Rose before.folder.faults after.folder.faults
-folder_rose None before after worked = let same = not_words stops.FolderFault worked.0 in cc
+folder_rose None before after worked = absurd (not_folder worked.stop)
 folder_rose (Some c) before after worked =
     rose_at before.folder.faults after.folder.faults (adds-faults (failed_folder before.folder) after.folder worked.files worked.folder)
 
 folder_sure : (command : Option CommandLine) (before after : World) → Works command before (Err stops.FolderFault) after → after.folder.sure ≡ before.folder.sure
-folder_sure None before after worked = let same = not_words stops.FolderFault worked.0 in cc
+folder_sure None before after worked = absurd (not_folder worked.stop)
 folder_sure (Some c) before after worked = adds-sure (failed_folder before.folder) after.folder worked.files worked.folder
+
+keeper_rose : (command : Option CommandLine) (before after : World) → Works command before (Err stops.KeeperFault) after → Rose before.keeper.faults after.keeper.faults
+keeper_rose None before after worked = absurd (not_keeper worked.stop)
+keeper_rose (Some c) before after worked = rose_at before.keeper.faults after.keeper.faults worked.keeper.faults
+
+keeper_sure : (command : Option CommandLine) (before after : World) → Works command before (Err stops.KeeperFault) after → after.keeper.sure ≡ before.keeper.sure
+keeper_sure None before after worked = absurd (not_keeper worked.stop)
+keeper_sure (Some c) before after worked = worked.keeper.sure
+
+-- an input that failed is used
+source_used : (command : Option CommandLine) (before after : World) → Works command before (Err stops.SourceFault) after → IsTrue (uses_by command).files
+source_used None before after worked = absurd (not_source worked.stop)
+source_used (Some c) before after worked = worked.used
+
+keeper_used : (command : Option CommandLine) (before after : World) → Works command before (Err stops.KeeperFault) after → IsTrue (uses_by command).rows
+keeper_used None before after worked = absurd (not_keeper worked.stop)
+keeper_used (Some c) before after worked = worked.used
 
 -- what bp_tiff says of files makes one outcome of each command and matter
 abbrev pub OneOutcome : Type 0
@@ -79,46 +109,61 @@ abbrev pub SomeOutcome : Type 0
 SomeOutcome = (c : CommandLine) (matter : Matter) → (o : Outcome) × ComesTo c matter o
 
 -- the outcome over a told matter
-told_outcome : (c : CommandLine) (before : World) (outcome : Outcome) (matter : Matter) → before.source.files ≡ Some matter.files → IsOutcome c before outcome → ComesTo c matter outcome
-told_outcome c before outcome matter told is =
-    let P : Option FileMap → Type 0 = λ o. IfSome o (λ t. t ≡ is.matter.files) in
-    let same : matter.files ≡ is.matter.files = subst P told is.told in
-    subst (λ (files : FileMap). ComesTo c (record { files = files }) outcome) (sym same) is.comes
+abbrev pub ToldOutcome : Type 0
+ToldOutcome = (c : CommandLine) (before : World) (matter : Matter) (outcome : Outcome)
+    → Tells (uses_of c).files before.source.files matter.files → Tells (uses_of c).rows before.keeper.rows matter.rows
+    → IsOutcome c before outcome → ComesTo c matter outcome
 
-not_both : (line : List ℕ) (rows : List FileRow) (rule : Rule) → outcomes.done line rows ≡ outcomes.refused rule → ⊥
-not_both line rows rule same = cc
+not_both : (line : List ℕ) (files : List FileRow) (rows : Option (List Row)) (rule : Rule) → outcomes.done line files rows ≡ outcomes.refused rule → ⊥
+not_both line files rows rule same = cc
 
--- where a rule is met over a told matter, and the source didn't fail, the work ends by a rule or
--- for want of memory
-met_ending : OneOutcome → (c : CommandLine) (before after : World) (matter : Matter) (rule : Rule) (e : Ending) → before.source.files ≡ Some matter.files → ComesTo c matter (outcomes.refused rule) → (Rose before.source.faults after.source.faults → ⊥) → Works (Some c) before e after → (status_of e ≡ 2) ⊎ (status_of e ≡ 6)
-met_ending one c before after matter rule (Ok line) told met calm worked =
-    absurd (not_both line worked.files rule (one c matter _ _ (told_outcome c before (outcomes.done line worked.files) matter told worked.outcome) met))
-met_ending one c before after matter rule (Err stops.WordsRefused) told met calm worked = absurd worked
-met_ending one c before after matter rule (Err (stops.Broken r)) told met calm worked = inl refl
-met_ending one c before after matter rule (Err stops.SourceFault) told met calm worked = absurd (calm (source_rose (Some c) before after worked))
-met_ending one c before after matter rule (Err stops.FolderFault) told met calm worked =
-    absurd (not_both worked.line worked.files rule (one c matter _ _ (told_outcome c before (outcomes.done worked.line worked.files) matter told worked.outcome) met))
-met_ending one c before after matter rule (Err stops.OutOfMemory) told met calm worked = inr refl
+-- no input that the command uses failed between two moments
+abbrev Served : CommandLine → World → World → Type 0
+Served c before after =
+    (IsTrue (uses_of c).files → Rose before.source.faults after.source.faults → ⊥)
+    × (IsTrue (uses_of c).rows → Rose before.keeper.faults after.keeper.faults → ⊥)
 
--- where nothing failed, the work ends as the outcome says, or for want of memory
-full_ending : OneOutcome → (c : CommandLine) (before after : World) (matter : Matter) (outcome : Outcome) (e : Ending) → before.source.files ≡ Some matter.files → ComesTo c matter outcome → (Rose before.source.faults after.source.faults → ⊥) → (Rose before.folder.faults after.folder.faults → ⊥) → Works (Some c) before e after → (status_of e ≡ outcome_status outcome) ⊎ (status_of e ≡ 6)
-full_ending one c before after matter outcome (Ok line) told comes calm quiet worked =
-    inl (ap outcome_status (one c matter _ _ (told_outcome c before (outcomes.done line worked.files) matter told worked.outcome) comes))
-full_ending one c before after matter outcome (Err stops.WordsRefused) told comes calm quiet worked = absurd worked
-full_ending one c before after matter outcome (Err (stops.Broken r)) told comes calm quiet worked =
-    inl (ap outcome_status (one c matter _ _ (told_outcome c before (outcomes.refused r) matter told worked.outcome) comes))
-full_ending one c before after matter outcome (Err stops.SourceFault) told comes calm quiet worked = absurd (calm (source_rose (Some c) before after worked))
-full_ending one c before after matter outcome (Err stops.FolderFault) told comes calm quiet worked = absurd (quiet (folder_rose (Some c) before after worked))
-full_ending one c before after matter outcome (Err stops.OutOfMemory) told comes calm quiet worked = inr refl
+-- what the words ask, the command being one
+module _ (one : OneOutcome) (told : ToldOutcome) (c : CommandLine) (before after : World) (matter : Matter) (files : Tells (uses_of c).files before.source.files matter.files) (rows : Tells (uses_of c).rows before.keeper.rows matter.rows) where
+  -- the outcome of the work is the one of the matter
+  same_outcome : (o outcome : Outcome) → ComesTo c matter outcome → IsOutcome c before o → o ≡ outcome
+  same_outcome o outcome comes is = one c matter o outcome (told c before matter o files rows is) comes
+
+  -- where a rule is met and the inputs didn't fail, the work ends by a rule or for want of memory
+  met_ending : (rule : Rule) (e : Ending) → ComesTo c matter (outcomes.refused rule) → Served c before after → Works (Some c) before e after → (status_of e ≡ 2) ⊎ (status_of e ≡ 6)
+  met_ending rule (Ok line) met served worked =
+      absurd (not_both line worked.files worked.rows rule (same_outcome _ _ met worked.outcome))
+  met_ending rule (Err stops.WordsRefused) met served worked = absurd worked
+  met_ending rule (Err (stops.Broken r)) met served worked = inl refl
+  met_ending rule (Err stops.SourceFault) met served worked = absurd (served.0 worked.used (source_rose (Some c) before after worked))
+  met_ending rule (Err stops.KeeperFault) met served worked = absurd (served.1 worked.used (keeper_rose (Some c) before after worked))
+  met_ending rule (Err stops.FolderFault) met served worked =
+      absurd (not_both worked.line worked.files worked.rows rule (same_outcome _ _ met worked.outcome))
+  met_ending rule (Err stops.OutOfMemory) met served worked = inr refl
+
+  -- where nothing failed, the work ends as the outcome says, or for want of memory
+  full_ending : (outcome : Outcome) (e : Ending) → ComesTo c matter outcome → Served c before after → (Rose before.folder.faults after.folder.faults → ⊥) → Works (Some c) before e after → (status_of e ≡ outcome_status outcome) ⊎ (status_of e ≡ 6)
+  full_ending outcome (Ok line) comes served quiet worked = inl (ap outcome_status (same_outcome _ _ comes worked.outcome))
+  full_ending outcome (Err stops.WordsRefused) comes served quiet worked = absurd worked
+  full_ending outcome (Err (stops.Broken r)) comes served quiet worked = inl (ap outcome_status (same_outcome _ _ comes worked.outcome))
+  full_ending outcome (Err stops.SourceFault) comes served quiet worked = absurd (served.0 worked.used (source_rose (Some c) before after worked))
+  full_ending outcome (Err stops.KeeperFault) comes served quiet worked = absurd (served.1 worked.used (keeper_rose (Some c) before after worked))
+  full_ending outcome (Err stops.FolderFault) comes served quiet worked = absurd (quiet (folder_rose (Some c) before after worked))
+  full_ending outcome (Err stops.OutOfMemory) comes served quiet worked = inr refl
 
 -- what came out of a command that ended by its outcome
-done_gives : OneOutcome → (c : CommandLine) (before after : Outside) (matter : Matter) (outcome : Outcome) (line : List ℕ) → before.world.source.files ≡ Some matter.files → ComesTo c matter outcome → Works (Some c) before.world (Ok line) after.world → after.out ≡ with_written before.out line → Gives outcome before after
-done_gives one c before after matter outcome line told comes worked written =
-    subst (λ (o : Outcome). Gives o before after) (one c matter _ _ (told_outcome c before.world (outcomes.done line worked.files) matter told worked.outcome) comes) (worked.folder, written)
+module _ (one : OneOutcome) (told : ToldOutcome) (c : CommandLine) (before after : Outside) (matter : Matter) (outcome : Outcome) (files : Tells (uses_of c).files before.world.source.files matter.files) (rows : Tells (uses_of c).rows before.world.keeper.rows matter.rows) (comes : ComesTo c matter outcome) where
+  done_gives : (line : List ℕ) → Works (Some c) before.world (Ok line) after.world → after.out ≡ with_written before.out line → Gives outcome before after
+  done_gives line worked written =
+      subst (λ (o : Outcome). Gives o before after)
+      (same_outcome one told c before.world after.world matter files rows (outcomes.done line worked.files worked.rows) outcome comes worked.outcome)
+      (record { files = worked.folder; rows = worked.keeper.rows; printed = written })
 
-refused_gives : OneOutcome → (c : CommandLine) (before after : Outside) (matter : Matter) (outcome : Outcome) (rule : Rule) → before.world.source.files ≡ Some matter.files → ComesTo c matter outcome → Works (Some c) before.world (Err (stops.Broken rule)) after.world → after.out ≡ with_written before.out (refused_line rule) → Gives outcome before after
-refused_gives one c before after matter outcome rule told comes worked written =
-    subst (λ (o : Outcome). Gives o before after) (one c matter _ _ (told_outcome c before.world (outcomes.refused rule) matter told worked.outcome) comes) (worked.folder, written)
+  refused_gives : (rule : Rule) → Works (Some c) before.world (Err (stops.Broken rule)) after.world → after.out ≡ with_written before.out (refused_line rule) → Gives outcome before after
+  refused_gives rule worked written =
+      subst (λ (o : Outcome). Gives o before after)
+      (same_outcome one told c before.world after.world matter files rows (outcomes.refused rule) outcome comes worked.outcome)
+      (record { files = worked.folder; rows = worked.keeper.rows; printed = written })
 
 -- ---- objects that can't fail
 
@@ -132,19 +177,32 @@ never_rose before now was is same sure law rose = no_rise before now (law (same 
 abbrev sure_statuses : List ℕ
 sure_statuses = 0 ∷ 1 ∷ 2 ∷ 6 ∷ []
 
-sure_ending : (command : Option CommandLine) (before after : World) (e : Ending) → before.source.sure ≡ true → before.folder.sure ≡ true → (after.source.sure ≡ true → after.source.faults ≡ 0) → (after.folder.sure ≡ true → after.folder.faults ≡ 0) → Works command before e after → IsAmong (status_of e) sure_statuses
-sure_ending command before after (Ok line) source_is folder_is source_law folder_law worked = refl
-sure_ending command before after (Err stops.WordsRefused) source_is folder_is source_law folder_law worked = refl
-sure_ending command before after (Err (stops.Broken r)) source_is folder_is source_law folder_law worked = refl
-sure_ending command before after (Err stops.SourceFault) source_is folder_is source_law folder_law worked =
+-- the objects of a world are sure, as far as they are used, and those that are sure have no faults
+record SureWorld (command : Option CommandLine) (before after : World) : Type 0 where
+  source_is : IsTrue (uses_by command).files → before.source.sure ≡ true
+  keeper_is : IsTrue (uses_by command).rows → before.keeper.sure ≡ true
+  folder_is : before.folder.sure ≡ true
+  source_law : after.source.sure ≡ true → after.source.faults ≡ 0
+  keeper_law : after.keeper.sure ≡ true → after.keeper.faults ≡ 0
+  folder_law : after.folder.sure ≡ true → after.folder.faults ≡ 0
+
+sure_ending : (command : Option CommandLine) (before after : World) (e : Ending) → SureWorld command before after → Works command before e after → IsAmong (status_of e) sure_statuses
+sure_ending command before after (Ok line) sure worked = refl
+sure_ending command before after (Err stops.WordsRefused) sure worked = refl
+sure_ending command before after (Err (stops.Broken r)) sure worked = refl
+sure_ending command before after (Err stops.SourceFault) sure worked =
     absurd
-    (never_rose before.source.faults after.source.faults before.source.sure after.source.sure (source_sure command before after worked) source_is source_law
-    (source_rose command before after worked))
-sure_ending command before after (Err stops.FolderFault) source_is folder_is source_law folder_law worked =
+    (never_rose before.source.faults after.source.faults before.source.sure after.source.sure (source_sure command before after worked)
+    (sure.source_is (source_used command before after worked)) sure.source_law (source_rose command before after worked))
+sure_ending command before after (Err stops.KeeperFault) sure worked =
     absurd
-    (never_rose before.folder.faults after.folder.faults before.folder.sure after.folder.sure (folder_sure command before after worked) folder_is folder_law
+    (never_rose before.keeper.faults after.keeper.faults before.keeper.sure after.keeper.sure (keeper_sure command before after worked)
+    (sure.keeper_is (keeper_used command before after worked)) sure.keeper_law (keeper_rose command before after worked))
+sure_ending command before after (Err stops.FolderFault) sure worked =
+    absurd
+    (never_rose before.folder.faults after.folder.faults before.folder.sure after.folder.sure (folder_sure command before after worked) sure.folder_is sure.folder_law
     (folder_rose command before after worked))
-sure_ending command before after (Err stops.OutOfMemory) source_is folder_is source_law folder_law worked = refl
+sure_ending command before after (Err stops.OutOfMemory) sure worked = refl
 
 sure_printing : (text : List ℕ) (wanted : ℕ) (out after : OutView) (status : ℕ) → out.sure ≡ true → (after.sure ≡ true → after.faults ≡ 0) → IsAmong wanted sure_statuses → Prints text wanted out after status → IsAmong status sure_statuses
 sure_printing text wanted out after status out_is out_law among (whole is written) = subst (λ (n : ℕ). IsAmong n sure_statuses) (sym is) among
@@ -201,6 +259,13 @@ module _ (command : Option CommandLine) (before after : Outside) (status : ℕ) 
       let has : Ended command before after (Err stops.FolderFault) = subst Has (is_folder_fault e w.0) w.1 in
       (folder_rose command before.world after.world has.worked, has)
 
+  run_keeper_fault : status ≡ 5 → KeeperFailed before after × Ended command before after (Err stops.KeeperFault)
+  unfolding Has
+  run_keeper_fault at =
+      let w = ended 5 (λ z. omega (arith, z)) (λ z. omega (arith, z)) at in
+      let has : Ended command before after (Err stops.KeeperFault) = subst Has (is_keeper_fault e w.0) w.1 in
+      (keeper_rose command before.world after.world has.worked, has)
+
   run_lacking : status ≡ 6 → RanShort command before after
   run_lacking at = record { ending = e; worked = worked; printed = lacking_part e before.out after.out status printed at }
 
@@ -211,54 +276,80 @@ module _ (command : Option CommandLine) (before after : Outside) (status : ℕ) 
 
   run_no_command : command ≡ None → IsAmong status (1 ∷ 6 ∷ 7 ∷ [])
   run_no_command is =
-      among_three (text_of e) (status_of e) before.out after.out status 1 (inl (ap status_of (none_refused command before.world after.world e is worked))) printed
+      among_three (text_of e) (status_of e) before.out after.out status 1 (none_ending command before.world after.world e is worked) printed
 
   -- the work of a command that was asked
   worked_for : (c : CommandLine) → command ≡ Some c → Works (Some c) before.world e after.world
   worked_for c is = subst (λ (o : Option CommandLine). Works o before.world e after.world) is worked
 
-  run_rule_met : OneOutcome → (c : CommandLine) (matter : Matter) (rule : Rule) → Asks command before c matter → ComesTo c matter (outcomes.refused rule) → ¬ SourceFailed before after → IsAmong status (2 ∷ 6 ∷ 7 ∷ [])
-  run_rule_met one c matter rule asks met calm =
+  run_rule_met : OneOutcome → ToldOutcome → (c : CommandLine) (matter : Matter) (rule : Rule) → Asks command before c matter → ComesTo c matter (outcomes.refused rule) → InputsServed (uses_of c) before after → IsAmong status (2 ∷ 6 ∷ 7 ∷ [])
+  run_rule_met one told c matter rule asks met served =
       among_three (text_of e) (status_of e) before.out after.out status 2
-      (met_ending one c before.world after.world matter rule e asks.told met calm (worked_for c asks.words)) printed
+      (met_ending one told c before.world after.world matter asks.files asks.rows rule e met (served.source, served.keeper) (worked_for c asks.words)) printed
 
-  run_complete : OneOutcome → SomeOutcome → (c : CommandLine) (matter : Matter) → Asks command before c matter → NoneFailed before after → Completes c matter status
-  run_complete one some c matter asks none =
+  run_complete : OneOutcome → SomeOutcome → ToldOutcome → (c : CommandLine) (matter : Matter) → Asks command before c matter → NoneFailed (uses_of c) before after → Completes c matter status
+  run_complete one some told c matter asks none =
       let there = some c matter in
       record {
         outcome = there.0;
         comes = there.1;
         among = among_two (text_of e) (status_of e) before.out after.out status (outcome_status there.0) none.out
-            (full_ending one c before.world after.world matter there.0 e asks.told there.1 none.source none.folder (worked_for c asks.words)) printed;
+            (full_ending one told c before.world after.world matter asks.files asks.rows there.0 e there.1 (none.inputs.source, none.inputs.keeper) none.folder (worked_for c asks.words)) printed;
       }
 
-  run_gives : OneOutcome → (c : CommandLine) (matter : Matter) (outcome : Outcome) → Asks command before c matter → ComesTo c matter outcome → (status ≡ 0) ⊎ (status ≡ 2) → Gives outcome before after
-  run_gives one c matter outcome asks comes (inl done) =
+  run_gives : OneOutcome → ToldOutcome → (c : CommandLine) (matter : Matter) (outcome : Outcome) → Asks command before c matter → ComesTo c matter outcome → (status ≡ 0) ⊎ (status ≡ 2) → Gives outcome before after
+  run_gives one told c matter outcome asks comes (inl done) =
       let d = run_done done in
-      done_gives one c before after matter outcome d.0 asks.told comes (subst (λ (o : Option CommandLine). Works o before.world (Ok d.0) after.world) asks.words d.1.worked) d.1.printed
-  run_gives one c matter outcome asks comes (inr refused) =
+      done_gives one told c before after matter outcome asks.files asks.rows comes d.0 (subst (λ (o : Option CommandLine). Works o before.world (Ok d.0) after.world) asks.words d.1.worked) d.1.printed
+  run_gives one told c matter outcome asks comes (inr refused) =
       let r = run_refused refused in
-      refused_gives one c before after matter outcome r.0 asks.told comes (subst (λ (o : Option CommandLine). Works o before.world (Err (stops.Broken r.0)) after.world) asks.words r.1.worked) r.1.printed
+      refused_gives one told c before after matter outcome asks.files asks.rows comes r.0 (subst (λ (o : Option CommandLine). Works o before.world (Err (stops.Broken r.0)) after.world) asks.words r.1.worked) r.1.printed
 
 -- where two matters differ only in what the command withholds, the outcome of one is that of the
 -- other
 abbrev pub TwoMatters : Type 0
 TwoMatters = (c : CommandLine) (matter matter' : Matter) (outcome : Outcome) → AlikeFor c matter matter' → ComesTo c matter' outcome → ComesTo c matter outcome
 
-pub runs : OneOutcome → SomeOutcome → TwoMatters → (command : Option CommandLine) (before after : Outside) (status : ℕ) (e : Ending) → Works command before.world e after.world → Prints (text_of e) (status_of e) before.out after.out status → (after.world.source.sure ≡ true → after.world.source.faults ≡ 0) → (after.world.folder.sure ≡ true → after.world.folder.faults ≡ 0) → (after.out.sure ≡ true → after.out.faults ≡ 0) → Runs command before after status
-runs one some two command before after status e worked printed source_law folder_law out_law = record {
+-- what the commands say of their outcomes
+pub record Outcomes : Type 0 where
+  pub one : OneOutcome
+  pub some : SomeOutcome
+  pub told : ToldOutcome
+  pub two : TwoMatters
+
+-- objects that are sure afterwards have no faults
+pub record SureLaws (after : Outside) : Type 0 where
+  pub source : after.world.source.sure ≡ true → after.world.source.faults ≡ 0
+  pub keeper : after.world.keeper.sure ≡ true → after.world.keeper.faults ≡ 0
+  pub folder : after.world.folder.sure ≡ true → after.world.folder.faults ≡ 0
+  pub out : after.out.sure ≡ true → after.out.faults ≡ 0
+
+sure_world : (command : Option CommandLine) (before after : Outside) → AreSure (uses_by command) before → SureLaws after → SureWorld command before.world after.world
+sure_world command before after sure laws = record {
+  source_is = sure.source;
+  keeper_is = sure.keeper;
+  folder_is = sure.folder;
+  source_law = laws.source;
+  keeper_law = laws.keeper;
+  folder_law = laws.folder;
+}
+
+pub runs : Outcomes → (command : Option CommandLine) (before after : Outside) (status : ℕ) (e : Ending) → Works command before.world e after.world → Prints (text_of e) (status_of e) before.out after.out status → SureLaws after → Runs command before after status
+runs all command before after status e worked printed laws = record {
   known = status_known (text_of e) e before.out after.out status printed;
   done = run_done command before after status e worked printed;
   words_refused = run_words_refused command before after status e worked printed;
   refused = run_refused command before after status e worked printed;
   source_fault = run_source_fault command before after status e worked printed;
   folder_fault = run_folder_fault command before after status e worked printed;
+  keeper_fault = run_keeper_fault command before after status e worked printed;
   lacking = run_lacking command before after status e worked printed;
   cut = run_cut command before after status e worked printed;
   no_command = run_no_command command before after status e worked printed;
-  rule_met = run_rule_met command before after status e worked printed one;
-  complete = run_complete command before after status e worked printed one some;
-  unfailing = λ sure. sure_printing (text_of e) (status_of e) before.out after.out status sure.out out_law (sure_ending command before.world after.world e sure.source sure.folder source_law folder_law worked) printed;
+  rule_met = run_rule_met command before after status e worked printed all.one all.told;
+  complete = run_complete command before after status e worked printed all.one all.some all.told;
+  unfailing = λ sure. sure_printing (text_of e) (status_of e) before.out after.out status sure.out laws.out
+      (sure_ending command before.world after.world e (sure_world command before after sure laws) worked) printed;
   alike = λ c matter matter' outcome asks alike comes ended_so.
-      run_gives command before after status e worked printed one c matter outcome asks (two c matter matter' outcome alike comes) ended_so;
+      run_gives command before after status e worked printed all.one all.told c matter outcome asks (all.two c matter matter' outcome alike comes) ended_so;
 }

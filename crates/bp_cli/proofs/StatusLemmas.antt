@@ -58,6 +58,7 @@ ending_known (Err stops.WordsRefused) = refl
 ending_known (Err (stops.Broken rule)) = refl
 ending_known (Err stops.SourceFault) = refl
 ending_known (Err stops.FolderFault) = refl
+ending_known (Err stops.KeeperFault) = refl
 ending_known (Err stops.OutOfMemory) = refl
 
 pub status_known : (text : List ℕ) (e : Ending) (out after : OutView) (status : ℕ) → Prints text (status_of e) out after status → IsAmong status all_statuses
@@ -74,6 +75,7 @@ is_done (Err stops.WordsRefused) at = absurd (omega arith)
 is_done (Err (stops.Broken rule)) at = absurd (omega arith)
 is_done (Err stops.SourceFault) at = absurd (omega arith)
 is_done (Err stops.FolderFault) at = absurd (omega arith)
+is_done (Err stops.KeeperFault) at = absurd (omega arith)
 is_done (Err stops.OutOfMemory) at = absurd (omega arith)
 
 pub is_words_refused : (e : Ending) → status_of e ≡ 1 → e ≡ Err stops.WordsRefused
@@ -82,6 +84,7 @@ is_words_refused (Err stops.WordsRefused) at = refl
 is_words_refused (Err (stops.Broken rule)) at = absurd (omega arith)
 is_words_refused (Err stops.SourceFault) at = absurd (omega arith)
 is_words_refused (Err stops.FolderFault) at = absurd (omega arith)
+is_words_refused (Err stops.KeeperFault) at = absurd (omega arith)
 is_words_refused (Err stops.OutOfMemory) at = absurd (omega arith)
 
 pub is_broken : (e : Ending) → status_of e ≡ 2 → (rule : Rule) × (e ≡ Err (stops.Broken rule))
@@ -90,6 +93,7 @@ is_broken (Err stops.WordsRefused) at = absurd (omega arith)
 is_broken (Err (stops.Broken rule)) at = (rule, refl)
 is_broken (Err stops.SourceFault) at = absurd (omega arith)
 is_broken (Err stops.FolderFault) at = absurd (omega arith)
+is_broken (Err stops.KeeperFault) at = absurd (omega arith)
 is_broken (Err stops.OutOfMemory) at = absurd (omega arith)
 
 pub is_source_fault : (e : Ending) → status_of e ≡ 3 → e ≡ Err stops.SourceFault
@@ -98,6 +102,7 @@ is_source_fault (Err stops.WordsRefused) at = absurd (omega arith)
 is_source_fault (Err (stops.Broken rule)) at = absurd (omega arith)
 is_source_fault (Err stops.SourceFault) at = refl
 is_source_fault (Err stops.FolderFault) at = absurd (omega arith)
+is_source_fault (Err stops.KeeperFault) at = absurd (omega arith)
 is_source_fault (Err stops.OutOfMemory) at = absurd (omega arith)
 
 pub is_folder_fault : (e : Ending) → status_of e ≡ 4 → e ≡ Err stops.FolderFault
@@ -106,7 +111,17 @@ is_folder_fault (Err stops.WordsRefused) at = absurd (omega arith)
 is_folder_fault (Err (stops.Broken rule)) at = absurd (omega arith)
 is_folder_fault (Err stops.SourceFault) at = absurd (omega arith)
 is_folder_fault (Err stops.FolderFault) at = refl
+is_folder_fault (Err stops.KeeperFault) at = absurd (omega arith)
 is_folder_fault (Err stops.OutOfMemory) at = absurd (omega arith)
+
+pub is_keeper_fault : (e : Ending) → status_of e ≡ 5 → e ≡ Err stops.KeeperFault
+is_keeper_fault (Ok line) at = absurd (omega arith)
+is_keeper_fault (Err stops.WordsRefused) at = absurd (omega arith)
+is_keeper_fault (Err (stops.Broken rule)) at = absurd (omega arith)
+is_keeper_fault (Err stops.SourceFault) at = absurd (omega arith)
+is_keeper_fault (Err stops.FolderFault) at = absurd (omega arith)
+is_keeper_fault (Err stops.KeeperFault) at = refl
+is_keeper_fault (Err stops.OutOfMemory) at = absurd (omega arith)
 
 pub never_seven : (e : Ending) → status_of e ≡ 7 → ⊥
 never_seven (Ok line) at = omega arith
@@ -114,6 +129,7 @@ never_seven (Err stops.WordsRefused) at = omega arith
 never_seven (Err (stops.Broken rule)) at = omega arith
 never_seven (Err stops.SourceFault) at = omega arith
 never_seven (Err stops.FolderFault) at = omega arith
+never_seven (Err stops.KeeperFault) at = omega arith
 never_seven (Err stops.OutOfMemory) at = omega arith
 
 -- what was printed where memory ran out

@@ -1,20 +1,17 @@
 -- Lemmas of words: from the words of a command line to its numbers and to its command.
-use Rattle.std.proofs.Common.{ℕ, ◌≡◌, ◌<◌, ◌≤◌, ◌^◌, true, false, not, ◌&&◌, ◌||◌, eqb, nat_le, List, [], ◌∷◌, length, Some, None, Result, get_or, refl, sym, ap, ◌∙◌, arith, String}
+use Rattle.std.proofs.Common.{ℕ, ◌≡◌, ◌<◌, ◌≤◌, ◌^◌, true, false, not, ◌&&◌, ◌||◌, eqb, nat_le, List, [], ◌∷◌, length, drop, Option, Some, None, Result, get_or, refl, sym, ap, ◌∙◌, arith, String}
 use Rattle.std.specs.declared.alloc.Global.{Global}
 use Rattle.std.specs.List.{list_any, list_all}
 use Rattle.std.specs.Char.{is_ascii_digit}
 use Rattle.std.specs.Result.{result_ok}
-use Rattle.std.specs.Prelude.{codes}
-use Rattle.std.specs.Option.{option_map}
-use Rattle.std.specs.Str.{all_ascii_digits, bytes_eq}
+use Rattle.std.specs.Str.{all_ascii_digits}
 use Rattle.std.proofs.lemmas.List.{nil_from_length}
 use Rattle.std.specs.Str.Parse.{digits_value, ParsesUnsigned}
 use Rattle.std.specs.String.{string_bytes}
 use Rattle.std.proofs.lemmas.Bool.{and_parts, leb-true, cond-true, cond-false, eqb-true}
 use Rattle.std.proofs.lemmas.Str.Parse.{IsNumeralModel, numerals_by_value, tells_all_ascii_digits, parse_gives, digits_value_short}
 use Rattle.bp_cli.specs.Words.{is_number, number_of, word_bytes, word_of, is_bad_word}
-use Rattle.bp_cli.specs.Burn.{BurnLine, burn_of}
-use Rattle.bp_cli.specs.Commands.{burn, named_command, command_of}
+use Rattle.bp_cli.specs.Commands.{CommandLine, named_command, command_of}
 
 pub any_of_bytes : (words : List (String Global)) → list_any (λ word. is_bad_word (string_bytes word)) words ≡ list_any is_bad_word (word_bytes words)
 any_of_bytes [] = refl
@@ -50,8 +47,18 @@ no_words words empty = ap (λ ws. command_of (word_bytes ws)) (sym (nil_from_len
 pub bad_words : (words : List (List ℕ)) → list_any is_bad_word words ≡ true → None ≡ command_of words
 bad_words words bad = sym (cond-true (list_any is_bad_word words) None (named_command words) bad)
 
-pub good_burn : (words : List (List ℕ)) (b : BurnLine) → list_any is_bad_word words ≡ false → bytes_eq (word_of words 0) (codes "burn") ≡ true → Some b ≡ burn_of words → Some (burn b) ≡ command_of words
-good_burn words b good named operands =
-    ap (option_map burn) operands
-    ∙ sym (cond-true (bytes_eq (word_of words 0) (codes "burn")) (option_map burn (burn_of words)) None named)
-    ∙ sym (cond-false (list_any is_bad_word words) None (named_command words) good)
+-- the first word
+pub some_words : (words : List (String Global)) → eqb (length words) 0 ≡ false → 0 < length words
+some_words [] none = cc
+some_words (word ∷ words) none = omega arith
+
+pub first_word : (words : List (String Global)) (word : String Global) → 0 < length words → word ≡ get_or words 0 word → string_bytes word ≡ word_of (word_bytes words) 0
+first_word [] word some is = absurd (omega arith)
+first_word (first ∷ words) word some is = ap string_bytes is
+
+-- it names a command, which is made of the others
+pub good_words : (words : List (String Global)) (operands : List (List ℕ)) (name : List ℕ) (command : Option CommandLine) → 0 < length words → list_any is_bad_word (word_bytes words) ≡ false → name ≡ word_of (word_bytes words) 0 → operands ≡ drop 1 (word_bytes words) → command ≡ named_command (name ∷ operands) → command ≡ command_of (word_bytes words)
+good_words [] operands name command some good named rest is = absurd (omega arith)
+good_words (word ∷ words) operands name command some good named rest is =
+    is ∙ ap (λ n. named_command (n ∷ operands)) named ∙ ap (λ ws. named_command (string_bytes word ∷ ws)) rest
+    ∙ sym (cond-false (list_any is_bad_word (word_bytes (word ∷ words))) None (named_command (word_bytes (word ∷ words))) good)

@@ -1,5 +1,5 @@
 -- The command `burn`: its line, what it comes to, and what it withholds.
-use Rattle.std.specs.Prelude.{ℕ, ◌≡◌, ◌≤◌, ◌==◌, ◌||◌, Bool, true, false, not, nat_lt, Option, Some, None, Result, Ok, Err, List, [], ◌∷◌, ◌++◌, length, codes, if◌then◌else◌}
+use Rattle.std.specs.Prelude.{ℕ, ◌≡◌, ◌≤◌, ◌==◌, ◌||◌, Bool, true, false, not, nat_lt, Option, Some, None, Result, Ok, Err, List, [], ◌∷◌, ◌++◌, length, codes, IfSome, if◌then◌else◌}
 use Rattle.std.specs.Fmt.{decimal}
 use Rattle.std.specs.FinMap as map
 use Rattle.std.specs.Str.{bytes_eq, chars}
@@ -50,19 +50,20 @@ box_of left top width height = do
   Some (record { left = l; top = t; width = w; height = h })
 
 abbrev pub line_with : List (List ℕ) → Rect → Form → BurnLine
-line_with words area form =
-    let from = chars (word_of words 1) in
-    let to = chars (word_of words 6) in
+line_with operands area form =
+    let from = chars (word_of operands 0) in
+    let to = chars (word_of operands 5) in
     record { from = from; area = area; to = to; form = form }
 
--- the eight words
+-- the seven operands
 abbrev pub burn_of : List (List ℕ) → Option BurnLine
-burn_of words =
-    if length words == 8
+burn_of operands =
+    if length operands == 7
     then (do
-      area ← box_of (word_of words 2) (word_of words 3) (word_of words 4) (word_of words 5)
-      form ← form_of (word_of words 7)
-      Some (line_with words area form))
+      area ← box_of (word_of operands 1) (word_of operands 2) (word_of operands 3)
+          (word_of operands 4)
+      form ← form_of (word_of operands 6)
+      Some (line_with operands area form))
     else None
 
 -- ---- its paths
@@ -118,7 +119,7 @@ abbrev pub counted_line : ℕ → List ℕ
 counted_line count = line_of (codes "burned " ++ decimal count)
 
 abbrev pub burn_done : List ℕ → List ℕ → Outcome
-burn_done to bytes = done (counted_line (length bytes)) (file to bytes ∷ [])
+burn_done to bytes = done (counted_line (length bytes)) (file to bytes ∷ []) None
 
 -- the file of the burned page is put, or the rule is met
 abbrev pub burn_gives : Form → List ℕ → Result Image Rule → Outcome
@@ -138,6 +139,12 @@ BurnComes b files outcome = elim (paths_of b) [
   | None ↦ outcome ≡ refused path_refused
   | Some paths ↦ BurnsAt b paths files outcome
 ]
+
+-- the outcome over the files that a source tells, or over some where it tells none
+pub record BurnOutcome (b : BurnLine) (told : Option FileMap) (outcome : Outcome) : Type 0 where
+  pub files : FileMap
+  pub same : IfSome told (λ there. there ≡ files)
+  pub comes : BurnComes b files outcome
 
 -- ---- what it withholds: what the box covers
 

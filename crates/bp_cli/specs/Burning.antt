@@ -26,6 +26,7 @@ NamesPath named (Err stops.OutOfMemory) = Unit {0}
 NamesPath named (Err stops.WordsRefused) = ⊥
 NamesPath named (Err stops.SourceFault) = ⊥
 NamesPath named (Err stops.FolderFault) = ⊥
+NamesPath named (Err stops.KeeperFault) = ⊥
 
 -- the paths of the line, or the rule where a word names none
 abbrev pub NamesPaths : BurnLine → Result Paths Stop → Type 0
@@ -35,6 +36,7 @@ NamesPaths b (Err stops.OutOfMemory) = Unit {0}
 NamesPaths b (Err stops.WordsRefused) = ⊥
 NamesPaths b (Err stops.SourceFault) = ⊥
 NamesPaths b (Err stops.FolderFault) = ⊥
+NamesPaths b (Err stops.KeeperFault) = ⊥
 
 -- the outcome in which this page's file is put
 abbrev pub page_put : Form → List ℕ → Image → Outcome
@@ -59,6 +61,7 @@ BurnsBytes area bytes (Err stops.OutOfMemory) = Unit {0}
 BurnsBytes area bytes (Err stops.WordsRefused) = ⊥
 BurnsBytes area bytes (Err stops.SourceFault) = ⊥
 BurnsBytes area bytes (Err stops.FolderFault) = ⊥
+BurnsBytes area bytes (Err stops.KeeperFault) = ⊥
 
 -- a file was put at a path and its line made, or a part of it was put, with the fault counted
 abbrev pub PutsPage : List ℕ → List ℕ → FolderView → Ending → FolderView → Type 0
@@ -69,3 +72,4 @@ PutsPage to bytes folder (Err stops.OutOfMemory) after = PutsPart folder to byte
 PutsPage to bytes folder (Err (stops.Broken rule)) after = ⊥
 PutsPage to bytes folder (Err stops.WordsRefused) after = ⊥
 PutsPage to bytes folder (Err stops.SourceFault) after = ⊥
+PutsPage to bytes folder (Err stops.KeeperFault) after = ⊥

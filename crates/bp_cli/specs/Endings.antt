@@ -1,5 +1,6 @@
 -- How the work of a command ends, and what each ending leaves outside.
-use Rattle.std.specs.Prelude.{ℕ, ◌≡◌, false, Result, Ok, Err, List, [], ◌∷◌, ◌++◌, codes}
+use Rattle.std.specs.Prelude.{ℕ, ◌≡◌, Bool, false, Option, Some, None, Result, Ok, Err, List, [], ◌∷◌, ◌++◌, codes, IfSome, IsTrue}
+use Rattle.bp_core.specs.declared.kept.Row.{Row}
 use Rattle.bp_core.specs.declared.rules.Rule.{Rule}
 use Rattle.bp_core.specs.declared.rules.RuleKind.{RuleKind}
 use Rattle.bp_core.specs.declared.rules.RuleKind.TheVariants as kinds
@@ -9,13 +10,15 @@ use Rattle.bp_outside.specs.Counts.{risen}
 use Rattle.bp_outside.specs.Source.{SourceView}
 use Rattle.bp_outside.specs.Folder.{FolderView, with_file, PutsPart}
 use Rattle.bp_outside.specs.declared.files.FileRow.{FileRow}
+use Rattle.bp_keep.specs.Keeper.{KeeperView, SameRows}
 use Rattle.bp_cli.specs.declared.stops.Stop.{Stop}
 use Rattle.bp_cli.specs.declared.stops.Stop.TheVariants as stops
-use Rattle.bp_cli.specs.declared.statuses.TheConstants.{DONE, WORDS_REFUSED, RULE_BROKEN, SOURCE_FAULT, FOLDER_FAULT, OUT_OF_MEMORY}
+use Rattle.bp_cli.specs.declared.statuses.TheConstants.{DONE, WORDS_REFUSED, RULE_BROKEN, SOURCE_FAULT, FOLDER_FAULT, KEEPER_FAULT, OUT_OF_MEMORY}
 
--- what a command comes to: a line to print and files to add, or the first rule that it breaks
+-- what a command comes to: a line to print, files to add, and the kept rows that then stand, where
+-- it keeps any; or the first rule that it breaks
 pub data Outcome : Type 0 where
-  done : List ℕ → List FileRow → Outcome
+  done : List ℕ → List FileRow → Option (List Row) → Outcome
   refused : Rule → Outcome
 
 -- how its work ends: with the line, or where it stopped
@@ -28,6 +31,7 @@ status_of (Err stops.WordsRefused) = WORDS_REFUSED
 status_of (Err (stops.Broken rule)) = RULE_BROKEN
 status_of (Err stops.SourceFault) = SOURCE_FAULT
 status_of (Err stops.FolderFault) = FOLDER_FAULT
+status_of (Err stops.KeeperFault) = KEEPER_FAULT
 status_of (Err stops.OutOfMemory) = OUT_OF_MEMORY
 
 abbrev pub line_of : List ℕ → List ℕ
@@ -46,6 +50,7 @@ text_of (Err stops.WordsRefused) = line_of (codes "words refused")
 text_of (Err (stops.Broken rule)) = refused_line rule
 text_of (Err stops.SourceFault) = line_of (codes "source fault")
 text_of (Err stops.FolderFault) = line_of (codes "folder fault")
+text_of (Err stops.KeeperFault) = line_of (codes "keeper fault")
 text_of (Err stops.OutOfMemory) = memory_line
 
 -- ---- what is left
@@ -53,10 +58,16 @@ text_of (Err stops.OutOfMemory) = memory_line
 -- what is known of all that the work of a command touches
 pub record World : Type 0 where
   pub source : SourceView
+  pub keeper : KeeperView
   pub folder : FolderView
 
-abbrev pub world : SourceView → FolderView → World
-world source folder = record { source = source; folder = folder }
+abbrev pub world : SourceView → KeeperView → FolderView → World
+world source keeper folder = record { source = source; keeper = keeper; folder = folder }
+
+-- which inputs a command uses: the files of the source, and the rows of the keeper
+pub record Uses : Type 0 where
+  pub files : Bool
+  pub rows : Bool
 
 -- the source after a rule was met: the count rose that the rule comes from
 abbrev pub after_kind : SourceView → RuleKind → SourceView
@@ -70,6 +81,18 @@ failed_source source = record source { faults = risen source.faults }
 
 abbrev pub failed_folder : FolderView → FolderView
 failed_folder folder = record folder { faults = risen folder.faults }
+
+-- where rows are told afterwards, they are these; or, of no rows, those from before
+abbrev pub RowsLeft : Option (List Row) → Option (List Row) → Option (List Row) → Type 0
+RowsLeft None before after = SameRows before after
+RowsLeft (Some rows) before after = IfSome after (λ now. now ≡ rows)
+
+-- the keeper has these rows, or its own, and so many faults
+pub record KeeperLeft (kept : Option (List Row)) (count : ℕ) (before after : KeeperView)
+    : Type 0 where
+  pub rows : RowsLeft kept before.rows after.rows
+  pub faults : after.faults ≡ count
+  pub sure : after.sure ≡ before.sure
 
 -- the folder with these files at its end
 abbrev pub with_files : FolderView → List FileRow → FolderView
@@ -86,12 +109,14 @@ pub record AddsPart (folder : FolderView) (files : List FileRow) (after : Folder
 
 -- Below, Comes says which outcomes the command may come to.
 
--- the files of the outcome were added, and nothing else changed
+-- the rows and the files of the outcome stand, and nothing else changed
 pub record AddsFiles (Comes : Outcome → Type 0) (before : World) (line : List ℕ)
     (after : World) : Type 0 where
   pub files : List FileRow
-  pub outcome : Comes (done line files)
+  pub rows : Option (List Row)
+  pub outcome : Comes (done line files rows)
   pub source : after.source ≡ before.source
+  pub keeper : KeeperLeft rows before.keeper.faults before.keeper after.keeper
   pub folder : after.folder ≡ with_files before.folder files
 
 -- the outcome was this rule, and nothing changed but the count that the rule comes from
@@ -99,28 +124,50 @@ pub record MeetsRule (Comes : Outcome → Type 0) (before : World) (rule : Rule)
     (after : World) : Type 0 where
   pub outcome : Comes (refused rule)
   pub source : after.source ≡ after_kind before.source rule.kind
+  pub keeper : KeeperLeft None before.keeper.faults before.keeper after.keeper
   pub folder : after.folder ≡ before.folder
 
--- the source failed, and nothing else changed
-pub record FailsToRead (before after : World) : Type 0 where
+-- the source, which the command uses, failed, and nothing else changed
+pub record FailsToRead (uses : Uses) (before after : World) : Type 0 where
+  pub used : IsTrue uses.files
   pub source : after.source ≡ failed_source before.source
+  pub keeper : KeeperLeft None before.keeper.faults before.keeper after.keeper
   pub folder : after.folder ≡ before.folder
 
--- the folder failed, and has a part of the files of the outcome
+-- the keeper, which the command uses, failed, and nothing else changed
+pub record FailsToKeep (uses : Uses) (before after : World) : Type 0 where
+  pub used : IsTrue uses.rows
+  pub source : after.source ≡ before.source
+  pub keeper : KeeperLeft None (risen before.keeper.faults) before.keeper after.keeper
+  pub folder : after.folder ≡ before.folder
+
+-- the folder failed, and has a part of the files of the outcome, whose rows stand
 pub record FailsToAdd (Comes : Outcome → Type 0) (before after : World) : Type 0 where
   pub line : List ℕ
   pub files : List FileRow
-  pub outcome : Comes (done line files)
+  pub rows : Option (List Row)
+  pub outcome : Comes (done line files rows)
   pub source : after.source ≡ before.source
+  pub keeper : KeeperLeft rows before.keeper.faults before.keeper after.keeper
   pub folder : AddsPart (failed_folder before.folder) files after.folder
 
--- memory ran out before the first file was begun, or while files were added
+-- memory ran out before rows were kept and a file was begun; or between the two; or while files
+-- were added
 pub data LacksMemory (Comes : Outcome → Type 0) (before after : World) : Type 0 where
-  untouched : after.source ≡ before.source → after.folder ≡ before.folder
+  untouched : after.source ≡ before.source
+      → KeeperLeft None before.keeper.faults before.keeper after.keeper
+      → after.folder ≡ before.folder
       → LacksMemory Comes before after
-  partly : (line : List ℕ) (files : List FileRow)
-      → Comes (done line files)
+  kept : (line : List ℕ) (files : List FileRow) (rows : Option (List Row))
+      → Comes (done line files rows)
       → after.source ≡ before.source
+      → KeeperLeft rows before.keeper.faults before.keeper after.keeper
+      → after.folder ≡ before.folder
+      → LacksMemory Comes before after
+  partly : (line : List ℕ) (files : List FileRow) (rows : Option (List Row))
+      → Comes (done line files rows)
+      → after.source ≡ before.source
+      → KeeperLeft rows before.keeper.faults before.keeper after.keeper
       → AddsPart before.folder files after.folder
       → LacksMemory Comes before after
 
@@ -135,12 +182,14 @@ Makes Comes gives source (Err stops.SourceFault) source' = source' ≡ failed_so
 Makes Comes gives source (Err stops.OutOfMemory) source' = source' ≡ source
 Makes Comes gives source (Err stops.WordsRefused) source' = ⊥
 Makes Comes gives source (Err stops.FolderFault) source' = ⊥
+Makes Comes gives source (Err stops.KeeperFault) source' = ⊥
 
 -- what the work of a command leaves, by how it ended
-abbrev pub Ends : (Outcome → Type 0) → World → Ending → World → Type 0
-Ends Comes before (Ok line) after = AddsFiles Comes before line after
-Ends Comes before (Err stops.WordsRefused) after = ⊥
-Ends Comes before (Err (stops.Broken rule)) after = MeetsRule Comes before rule after
-Ends Comes before (Err stops.SourceFault) after = FailsToRead before after
-Ends Comes before (Err stops.FolderFault) after = FailsToAdd Comes before after
-Ends Comes before (Err stops.OutOfMemory) after = LacksMemory Comes before after
+abbrev pub Ends : Uses → (Outcome → Type 0) → World → Ending → World → Type 0
+Ends uses Comes before (Ok line) after = AddsFiles Comes before line after
+Ends uses Comes before (Err stops.WordsRefused) after = ⊥
+Ends uses Comes before (Err (stops.Broken rule)) after = MeetsRule Comes before rule after
+Ends uses Comes before (Err stops.SourceFault) after = FailsToRead uses before after
+Ends uses Comes before (Err stops.FolderFault) after = FailsToAdd Comes before after
+Ends uses Comes before (Err stops.KeeperFault) after = FailsToKeep uses before after
+Ends uses Comes before (Err stops.OutOfMemory) after = LacksMemory Comes before after

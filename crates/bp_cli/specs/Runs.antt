@@ -1,16 +1,19 @@
 -- What a run of the program promises.
-use Rattle.std.specs.Prelude.{ℕ, ◌≡◌, ◌≢◌, ◌==◌, ◌⊎◌, true, Option, Some, None, Ok, Err, List, [], ◌∷◌, IsTrue}
+use Rattle.std.specs.Prelude.{ℕ, ◌≡◌, ◌≢◌, ◌==◌, ◌⊎◌, Bool, true, false, Option, Some, None, Ok, Err, List, [], ◌∷◌, IsTrue}
 use Rattle.std.specs.List.{list_any}
+use Rattle.bp_core.specs.declared.kept.Row.{Row}
 use Rattle.bp_core.specs.declared.rules.Rule.{Rule}
 use Rattle.bp_outside.specs.Counts.{Rose}
 use Rattle.bp_outside.specs.Source.{SourceView}
 use Rattle.bp_outside.specs.Folder.{FolderView}
 use Rattle.bp_outside.specs.Out.{OutView, with_written, WritesPrefix}
+use Rattle.bp_outside.specs.declared.files.FileRow.{FileRow}
+use Rattle.bp_keep.specs.Keeper.{KeeperView}
 use Rattle.bp_cli.specs.declared.stops.Stop.TheVariants as stops
-use Rattle.bp_cli.specs.declared.statuses.TheConstants.{DONE, WORDS_REFUSED, RULE_BROKEN, SOURCE_FAULT, FOLDER_FAULT, OUT_OF_MEMORY, OUT_FAULT}
+use Rattle.bp_cli.specs.declared.statuses.TheConstants.{DONE, WORDS_REFUSED, RULE_BROKEN, SOURCE_FAULT, FOLDER_FAULT, KEEPER_FAULT, OUT_OF_MEMORY, OUT_FAULT}
 use Rattle.bp_cli.specs.Endings as outcomes
-use Rattle.bp_cli.specs.Endings.{Outcome, Ending, World, world, with_files, status_of, text_of, memory_line, refused_line}
-use Rattle.bp_cli.specs.Commands.{CommandLine, Matter, ComesTo, AlikeFor, Works}
+use Rattle.bp_cli.specs.Endings.{Outcome, Ending, World, world, Uses, RowsLeft, with_files, status_of, text_of, memory_line, refused_line}
+use Rattle.bp_cli.specs.Commands.{CommandLine, Matter, uses_of, ComesTo, AlikeFor, Works}
 use Rattle.bp_cli.specs.Printing.{failed_out, MayLackItsLine, WritesPart}
 
 -- what is known of all that is outside, at a moment
@@ -18,20 +21,29 @@ pub record Outside : Type 0 where
   pub world : World
   pub out : OutView
 
-abbrev pub outside : SourceView → FolderView → OutView → Outside
-outside s f o = record { world = world s f; out = o }
+abbrev pub outside : SourceView → KeeperView → FolderView → OutView → Outside
+outside s k f o = record { world = world s k f; out = o }
 
 -- ---- words of the promises
 
--- the words are this command, and the outside tells this matter
+-- what is used is told, and is this; of what isn't used nothing is asked
+abbrev pub Tells : {T : Type 0} → Bool → Option T → T → Type 0
+Tells true told value = told ≡ Some value
+Tells false told value = Unit {0}
+
+-- the words are this command, and the outside tells this matter, as far as the command uses it
 pub record Asks (command : Option CommandLine) (before : Outside)
     (c : CommandLine) (matter : Matter) : Type 0 where
   pub words : command ≡ Some c
-  pub told : before.world.source.files ≡ Some matter.files
+  pub files : Tells (uses_of c).files before.world.source.files matter.files
+  pub rows : Tells (uses_of c).rows before.world.keeper.rows matter.rows
 
 -- a count of faults rose in between
 abbrev pub SourceFailed : Outside → Outside → Type 0
 SourceFailed before after = Rose before.world.source.faults after.world.source.faults
+
+abbrev pub KeeperFailed : Outside → Outside → Type 0
+KeeperFailed before after = Rose before.world.keeper.faults after.world.keeper.faults
 
 abbrev pub FolderFailed : Outside → Outside → Type 0
 FolderFailed before after = Rose before.world.folder.faults after.world.folder.faults
@@ -39,14 +51,26 @@ FolderFailed before after = Rose before.world.folder.faults after.world.folder.f
 abbrev pub OutFailed : Outside → Outside → Type 0
 OutFailed before after = Rose before.out.faults after.out.faults
 
-pub record NoneFailed (before after : Outside) : Type 0 where
-  pub source : ¬ SourceFailed before after
+-- no input that is used failed
+pub record InputsServed (uses : Uses) (before after : Outside) : Type 0 where
+  pub source : IsTrue uses.files → ¬ SourceFailed before after
+  pub keeper : IsTrue uses.rows → ¬ KeeperFailed before after
+
+-- and neither the folder nor the out
+pub record NoneFailed (uses : Uses) (before after : Outside) : Type 0 where
+  pub inputs : InputsServed uses before after
   pub folder : ¬ FolderFailed before after
   pub out : ¬ OutFailed before after
 
--- no object can fail
-pub record AreSure (before : Outside) : Type 0 where
-  pub source : before.world.source.sure ≡ true
+-- what the command uses, if the words are one
+abbrev pub uses_by : Option CommandLine → Uses
+uses_by None = record { files = false; rows = false }
+uses_by (Some c) = uses_of c
+
+-- no object that is used can fail
+pub record AreSure (uses : Uses) (before : Outside) : Type 0 where
+  pub source : IsTrue uses.files → before.world.source.sure ≡ true
+  pub keeper : IsTrue uses.rows → before.world.keeper.sure ≡ true
   pub folder : before.world.folder.sure ≡ true
   pub out : before.out.sure ≡ true
 
@@ -77,17 +101,20 @@ pub record WasCut (command : Option CommandLine) (before after : Outside) : Type
   pub failed : OutFailed before after
   pub printed : WritesPrefix (failed_out before.out) (text_of ending) after.out
 
--- folder and out got what the outcome says, and nothing else
+-- the folder got these files, these rows are kept, or those from before, and this text was printed
+pub record Leaves (added : List FileRow) (kept : Option (List Row)) (text : List ℕ)
+    (before after : Outside) : Type 0 where
+  pub files : after.world.folder ≡ with_files before.world.folder added
+  pub rows : RowsLeft kept before.world.keeper.rows after.world.keeper.rows
+  pub printed : after.out ≡ with_written before.out text
+
+-- folder, keeper and out got what the outcome says, and nothing else
 abbrev pub Gives : Outcome → Outside → Outside → Type 0
-Gives (outcomes.done line files) before after =
-    (after.world.folder ≡ with_files before.world.folder files)
-    × (after.out ≡ with_written before.out line)
-Gives (outcomes.refused rule) before after =
-    (after.world.folder ≡ before.world.folder)
-    × (after.out ≡ with_written before.out (refused_line rule))
+Gives (outcomes.done line files rows) before after = Leaves files rows line before after
+Gives (outcomes.refused rule) before after = Leaves [] None (refused_line rule) before after
 
 abbrev pub outcome_status : Outcome → ℕ
-outcome_status (outcomes.done line files) = DONE
+outcome_status (outcomes.done line files rows) = DONE
 outcome_status (outcomes.refused rule) = RULE_BROKEN
 
 abbrev pub IsAmong : ℕ → List ℕ → Type 0
@@ -102,14 +129,14 @@ pub record Completes (c : CommandLine) (matter : Matter) (status : ℕ) : Type 0
 abbrev pub all_statuses : List ℕ
 all_statuses =
     DONE ∷ WORDS_REFUSED ∷ RULE_BROKEN ∷ SOURCE_FAULT ∷ FOLDER_FAULT
-    ∷ OUT_OF_MEMORY ∷ OUT_FAULT ∷ []
+    ∷ KEEPER_FAULT ∷ OUT_OF_MEMORY ∷ OUT_FAULT ∷ []
 
 -- ---- the promises
 
 pub record Runs (command : Option CommandLine) (before after : Outside) (status : ℕ) : Type 0 where
   -- there are no other statuses
   pub known : IsAmong status all_statuses
-  -- ---- what each status says of source, folder and what was printed
+  -- ---- what each status says of source, keeper, folder and what was printed
 
   pub done : status ≡ DONE
       → (line : List ℕ) × Ended command before after (Ok line)
@@ -121,6 +148,8 @@ pub record Runs (command : Option CommandLine) (before after : Outside) (status 
       → SourceFailed before after × Ended command before after (Err stops.SourceFault)
   pub folder_fault : status ≡ FOLDER_FAULT
       → FolderFailed before after × Ended command before after (Err stops.FolderFault)
+  pub keeper_fault : status ≡ KEEPER_FAULT
+      → KeeperFailed before after × Ended command before after (Err stops.KeeperFault)
   pub lacking : status ≡ OUT_OF_MEMORY
       → RanShort command before after
   pub cut : status ≡ OUT_FAULT
@@ -130,20 +159,20 @@ pub record Runs (command : Option CommandLine) (before after : Outside) (status 
   -- words that are no command give 1, but for want of memory and faults of the out
   pub no_command : command ≡ None
       → IsAmong status (WORDS_REFUSED ∷ OUT_OF_MEMORY ∷ OUT_FAULT ∷ [])
-  -- a rule that is met over a told matter gives 2, but for want of memory and faults of source and
-  -- out
+  -- a rule that is met over a told matter gives 2, but for want of memory and faults of what the
+  -- command uses and of the out
   pub rule_met : (c : CommandLine) (matter : Matter) (rule : Rule)
       → Asks command before c matter
       → ComesTo c matter (outcomes.refused rule)
-      → ¬ SourceFailed before after
+      → InputsServed (uses_of c) before after
       → IsAmong status (RULE_BROKEN ∷ OUT_OF_MEMORY ∷ OUT_FAULT ∷ [])
   -- completeness: over a told matter, where nothing failed, the status is that of the outcome, or 6
   pub complete : (c : CommandLine) (matter : Matter)
       → Asks command before c matter
-      → NoneFailed before after
+      → NoneFailed (uses_of c) before after
       → Completes c matter status
   -- objects that can't fail give no fault
-  pub unfailing : AreSure before
+  pub unfailing : AreSure (uses_by command) before
       → IsAmong status (DONE ∷ WORDS_REFUSED ∷ RULE_BROKEN ∷ OUT_OF_MEMORY ∷ [])
   -- ---- two matters
 

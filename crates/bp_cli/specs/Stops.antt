@@ -8,6 +8,8 @@ use Rattle.bp_outside.specs.declared.refusals.ReadRefusal.{ReadRefusal}
 use Rattle.bp_outside.specs.declared.refusals.ReadRefusal.TheVariants as reads
 use Rattle.bp_outside.specs.declared.refusals.FolderRefusal.{FolderRefusal}
 use Rattle.bp_outside.specs.declared.refusals.FolderRefusal.TheVariants as folders
+use Rattle.bp_keep.specs.declared.refusals.KeepRefusal.{KeepRefusal}
+use Rattle.bp_keep.specs.declared.refusals.KeepRefusal.TheVariants as keepers
 use Rattle.bp_cli.specs.declared.stops.Stop.{Stop}
 use Rattle.bp_cli.specs.declared.stops.Stop.TheVariants as stops
 
@@ -18,6 +20,10 @@ StopsFor refusals.OutOfMemory stop = stop ≡ stops.OutOfMemory
 abbrev pub StopsForFolder : FolderRefusal → Stop → Type 0
 StopsForFolder folders.Failed stop = stop ≡ stops.FolderFault
 StopsForFolder folders.OutOfMemory stop = stop ≡ stops.OutOfMemory
+
+abbrev pub StopsForKeeper : KeepRefusal → Stop → Type 0
+StopsForKeeper keepers.Failed stop = stop ≡ stops.KeeperFault
+StopsForKeeper keepers.OutOfMemory stop = stop ≡ stops.OutOfMemory
 
 -- the stop that a refusal of a read becomes
 abbrev pub read_stop : ReadRefusal → Stop

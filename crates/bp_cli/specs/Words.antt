@@ -1,6 +1,7 @@
 -- The words of a command line, without the program's name, each as its bytes.
 use Rattle.std.specs.Prelude.{ℕ, Bool, not, ◌&&◌, ◌||◌, ◌==◌, nat_le, Option, Some, None, List, [], length, map, slice_index, slice_index_or, String, if◌then◌else◌}
 use Rattle.std.specs.declared.alloc.Global.{Global}
+use Rattle.std.specs.Borrow.{Bor}
 use Rattle.std.specs.Option.{option_and_then}
 use Rattle.std.specs.Str.{all_ascii_digits}
 use Rattle.std.specs.Str.Parse.{digits_value}
@@ -11,6 +12,10 @@ use Rattle.bp_cli.specs.declared.words.TheConstants.{MAX_DIGITS}
 -- the words as their bytes
 abbrev pub word_bytes : List (String Global) → List (List ℕ)
 word_bytes words = map string_bytes words
+
+-- words behind references
+abbrev pub words_lent : List (Bor (List ℕ)) → List (List ℕ)
+words_lent words = map (λ word. word.now) words
 
 -- the word at a place, counted from 0
 abbrev pub word_of : List (List ℕ) → ℕ → List ℕ

@@ -3,13 +3,13 @@ ghost use Rattle.std.specs.Prelude.{◌≡◌, Some, IfOk};
 ghost use Rattle.std.specs.Option.{option_map};
 ghost use Rattle.std.specs.Str.{chars};
 ghost use Rattle.bp_core.specs.Paths.{path_in};
-ghost use Rattle.bp_outside.specs.Folder.{FolderView};
+ghost use Rattle.bp_keep.specs.Keeper.{KeeperView};
 ghost use Rattle.bp_tiff.specs.Parts.{file_in};
 ghost use Rattle.bp_tiff.specs.Tiff.{tiff_of};
-ghost use Rattle.bp_cli.specs.Words.{word_bytes};
-ghost use Rattle.bp_cli.specs.Burn.{form_of, box_of, burn_of, burn_seen, paths_of, burn_page, counted_line};
+ghost use Rattle.bp_cli.specs.Words.{words_lent};
+ghost use Rattle.bp_cli.specs.Burn.{form_of, box_of, burn_of, burn_seen, paths_of, burn_page, counted_line, BurnOutcome};
 ghost use Rattle.bp_cli.specs.Burning.{paths_seen, page_put, NamesPath, NamesPaths, BurnsBytes, PutsPage};
-ghost use Rattle.bp_cli.specs.Commands.{burn, IsOutcome};
+ghost use Rattle.bp_cli.specs.Commands.{burn, uses_of, IsOutcome};
 ghost use Rattle.bp_cli.specs.Endings.{world, Ends, Makes};
 ghost use Rattle.bp_cli.specs.Stops.{read_stop};
 
@@ -36,24 +36,24 @@ pub struct Burn<'a> {
 
 // ---- its line
 
-/// What the eight words `burn IN L T W H OUT FORM` ask.
-pub fn burn_in(words: &[String]) -> Option<Burn<'_>>
-    ensures { option_map burn_seen result ≡ burn_of (word_bytes words.now) }
+/// What the seven operands of `burn IN L T W H OUT FORM` ask.
+pub fn burn_in<'a>(operands: &[&'a str]) -> Option<Burn<'a>>
+    ensures { option_map burn_seen result ≡ burn_of (words_lent operands.now) }
 {
-    if words.len() != 8 {
+    if operands.len() != 7 {
         return None;
     }
     let area = box_in(
-        word_at(words, 2),
-        word_at(words, 3),
-        word_at(words, 4),
-        word_at(words, 5),
+        word_at(operands, 1),
+        word_at(operands, 2),
+        word_at(operands, 3),
+        word_at(operands, 4),
     )?;
-    let form = form_in(word_at(words, 7))?;
+    let form = form_in(word_at(operands, 6))?;
     Some(Burn {
-        from: word_at(words, 1),
+        from: word_at(operands, 0),
         area,
-        to: word_at(words, 6),
+        to: word_at(operands, 5),
         form,
     })
 }
@@ -98,9 +98,11 @@ pub fn burn_box<S: Source, F: Folder>(
     source: &mut S,
     folder: &mut F,
 ) -> Result<Bytes, Stop>
-    ensures { let before = world (S.shows source.old) (F.shows folder.old) in
-        let after = world (S.shows source.new) (F.shows folder.new) in
-        Ends (IsOutcome (burn (burn_seen asked.now)) before) before result after }
+    ensures { (keeper : KeeperView)
+        → let line = burn (burn_seen asked.now) in
+        let before = world (S.shows source.old) keeper (F.shows folder.old) in
+        let after = world (S.shows source.new) keeper (F.shows folder.new) in
+        Ends (uses_of line) (IsOutcome line before) before result after }
 {
     let paths = burn_paths(alloc, asked)?;
     let page = burned_page(alloc, asked, &paths, source)?;
@@ -133,12 +135,10 @@ fn burned_page<S: Source>(
     source: &mut S,
 ) -> Result<Page, Stop>
     requires { paths_of (burn_seen asked.now) ≡ Some (paths_seen paths.now) }
-    ensures { (folder : FolderView)
-        → let line = burn_seen asked.now in
-        let before = world (S.shows source.old) folder in
-        let source' = S.shows source.new in
+    ensures { let line = burn_seen asked.now in
+        let before = S.shows source.old in
         let gives = page_put line.form paths.now.to in
-        Makes (IsOutcome (burn line) before) gives before.source result source' }
+        Makes (BurnOutcome line before.files) gives before result (S.shows source.new) }
 {
     match source.read(alloc, paths.from.as_str(), FILE_LIMIT) {
         Ok(file) => burned(alloc, asked.area, file),

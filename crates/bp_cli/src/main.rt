@@ -1,11 +1,13 @@
 //! The program: one command of the production press. It reads files below the current folder,
-//! writes files below its folder `out`, and prints one line. Begin at `run`, whose contract
-//! promises `Runs`.
+//! keeps the rows of a matter, writes files below the folder `out`, and prints one line. Begin at
+//! `run`, whose contract promises `Runs`.
 #![tactic(auto)]
 
 mod arguments;
 mod burn;
 mod commands;
+mod init;
+mod operands;
 mod printing;
 mod run;
 mod statuses;
@@ -14,6 +16,8 @@ mod stops;
 mod tests;
 mod words;
 
+use bp_core::{NumberList, RowList};
+use bp_keep::MemKeeper;
 use bp_outside::{FileFolder, FileSource, StdOut};
 use std::process::ExitCode;
 use std::{env, fs, io};
@@ -23,9 +27,11 @@ fn main(rt: HostRuntime) -> ExitCode {
     let mut source = FileSource::below(&rt, ".");
     let mut folder = FileFolder::below(&rt, "out");
     let mut out = StdOut::of(&rt);
+    let alloc = rt.alloc();
+    let keeper = MemKeeper::over(RowList::new(alloc), NumberList::new(alloc));
     let answer = env::args(&rt);
-    let status = run::run_arguments(rt.alloc(), answer, &mut source, &mut folder, &mut out);
-    ExitCode::from(status)
+    let ended = run::run_arguments(alloc, answer, &mut source, keeper, &mut folder, &mut out);
+    ExitCode::from(ended.status)
 }
 
 // Holds the numbers 0, 1 and 2 where the caller closed a standard stream, so that no file of the

@@ -4,7 +4,8 @@ ghost use Rattle.bp_cli.specs.Endings.{status_of, text_of, refused_line};
 ghost use Rattle.bp_cli.specs.Printing.{MayLackItsLine, Prints};
 
 use crate::statuses::{
-    DONE, FOLDER_FAULT, OUT_FAULT, OUT_OF_MEMORY, RULE_BROKEN, SOURCE_FAULT, WORDS_REFUSED,
+    DONE, FOLDER_FAULT, KEEPER_FAULT, OUT_FAULT, OUT_OF_MEMORY, RULE_BROKEN, SOURCE_FAULT,
+    WORDS_REFUSED,
 };
 use crate::stops::Stop;
 use bp_core::{Bytes, OutOfMemory, Rule};
@@ -31,6 +32,7 @@ fn print_stop<O: Out>(alloc: Global, out: &mut O, stop: Stop) -> u8
         Stop::Broken(rule) => print_rule(alloc, out, &rule),
         Stop::SourceFault => print(alloc, out, b"source fault\n", SOURCE_FAULT),
         Stop::FolderFault => print(alloc, out, b"folder fault\n", FOLDER_FAULT),
+        Stop::KeeperFault => print(alloc, out, b"keeper fault\n", KEEPER_FAULT),
         Stop::OutOfMemory => print_lack(alloc, out),
     }
 }

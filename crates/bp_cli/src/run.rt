@@ -9,68 +9,90 @@ ghost use Rattle.bp_cli.specs.Arguments.{RunsArguments};
 use crate::arguments::words_of;
 use crate::burn::burn_box;
 use crate::commands::{Command, command_in};
+use crate::init::make_matter;
 use crate::printing::finish;
 use crate::stops::Stop;
 use bp_core::Bytes;
+use bp_keep::Keeper;
 use bp_outside::{Folder, Out, Source};
 use bp_tiff::one_answer;
 use std::alloc::Global;
 use std::env::Args;
 use std::io;
 
+/// How a run ended: its status, and the keeper that it was handed.
+#[derive(Drop)]
+pub struct Ended<K> {
+    pub status: u8,
+    pub keeper: K,
+}
+
 /// Carries out the command line that the system gave, the program's name before its words: see
 /// `run`.
-pub fn run_arguments<S: Source, F: Folder, O: Out>(
+pub fn run_arguments<S: Source, K: Keeper, F: Folder, O: Out>(
     alloc: Global,
     answer: io::Result<Args>,
     source: &mut S,
+    keeper: K,
     folder: &mut F,
     out: &mut O,
-) -> u8
-    ensures { let before = outside (S.shows source.old) (F.shows folder.old) (O.shows out.old) in
-        let after = outside (S.shows source.new) (F.shows folder.new) (O.shows out.new) in
-        RunsArguments answer before after result }
+) -> Ended<K>
+    ensures { let before = outside (S.shows source.old) (K.shows keeper) (F.shows folder.old)
+        (O.shows out.old) in
+        let after = outside (S.shows source.new) (K.shows result.keeper) (F.shows folder.new)
+        (O.shows out.new) in
+        RunsArguments answer before after result.status }
 {
     match words_of(alloc, answer) {
-        Ok(words) => run(alloc, words.as_slice(), source, folder, out),
-        Err(stop) => finish(alloc, out, Err(stop)),
+        Ok(words) => run(alloc, words.as_slice(), source, keeper, folder, out),
+        Err(stop) => {
+            let status = finish(alloc, out, Err(stop));
+            Ended { status, keeper }
+        }
     }
 }
 
-/// Carries out the command that the words are a line of: it reads from the source, writes to the
-/// folder and prints one line. The words don't have the program's name. The status: 0 where all was
-/// done, 1 where the words are no command line, 2 where a rule is broken, 3 at a fault of the
-/// source, 4 of the folder, 6 where memory ran out, 7 at a fault of the out.
-pub fn run<S: Source, F: Folder, O: Out>(
+/// Carries out the command that the words are a line of: it reads from the source, loads the rows
+/// of the keeper and commits to it, writes to the folder and prints one line. The words don't have
+/// the program's name. The keeper is handed back. The status: 0 where all was done, 1 where the
+/// words are no command line, 2 where a rule is broken, 3 at a fault of the source, 4 of the
+/// folder, 5 of the keeper, 6 where memory ran out, 7 at a fault of the out.
+pub fn run<S: Source, K: Keeper, F: Folder, O: Out>(
     alloc: Global,
     words: &[String],
     source: &mut S,
+    mut keeper: K,
     folder: &mut F,
     out: &mut O,
-) -> u8
+) -> Ended<K>
     ensures { let command = command_of (word_bytes words.now) in
-        let before = outside (S.shows source.old) (F.shows folder.old) (O.shows out.old) in
-        let after = outside (S.shows source.new) (F.shows folder.new) (O.shows out.new) in
-        Runs command before after result }
+        let before = outside (S.shows source.old) (K.shows keeper) (F.shows folder.old)
+        (O.shows out.old) in
+        let after = outside (S.shows source.new) (K.shows result.keeper) (F.shows folder.new)
+        (O.shows out.new) in
+        Runs command before after result.status }
 {
     one_answer();
-    let ending = work(alloc, words, source, folder);
-    finish(alloc, out, ending)
+    let ending = work(alloc, words, source, &mut keeper, folder);
+    let status = finish(alloc, out, ending);
+    Ended { status, keeper }
 }
 
-fn work<S: Source, F: Folder>(
+fn work<S: Source, K: Keeper, F: Folder>(
     alloc: Global,
     words: &[String],
     source: &mut S,
+    keeper: &mut K,
     folder: &mut F,
 ) -> Result<Bytes, Stop>
     ensures { let command = command_of (word_bytes words.now) in
-        let before = world (S.shows source.old) (F.shows folder.old) in
-        let after = world (S.shows source.new) (F.shows folder.new) in
+        let before = world (S.shows source.old) (K.shows keeper.old) (F.shows folder.old) in
+        let after = world (S.shows source.new) (K.shows keeper.new) (F.shows folder.new) in
         Works command before result after }
 {
-    match command_in(words) {
+    match command_in(alloc, words)? {
         None => Err(Stop::WordsRefused),
         Some(Command::Burn(asked)) => burn_box(alloc, &asked, source, folder),
+        Some(Command::Init(digest)) => make_matter(alloc, digest, keeper),
     }
 }

@@ -1,5 +1,4 @@
-// The statuses that the program ends with. 5, a fault of the keeper, comes with the commands of a
-// matter.
+// The statuses that the program ends with.
 
 /// All was done.
 pub const DONE: u8 = 0;
@@ -15,6 +14,9 @@ pub const SOURCE_FAULT: u8 = 3;
 
 /// The folder failed.
 pub const FOLDER_FAULT: u8 = 4;
+
+/// The keeper failed.
+pub const KEEPER_FAULT: u8 = 5;
 
 /// There was too little memory.
 pub const OUT_OF_MEMORY: u8 = 6;

@@ -1,5 +1,6 @@
 // Where the work of a command stopped.
 use bp_core::{OutOfMemory, Refusal, Rule};
+use bp_keep::KeepRefusal;
 use bp_outside::FolderRefusal;
 use std::alloc::AllocError;
 use std::convert::From;
@@ -15,6 +16,8 @@ pub enum Stop {
     SourceFault,
     /// The folder failed.
     FolderFault,
+    /// The keeper failed.
+    KeeperFault,
     /// There was too little memory.
     OutOfMemory,
 }
@@ -41,6 +44,19 @@ impl From<FolderRefusal> for Stop {
         match refusal {
             FolderRefusal::Failed => Stop::FolderFault,
             FolderRefusal::OutOfMemory => Stop::OutOfMemory,
+        }
+    }
+}
+
+impl From<KeepRefusal> for Stop {
+    ghost use Rattle.bp_cli.specs.Stops.{StopsForKeeper};
+
+    ghost from_gives = { StopsForKeeper };
+
+    fn from(refusal: KeepRefusal) -> Stop {
+        match refusal {
+            KeepRefusal::Failed => Stop::KeeperFault,
+            KeepRefusal::OutOfMemory => Stop::OutOfMemory,
         }
     }
 }

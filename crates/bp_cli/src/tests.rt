@@ -1,6 +1,7 @@
 // Runs of the program over objects in memory.
-use crate::run::{run, run_arguments};
-use bp_core::{Bytes, NumberList, Text};
+use crate::run::{Ended, run, run_arguments};
+use bp_core::{Bytes, NumberList, RowList, Text};
+use bp_keep::{Keeper, MemKeeper};
 use bp_outside::{FileList, FileRow, MemFolder, MemOut, MemSource, paths_differ};
 use std::alloc::{AllocError, Global};
 use std::env::Args;
@@ -124,6 +125,12 @@ struct Seen {
     status: u8,
     folder: MemFolder,
     out: MemOut,
+    keeper: MemKeeper,
+}
+
+// A keeper without rows, whose calls of these numbers fail.
+fn empty_keeper(alloc: Global, failing: &[u64]) -> Result<MemKeeper, AllocError> {
+    Ok(MemKeeper::over(RowList::new(alloc), numbers(alloc, failing)?))
 }
 
 // The words of a line with one space between them; a line of none has none.
@@ -155,8 +162,13 @@ fn source_of(alloc: Global, failing: &[u64]) -> Result<MemSource, Fail> {
     Ok(MemSource::over(files, numbers(alloc, failing)?))
 }
 
-// Runs the words of a line over that source.
+// Runs the words of a line over that source and a keeper without rows.
 fn ran(alloc: Global, line: &str, failing: &Failing<'_>) -> Result<Seen, Fail> {
+    kept(alloc, line, empty_keeper(alloc, &[])?, failing)
+}
+
+// Runs the words of a line over that source and this keeper.
+fn kept(alloc: Global, line: &str, keeper: MemKeeper, failing: &Failing<'_>) -> Result<Seen, Fail> {
     let words = words_of(alloc, line)?;
     let mut source = source_of(alloc, failing.source)?;
     let mut folder = MemFolder::over(FileList::new(alloc), numbers(alloc, failing.folder)?);
@@ -164,11 +176,12 @@ fn ran(alloc: Global, line: &str, failing: &Failing<'_>) -> Result<Seen, Fail> {
         Bytes::from_vec(Vec::new(alloc)),
         numbers(alloc, failing.out)?,
     );
-    let status = run(alloc, &words, &mut source, &mut folder, &mut out);
+    let Ended { status, keeper } = run(alloc, &words, &mut source, keeper, &mut folder, &mut out);
     Ok(Seen {
         status,
         folder,
         out,
+        keeper,
     })
 }
 
@@ -295,8 +308,12 @@ fn a_broken_rule_is_named(rt: HostRuntime) -> Result<(), Fail> {
     Ok(())
 }
 
-const NO_LINES: [&str; 18] = [
+const NO_LINES: [&str; 22] = [
     "",
+    "init",
+    "init ba7816bf8f01cfea414140de5dae2223b00361a396177a9cb410ff61f20015a",
+    "init BA7816bf8f01cfea414140de5dae2223b00361a396177a9cb410ff61f20015ad",
+    "init ba7816bf8f01cfea414140de5dae2223b00361a396177a9cb410ff61f20015ad x",
     "burn",
     "Burn a.tif 0 0 8 1 b.tif plain",
     "burns a.tif 0 0 8 1 b.tif plain",
@@ -379,11 +396,20 @@ fn answered(alloc: Global, answer: io::Result<Args>) -> Result<Seen, Fail> {
     let mut source = source_of(alloc, &[])?;
     let mut folder = MemFolder::over(FileList::new(alloc), numbers(alloc, &[])?);
     let mut out = MemOut::over(Bytes::from_vec(Vec::new(alloc)), numbers(alloc, &[])?);
-    let status = run_arguments(alloc, answer, &mut source, &mut folder, &mut out);
+    let keeper = empty_keeper(alloc, &[])?;
+    let Ended { status, keeper } = run_arguments(
+        alloc,
+        answer,
+        &mut source,
+        keeper,
+        &mut folder,
+        &mut out,
+    );
     Ok(Seen {
         status,
         folder,
         out,
+        keeper,
     })
 }
 
@@ -415,6 +441,53 @@ fn words_that_the_system_does_not_give_are_told_apart(rt: HostRuntime) -> Result
         let seen = answered(alloc, Err(io::Error::from(kind)))?;
         assert!(rt; seen.status == status, "{printed}");
         assert!(rt; seen.out.written() == printed.as_bytes(), "{printed}");
+    }
+    Ok(())
+}
+
+const INIT: &str = "init ba7816bf8f01cfea414140de5dae2223b00361a396177a9cb410ff61f20015ad";
+
+// The kept row of staff 1 that has the SHA-256 of `abc`: version, lead, the digest, and `lead`.
+const LEAD: [u8; 42] = [
+    0x01, 0x02, 0xBA, 0x78, 0x16, 0xBF, 0x8F, 0x01, 0xCF, 0xEA, 0x41, 0x41, 0x40, 0xDE, 0x5D, 0xAE,
+    0x22, 0x23, 0xB0, 0x03, 0x61, 0xA3, 0x96, 0x17, 0x7A, 0x9C, 0xB4, 0x10, 0xFF, 0x61, 0xF2, 0x00,
+    0x15, 0xAD, 0x04, 0x00, 0x00, 0x00, b'l', b'e', b'a', b'd',
+];
+
+#[test]
+fn a_matter_is_made_once(rt: HostRuntime) -> Result<(), Fail> {
+    let alloc = rt.alloc();
+    let first = ran(alloc, INIT, &NOTHING_FAILS)?;
+    assert!(rt; first.status == 0);
+    assert!(rt; first.out.written() == b"matter made\n".as_slice());
+    let again = kept(alloc, INIT, first.keeper, &NOTHING_FAILS)?;
+    assert!(rt; again.status == 2);
+    assert!(rt; again.out.written() == b"refused 42 MatterThere 0 0 0\n".as_slice());
+    let mut keeper = again.keeper;
+    let rows = keeper.load(alloc).map_err(|_| AllocError)?;
+    let [row] = rows.as_slice() else {
+        return Err(Fail::from("not one row"));
+    };
+    assert!(rt; (row.kind, row.k1, row.k2) == (1, 1, 0));
+    assert!(rt; row.body.as_slice() == LEAD.as_slice());
+    Ok(())
+}
+
+// The calls are load and commit.
+#[test]
+fn a_fault_of_the_keeper_leaves_no_row(rt: HostRuntime) -> Result<(), Fail> {
+    let alloc = rt.alloc();
+    for call in [0u64, 1] {
+        let keeper = empty_keeper(alloc, &[call])?;
+        let seen = kept(alloc, INIT, keeper, &NOTHING_FAILS)?;
+        assert!(rt; seen.status == 5, "at call {call}");
+        assert!(rt;
+            seen.out.written() == b"keeper fault\n".as_slice(),
+            "at call {call}"
+        );
+        let mut keeper = seen.keeper;
+        let rows = keeper.load(alloc).map_err(|_| AllocError)?;
+        assert!(rt; rows.is_empty(), "at call {call}");
     }
     Ok(())
 }

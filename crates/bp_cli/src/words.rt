@@ -3,17 +3,17 @@ ghost use Rattle.std.specs.Prelude.{◌≡◌, ◌<◌, length};
 ghost use Rattle.std.specs.Char.{is_ascii_digit};
 ghost use Rattle.std.specs.List.{list_all, list_any};
 ghost use Rattle.std.specs.String.{string_bytes};
-ghost use Rattle.bp_cli.specs.Words.{is_number as number_word, number_of, is_bad_word, word_of, word_bytes};
+ghost use Rattle.bp_cli.specs.Words.{is_number as number_word, number_of, is_bad_word, word_of, words_lent};
 
 /// The most digits of a number.
 pub const MAX_DIGITS: usize = 9;
 
 /// The word at a place, counted from 0.
-pub fn word_at(words: &[String], at: usize) -> &str
+pub fn word_at<'a>(words: &[&'a str], at: usize) -> &'a str
     requires { at < length words.now }
-    ensures { result.now ≡ word_of (word_bytes words.now) at }
+    ensures { result.now ≡ word_of (words_lent words.now) at }
 {
-    words[at].as_str()
+    words[at]
 }
 
 /// Whether there is a word that may stand in no command line: one that is empty or begins with `-`.

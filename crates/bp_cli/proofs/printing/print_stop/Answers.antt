@@ -19,5 +19,10 @@ returns-in-FolderFault g c =
     subst (λ (s : Stop). Prints (text_of (Err s)) (status_of (Err s)) (g.O.Out.shows c.args.out.now) (g.O.Out.shows c.print-in-FolderFault.new.out) c.print-in-FolderFault.result)
     (sym c.in-FolderFault.is) c.print-in-FolderFault.ensures
 
+pub returns-in-KeeperFault : goal.returns-in-KeeperFault
+returns-in-KeeperFault g c =
+    subst (λ (s : Stop). Prints (text_of (Err s)) (status_of (Err s)) (g.O.Out.shows c.args.out.now) (g.O.Out.shows c.print-in-KeeperFault.new.out) c.print-in-KeeperFault.result)
+    (sym c.in-KeeperFault.is) c.print-in-KeeperFault.ensures
+
 pub returns-in-OutOfMemory : goal.returns-in-OutOfMemory
 returns-in-OutOfMemory g c = c.print_lack.ensures.lacks _ _ (inr (ap (λ (s : Stop). status_of (Err s)) c.in-OutOfMemory.is))

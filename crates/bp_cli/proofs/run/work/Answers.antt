@@ -1,0 +1,28 @@
+use Rattle.std.proofs.Common.{◌≡◌, ◌∙◌, Option, Some, sym, ap, subst}
+use Rattle.std.specs.Option.{option_map}
+use Rattle.bp_cli.specs.declared.commands.Command.{Command}
+use Rattle.bp_cli.specs.declared.commands.Command.TheVariants as commands
+use Rattle.bp_cli.specs.Burn.{burn_seen}
+use Rattle.bp_cli.specs.Words.{word_bytes}
+use Rattle.bp_cli.specs.Endings.{world}
+use Rattle.bp_cli.specs.Commands.{CommandLine, burn, init, command_seen, command_of, Works}
+use Rattle.bp_cli.proofs.run.work.Goals as goal
+
+pub returns-in-Some-Burn : goal.returns-in-Some-Burn
+returns-in-Some-Burn g c =
+    let keeper = g.K.Keeper.shows c.args.keeper.now in
+    let before = world (g.S.Source.shows c.args.source.now) keeper (g.F.Folder.shows c.args.folder.now) in
+    let after = world (g.S.Source.shows c.burn_box.new.source) keeper (g.F.Folder.shows c.burn_box.new.folder) in
+    let found : c.in_ok-command_in.field-0 ≡ Some (commands.Burn c.in-Some-Burn.asked) = c.in-Some-Burn.is ∙ ap (λ (x : Command). Some x) c.in-Some-Burn.field-0-is in
+    let is : Some (burn (burn_seen c.in-Some-Burn.asked)) ≡ command_of (word_bytes c.args.words.now) = ap (option_map command_seen) (sym found) ∙ c.in_ok-command_in.ensures in
+    subst (λ (o : Option CommandLine). Works o before c.burn_box.result after) is (c.burn_box.ensures keeper)
+
+pub returns-in-Some-Init : goal.returns-in-Some-Init
+returns-in-Some-Init g c =
+    let source = g.S.Source.shows c.args.source.now in
+    let folder = g.F.Folder.shows c.args.folder.now in
+    let before = world source (g.K.Keeper.shows c.args.keeper.now) folder in
+    let after = world source (g.K.Keeper.shows c.make_matter.new.keeper) folder in
+    let found : c.in_ok-command_in.field-0 ≡ Some (commands.Init c.in-Some-Init.digest) = c.in-Some-Init.is ∙ ap (λ (x : Command). Some x) c.in-Some-Init.field-0-is in
+    let is : Some (init c.in-Some-Init.digest) ≡ command_of (word_bytes c.args.words.now) = ap (option_map command_seen) (sym found) ∙ c.in_ok-command_in.ensures in
+    subst (λ (o : Option CommandLine). Works o before c.make_matter.result after) is (c.make_matter.ensures source folder)

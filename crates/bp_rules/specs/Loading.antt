@@ -4,7 +4,8 @@ use Rattle.bp_core.specs.Counts.{risen}
 use Rattle.bp_core.specs.Rules.{bare_rule}
 use Rattle.bp_core.specs.declared.kept.Row.{Row}
 use Rattle.bp_core.specs.declared.refusals.Refusal.TheVariants as refusals
-use Rattle.bp_core.specs.declared.rules.RuleKind.TheVariants.{NoMatter}
+use Rattle.bp_core.specs.declared.rules.RuleKind.{RuleKind}
+use Rattle.bp_core.specs.declared.rules.RuleKind.TheVariants.{KeptRowBad, NoMatter}
 use Rattle.bp_keep.specs.Keeper.{KeeperView, SameRows}
 use Rattle.bp_matter.specs.KeptRows.{rows_of}
 use Rattle.bp_matter.specs.Matter.{Matter, Shown}
@@ -29,6 +30,16 @@ LoadedFrom (row ∷ rows) (Err (loads.Rule rule)) =
 LoadedFrom rows (Err loads.KeeperFault) = Unit {0}
 LoadedFrom rows (Err loads.OutOfMemory) = Unit {0}
 
+-- the rules that loading may break, whatever rows the keeper has
+abbrev pub IsLoadRule : RuleKind → Type 0
+IsLoadRule NoMatter = Unit {0}
+IsLoadRule KeptRowBad = Unit {0}
+IsLoadRule _ = ⊥
+
+abbrev pub HasLoadRule : Result Shown LoadRefusal → Type 0
+HasLoadRule (Err (loads.Rule rule)) = IsLoadRule rule.kind
+HasLoadRule _ = Unit {0}
+
 -- only a fault of the keeper raises its count
 abbrev pub faults_loaded : ℕ → Result Shown LoadRefusal → ℕ
 faults_loaded faults (Err loads.KeeperFault) = risen faults
@@ -39,6 +50,7 @@ pub record LoadsTables (before : KeeperView) (result : Result Shown LoadRefusal)
     (after : KeeperView) : Type 0 where
   pub told_before : IfSome before.rows (λ rows. LoadedFrom rows result)
   pub told_after : IfSome after.rows (λ rows. LoadedFrom rows result)
+  pub rule : HasLoadRule result
   pub same : SameRows before.rows after.rows
   pub faults : after.faults ≡ faults_loaded before.faults result
   pub sure : after.sure ≡ before.sure

@@ -11,6 +11,7 @@ returns-in-Ok-read_tables g c =
     record {
       told_before = told-ok (g.K.Keeper.shows c.args.keeper.now).rows rows tables c.in-Ok.ensures.told_before good;
       told_after = told-ok (g.K.Keeper.shows c.load.new.self).rows rows tables c.in-Ok.ensures.told_after good;
+      rule = tt;
       same = c.in-Ok.ensures.same;
       faults = c.in-Ok.ensures.faults;
       sure = c.in-Ok.ensures.sure;

@@ -20,11 +20,23 @@ use Rattle.bp_cli.specs.declared.burn.TheConstants.{FILE_LIMIT}
 use Rattle.std.specs.Prelude.{IfSome}
 use Rattle.bp_core.specs.declared.kept.Row.{Row}
 use Rattle.bp_cli.specs.Endings.{Outcome, World, refused}
+use Rattle.std.specs.Str.{chars}
+use Rattle.bp_import.specs.Batch.{BatchAnswers}
+use Rattle.bp_matter.specs.Batches.{BatchShown}
+use Rattle.bp_matter.specs.KeptRows.{rows_of}
+use Rattle.bp_matter.specs.Matter.{Matter as Kept}
+use Rattle.bp_matter.specs.Valid.{IsValid}
+use Rattle.bp_cli.specs.Import.{MatterAnswers, ImportOutcome, import_gives}
 use Rattle.bp_cli.specs.Init.{init_gives}
+use Rattle.bp_cli.proofs.ImportLemmas.{SomeBatch}
 use Rattle.bp_cli.specs.Runs.{Tells}
 use Rattle.bp_cli.specs.Words.{◌>>=◌}
 use Rattle.bp_cli.specs.Burn.{BurnLine, BurnPaths, HasPage, BurnAlike, lacks_a_side, burn_page, burn_read, burn_gives, paths_of, path_refused, FileAnswers, PathAnswers, BurnsAt, BurnComes}
-use Rattle.bp_cli.specs.Commands.{CommandLine, Matter, burn, init, uses_of, AlikeFor, ComesTo, IsOutcome}
+use Rattle.bp_cli.specs.Commands.{CommandLine, Matter, burn, init, import, uses_of, AreKnown, AlikeFor, ComesTo, IsOutcome}
+
+-- each file is read as a page, or breaks a rule
+abbrev pub SomeAnswer : Type 0
+SomeAnswer = (bytes : List ℕ) → (answer : Result Image Rule) × TiffAnswers bytes answer
 
 -- ---- one outcome
 
@@ -50,14 +62,40 @@ comes_one : OneAnswer → (b : BurnLine) (paths : Option BurnPaths) (files : Fil
 comes_one one b None files o o' x y = x ∙ sym y
 comes_one one b (Some paths) files o o' x y = burns_one one b paths files o o' x y
 
-pub one_outcome : OneAnswer → (c : CommandLine) (matter : Matter) (o o' : Outcome) → ComesTo c matter o → ComesTo c matter o' → o ≡ o'
-one_outcome one (burn b) matter o o' x y = comes_one one b (paths_of b) matter.files o o' x y
-one_outcome one (init digest) matter o o' x y = sym x ∙ y
+-- kept rows are of one matter, or break one rule
+abbrev pub RowsLaw : Type 0
+RowsLaw = (m n : Kept) → IsValid m → IsValid n → rows_of m ≡ rows_of n → m ≡ n
+
+matter_one : RowsLaw → (rows : List Row) (a b : Result Kept Rule) → MatterAnswers rows a → MatterAnswers rows b → a ≡ b
+matter_one law [] a b x y = x ∙ sym y
+matter_one law (row ∷ rows) (Ok m) (Ok n) x y = ap (λ (k : Kept). Ok k) (law m n x.0 y.0 (sym x.1 ∙ y.1))
+matter_one law (row ∷ rows) (Ok m) (Err r) x y = absurd (y.1 m x.0 x.1)
+matter_one law (row ∷ rows) (Err r) (Ok n) x y = absurd (x.1 n y.0 y.1)
+matter_one law (row ∷ rows) (Err r) (Err t) x y = ap (λ (k : Rule). Err k) (x.0 ∙ sym y.0)
+
+-- a folder comes to one batch, or breaks one rule
+abbrev pub OneBatch : Type 0
+OneBatch = (files : FileMap) (name : List ℕ) (a b : Result BatchShown Rule) → BatchAnswers files name a → BatchAnswers files name b → a ≡ b
+
+-- what other crates say of their answers
+pub record Laws : Type 0 where
+  pub one : OneAnswer
+  pub some : SomeAnswer
+  pub rows : RowsLaw
+  pub one_batch : OneBatch
+  pub some_batch : SomeBatch
+
+import_one : Laws → (name : List ℕ) (matter : Matter) (o o' : Outcome) → ImportOutcome name (Some matter.files) (Some matter.rows) o → ImportOutcome name (Some matter.files) (Some matter.rows) o' → o ≡ o'
+import_one laws name matter o o' x y =
+    sym x.gives ∙ ap (λ (t : Result Kept Rule). import_gives name t x.batch) (matter_one laws.rows matter.rows x.tables y.tables x.kept y.kept)
+    ∙ ap (import_gives name y.tables) (laws.one_batch matter.files (chars name) x.batch y.batch x.found y.found) ∙ y.gives
+
+pub one_outcome : Laws → (c : CommandLine) (matter : Matter) (o o' : Outcome) → ComesTo c matter o → ComesTo c matter o' → o ≡ o'
+one_outcome laws (burn b) matter o o' x y = comes_one laws.one b (paths_of b) matter.files o o' x y
+one_outcome laws (init digest) matter o o' x y = sym x ∙ y
+one_outcome laws (import name) matter o o' x y = import_one laws name matter o o' x y
 
 -- ---- and there is one
-
-abbrev pub SomeAnswer : Type 0
-SomeAnswer = (bytes : List ℕ) → (answer : Result Image Rule) × TiffAnswers bytes answer
 
 some_file : SomeAnswer → (long : Bool) (bytes : List ℕ) → (answer : Result Image Rule) × FileAnswersIf long bytes answer
 some_file some true bytes = (Err (bare_rule kinds.FileTooLong), refl)
@@ -73,9 +111,12 @@ some_comes some b (Some paths) files =
     let found = some_path some (map.get files paths.from) in
     (burn_gives b.form paths.to (burn_read b.area found.0), record { answer = found.0; found = found.1; gives = refl })
 
-pub some_outcome : SomeAnswer → (c : CommandLine) (matter : Matter) → (o : Outcome) × ComesTo c matter o
-some_outcome some (burn b) matter = some_comes some b (paths_of b) matter.files
-some_outcome some (init digest) matter = (init_gives digest matter.rows, refl)
+pub some_outcome : Laws → (c : CommandLine) (matter : Matter) → AreKnown c matter → (o : Outcome) × ComesTo c matter o
+some_outcome laws (burn b) matter known = some_comes laws.some b (paths_of b) matter.files
+some_outcome laws (init digest) matter known = (init_gives digest matter.rows, refl)
+some_outcome laws (import name) matter known =
+    let found = laws.some_batch matter.files (chars name) in
+    (import_gives name known.0 found.0, record { tables = known.0; kept = known.1; batch = found.0; found = found.1; gives = refl })
 
 -- ---- two matters
 
@@ -131,6 +172,9 @@ pub outcome_alike : OneAnswer → (c : CommandLine) (matter matter' : Matter) (o
 outcome_alike one (burn b) matter matter' outcome alike comes =
     comes_alike one b (path_in b.from) (path_in b.to) matter.files matter'.files outcome refl alike comes
 outcome_alike one (init digest) matter matter' outcome alike comes = ap (init_gives digest) alike ∙ comes
+outcome_alike one (import name) matter matter' outcome alike comes =
+    subst (λ (files : FileMap). ImportOutcome name (Some files) (Some matter.rows) outcome) (sym alike.0)
+    (subst (λ (rows : List Row). ImportOutcome name (Some matter'.files) (Some rows) outcome) (sym alike.1) comes)
 
 -- ---- what is told
 
@@ -144,3 +188,6 @@ told_outcome (init digest) before matter outcome files rows is =
     let P : Option (List Row) → Type 0 = λ o. IfSome o (λ t. is.rows ≡ t) in
     let same : is.rows ≡ matter.rows = subst P rows is.same in
     ap (init_gives digest) (sym same) ∙ is.gives
+told_outcome (import name) before matter outcome files rows is =
+    subst (λ (o : Option FileMap). ImportOutcome name o (Some matter.rows) outcome) files
+    (subst (λ (o : Option (List Row)). ImportOutcome name before.source.files o outcome) rows is)

@@ -26,12 +26,13 @@ use Rattle.bp_outside.specs.declared.refusals.ReadRefusal.{ReadRefusal}
 use Rattle.bp_outside.specs.declared.refusals.ReadRefusal.TheVariants as reads
 use Rattle.bp_outside.specs.declared.refusals.FolderRefusal.{FolderRefusal}
 use Rattle.bp_outside.specs.declared.refusals.FolderRefusal.TheVariants as folders
+use Rattle.bp_import.specs.Importing.{after_kind}
 use Rattle.bp_cli.specs.declared.stops.Stop.{Stop}
 use Rattle.bp_cli.specs.declared.stops.Stop.TheVariants as stops
 use Rattle.bp_cli.specs.declared.burn.TheConstants.{FILE_LIMIT}
 use Rattle.bp_core.specs.declared.kept.Row.{Row}
 use Rattle.bp_keep.specs.Keeper.{KeeperView, SameRows}
-use Rattle.bp_cli.specs.Endings.{Outcome, done, refused, Ending, World, world, after_kind, failed_folder, KeeperLeft, AddsPart, Makes, Ends, partly, untouched}
+use Rattle.bp_cli.specs.Endings.{Outcome, done, refused, Ending, World, world, failed_folder, KeeperLeft, AddsPart, Makes, Ends, partly, untouched}
 use Rattle.bp_core.specs.declared.rectangle.Rect.{Rect}
 use Rattle.bp_core.specs.declared.rules.RuleKind.{RuleKind}
 use Rattle.bp_core.specs.declared.refusals.Refusal.{Refusal}

@@ -2,6 +2,7 @@ mod ArgumentLemmas
 mod AlikeLemmas
 mod BurnLemmas
 mod Examples
+mod ImportLemmas
 mod InitLemmas
 mod OperandLemmas
 mod PrintingLemmas

@@ -12,7 +12,7 @@ use Rattle.bp_outside.specs.declared.files.FileRow.{FileRow}
 use Rattle.bp_cli.specs.declared.stops.Stop.TheVariants as stops
 use Rattle.bp_cli.specs.Endings as outcomes
 use Rattle.bp_cli.specs.Endings.{Outcome, Ending, World, status_of, text_of, refused_line, failed_folder, with_files, AddsPart}
-use Rattle.bp_cli.specs.Commands.{CommandLine, Matter, uses_of, IsOutcome, ComesTo, AlikeFor, Works}
+use Rattle.bp_cli.specs.Commands.{CommandLine, Matter, uses_of, IsOutcome, ComesTo, AreKnown, AlikeFor, Works}
 use Rattle.bp_cli.specs.Printing.{Prints, whole, cut, lacking, instead}
 use Rattle.bp_cli.specs.Runs.{Outside, Tells, Asks, Completes, SourceFailed, FolderFailed, KeeperFailed, InputsServed, NoneFailed, uses_by, AreSure, Ended, RanShort, WasCut, Gives, IsAmong, outcome_status, Runs}
 use Rattle.bp_cli.proofs.StatusLemmas.{rose_at, whole_of, out_rose, out_sure, among_three, among_two, status_known, is_done, is_words_refused, is_broken, is_source_fault, is_folder_fault, is_keeper_fault, lacking_part, cut_part}
@@ -106,7 +106,7 @@ OneOutcome = (c : CommandLine) (matter : Matter) (o o' : Outcome) → ComesTo c 
 
 -- and each comes to one
 abbrev pub SomeOutcome : Type 0
-SomeOutcome = (c : CommandLine) (matter : Matter) → (o : Outcome) × ComesTo c matter o
+SomeOutcome = (c : CommandLine) (matter : Matter) → AreKnown c matter → (o : Outcome) × ComesTo c matter o
 
 -- the outcome over a told matter
 abbrev pub ToldOutcome : Type 0
@@ -287,9 +287,9 @@ module _ (command : Option CommandLine) (before after : Outside) (status : ℕ) 
       among_three (text_of e) (status_of e) before.out after.out status 2
       (met_ending one told c before.world after.world matter asks.files asks.rows rule e met (served.source, served.keeper) (worked_for c asks.words)) printed
 
-  run_complete : OneOutcome → SomeOutcome → ToldOutcome → (c : CommandLine) (matter : Matter) → Asks command before c matter → NoneFailed (uses_of c) before after → Completes c matter status
-  run_complete one some told c matter asks none =
-      let there = some c matter in
+  run_complete : OneOutcome → SomeOutcome → ToldOutcome → (c : CommandLine) (matter : Matter) → Asks command before c matter → AreKnown c matter → NoneFailed (uses_of c) before after → Completes c matter status
+  run_complete one some told c matter asks known none =
+      let there = some c matter known in
       record {
         outcome = there.0;
         comes = there.1;

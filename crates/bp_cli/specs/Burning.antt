@@ -9,10 +9,11 @@ use Rattle.bp_tiff.specs.declared.form.Form.{Form}
 use Rattle.bp_tiff.specs.Read.{TiffAnswers}
 use Rattle.bp_tiff.specs.Tiff.{tiff_of}
 use Rattle.bp_cli.specs.declared.burn.BurnPaths.{BurnPaths as Paths}
+use Rattle.bp_import.specs.Importing.{after_kind}
 use Rattle.bp_cli.specs.declared.stops.Stop.{Stop}
 use Rattle.bp_cli.specs.declared.stops.Stop.TheVariants as stops
 use Rattle.bp_cli.specs.Burn.{BurnLine, BurnPaths, paths_of, path_refused, burn_read, burn_done, counted_line}
-use Rattle.bp_cli.specs.Endings.{Outcome, Ending, after_kind, failed_folder}
+use Rattle.bp_cli.specs.Endings.{Outcome, Ending, failed_folder}
 
 -- the paths as contracts see them
 abbrev pub paths_seen : Paths → BurnPaths

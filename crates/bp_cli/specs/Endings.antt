@@ -2,14 +2,13 @@
 use Rattle.std.specs.Prelude.{ℕ, ◌≡◌, Bool, false, Option, Some, None, Result, Ok, Err, List, [], ◌∷◌, ◌++◌, codes, IfSome, IsTrue}
 use Rattle.bp_core.specs.declared.kept.Row.{Row}
 use Rattle.bp_core.specs.declared.rules.Rule.{Rule}
-use Rattle.bp_core.specs.declared.rules.RuleKind.{RuleKind}
-use Rattle.bp_core.specs.declared.rules.RuleKind.TheVariants as kinds
 use Rattle.bp_core.specs.Characters.{newline}
 use Rattle.bp_core.specs.Rules.{rule_text}
 use Rattle.bp_outside.specs.Counts.{risen}
 use Rattle.bp_outside.specs.Source.{SourceView}
 use Rattle.bp_outside.specs.Folder.{FolderView, with_file, PutsPart}
 use Rattle.bp_outside.specs.declared.files.FileRow.{FileRow}
+use Rattle.bp_import.specs.Importing.{after_kind}
 use Rattle.bp_keep.specs.Keeper.{KeeperView, SameRows}
 use Rattle.bp_cli.specs.declared.stops.Stop.{Stop}
 use Rattle.bp_cli.specs.declared.stops.Stop.TheVariants as stops
@@ -68,12 +67,6 @@ world source keeper folder = record { source = source; keeper = keeper; folder =
 pub record Uses : Type 0 where
   pub files : Bool
   pub rows : Bool
-
--- the source after a rule was met: the count rose that the rule comes from
-abbrev pub after_kind : SourceView → RuleKind → SourceView
-after_kind source kinds.FileAbsent = record source { absences = risen source.absences }
-after_kind source kinds.FileTooLong = record source { overlong = risen source.overlong }
-after_kind source _ = source
 
 -- the source and the folder after a fault
 abbrev pub failed_source : SourceView → SourceView

@@ -3,6 +3,7 @@ pub mod Burn
 pub mod Burning
 pub mod Commands
 pub mod Endings
+pub mod Import
 pub mod Init
 pub mod Printing
 pub mod Runs

@@ -13,7 +13,7 @@ use Rattle.bp_cli.specs.declared.stops.Stop.TheVariants as stops
 use Rattle.bp_cli.specs.declared.statuses.TheConstants.{DONE, WORDS_REFUSED, RULE_BROKEN, SOURCE_FAULT, FOLDER_FAULT, KEEPER_FAULT, OUT_OF_MEMORY, OUT_FAULT}
 use Rattle.bp_cli.specs.Endings as outcomes
 use Rattle.bp_cli.specs.Endings.{Outcome, Ending, World, world, Uses, RowsLeft, with_files, status_of, text_of, memory_line, refused_line}
-use Rattle.bp_cli.specs.Commands.{CommandLine, Matter, uses_of, ComesTo, AlikeFor, Works}
+use Rattle.bp_cli.specs.Commands.{CommandLine, Matter, uses_of, ComesTo, AreKnown, AlikeFor, Works}
 use Rattle.bp_cli.specs.Printing.{failed_out, MayLackItsLine, WritesPart}
 
 -- what is known of all that is outside, at a moment
@@ -169,6 +169,7 @@ pub record Runs (command : Option CommandLine) (before after : Outside) (status 
   -- completeness: over a told matter, where nothing failed, the status is that of the outcome, or 6
   pub complete : (c : CommandLine) (matter : Matter)
       → Asks command before c matter
+      → AreKnown c matter
       → NoneFailed (uses_of c) before after
       → Completes c matter status
   -- objects that can't fail give no fault

@@ -5,6 +5,7 @@ ghost use Rattle.bp_cli.specs.Words.{word_bytes, words_lent};
 ghost use Rattle.bp_cli.specs.Commands.{command_seen, command_of, named_command};
 
 use crate::burn::{Burn, burn_in};
+use crate::import::batch_in;
 use crate::init::init_in;
 use crate::operands::operands_of;
 use crate::words::has_bad_word;
@@ -17,6 +18,8 @@ pub enum Command<'a> {
     Burn(Burn<'a>),
     /// Make a matter whose lead's key has this SHA-256.
     Init([u8; 32]),
+    /// Import the batch of the folder of this name.
+    Import(&'a str),
 }
 
 /// The command that the words are a line of, if they are one. The words don't have the program's
@@ -44,6 +47,9 @@ fn command_named<'a>(name: &str, operands: &[&'a str]) -> Option<Command<'a>>
     }
     if name == "init" {
         return Some(Command::Init(init_in(operands)?));
+    }
+    if name == "import" {
+        return Some(Command::Import(batch_in(operands)?));
     }
     None
 }

@@ -6,6 +6,7 @@
 mod arguments;
 mod burn;
 mod commands;
+mod import;
 mod init;
 mod operands;
 mod printing;

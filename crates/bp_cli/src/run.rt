@@ -9,11 +9,14 @@ ghost use Rattle.bp_cli.specs.Arguments.{RunsArguments};
 use crate::arguments::words_of;
 use crate::burn::burn_box;
 use crate::commands::{Command, command_in};
+use crate::import::import_batch;
 use crate::init::make_matter;
 use crate::printing::finish;
 use crate::stops::Stop;
 use bp_core::Bytes;
+use bp_import::one_batch;
 use bp_keep::Keeper;
+use bp_matter::laws::rows_law;
 use bp_outside::{Folder, Out, Source};
 use bp_tiff::one_answer;
 use std::alloc::Global;
@@ -73,6 +76,8 @@ pub fn run<S: Source, K: Keeper, F: Folder, O: Out>(
         Runs command before after result.status }
 {
     one_answer();
+    one_batch();
+    rows_law();
     let ending = work(alloc, words, source, &mut keeper, folder);
     let status = finish(alloc, out, ending);
     Ended { status, keeper }
@@ -94,5 +99,6 @@ fn work<S: Source, K: Keeper, F: Folder>(
         None => Err(Stop::WordsRefused),
         Some(Command::Burn(asked)) => burn_box(alloc, &asked, source, folder),
         Some(Command::Init(digest)) => make_matter(alloc, digest, keeper),
+        Some(Command::Import(name)) => import_batch(alloc, name, source, keeper),
     }
 }

@@ -1,7 +1,9 @@
 // Where the work of a command stopped.
 use bp_core::{OutOfMemory, Refusal, Rule};
+use bp_import::ImportRefusal;
 use bp_keep::KeepRefusal;
 use bp_outside::FolderRefusal;
+use bp_rules::{LoadRefusal, StepRefusal};
 use std::alloc::AllocError;
 use std::convert::From;
 
@@ -57,6 +59,48 @@ impl From<KeepRefusal> for Stop {
         match refusal {
             KeepRefusal::Failed => Stop::KeeperFault,
             KeepRefusal::OutOfMemory => Stop::OutOfMemory,
+        }
+    }
+}
+
+impl From<LoadRefusal> for Stop {
+    ghost use Rattle.bp_cli.specs.Stops.{StopsForLoad};
+
+    ghost from_gives = { StopsForLoad };
+
+    fn from(refusal: LoadRefusal) -> Stop {
+        match refusal {
+            LoadRefusal::Rule(rule) => Stop::Broken(rule),
+            LoadRefusal::KeeperFault => Stop::KeeperFault,
+            LoadRefusal::OutOfMemory => Stop::OutOfMemory,
+        }
+    }
+}
+
+impl From<ImportRefusal> for Stop {
+    ghost use Rattle.bp_cli.specs.Stops.{StopsForBatch};
+
+    ghost from_gives = { StopsForBatch };
+
+    fn from(refusal: ImportRefusal) -> Stop {
+        match refusal {
+            ImportRefusal::Rule(rule) => Stop::Broken(rule),
+            ImportRefusal::SourceFault => Stop::SourceFault,
+            ImportRefusal::OutOfMemory => Stop::OutOfMemory,
+        }
+    }
+}
+
+impl From<StepRefusal> for Stop {
+    ghost use Rattle.bp_cli.specs.Stops.{StopsForStep};
+
+    ghost from_gives = { StopsForStep };
+
+    fn from(refusal: StepRefusal) -> Stop {
+        match refusal {
+            StepRefusal::Rule(rule) => Stop::Broken(rule),
+            StepRefusal::KeeperFault => Stop::KeeperFault,
+            StepRefusal::OutOfMemory => Stop::OutOfMemory,
         }
     }
 }

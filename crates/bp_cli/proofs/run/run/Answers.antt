@@ -1,16 +1,17 @@
-use Rattle.bp_cli.proofs.AlikeLemmas.{one_outcome, some_outcome, told_outcome, outcome_alike}
+use Rattle.bp_cli.proofs.AlikeLemmas.{Laws, one_outcome, some_outcome, told_outcome, outcome_alike}
 use Rattle.bp_cli.proofs.RunLemmas.{runs}
 use Rattle.bp_cli.proofs.run.run.Goals as goal
 
 pub returns : goal.returns
 returns g c =
-    runs
-    (record {
-      one = one_outcome c.one_answer.ensures.only;
-      some = some_outcome c.one_answer.ensures.some;
-      told = told_outcome;
-      two = outcome_alike c.one_answer.ensures.only;
-    })
+    let laws : Laws = record {
+      one = c.one_answer.ensures.only;
+      some = c.one_answer.ensures.some;
+      rows = c.rows_law.ensures;
+      one_batch = c.one_batch.ensures.only;
+      some_batch = c.one_batch.ensures.some;
+    } in
+    runs (record { one = one_outcome laws; some = some_outcome laws; told = told_outcome; two = outcome_alike laws.one })
     _ _ _ c.finish-status.result c.work-ending.result c.work-ending.ensures c.finish-status.ensures
     (record {
       source = g.met.S.Source.unfailing c.work-ending.new.source;

@@ -5,7 +5,7 @@ use Rattle.bp_cli.specs.declared.commands.Command.TheVariants as commands
 use Rattle.bp_cli.specs.Burn.{burn_seen}
 use Rattle.bp_cli.specs.Words.{word_bytes}
 use Rattle.bp_cli.specs.Endings.{world}
-use Rattle.bp_cli.specs.Commands.{CommandLine, burn, init, command_seen, command_of, Works}
+use Rattle.bp_cli.specs.Commands.{CommandLine, burn, init, import, command_seen, command_of, Works}
 use Rattle.bp_cli.proofs.run.work.Goals as goal
 
 pub returns-in-Some-Burn : goal.returns-in-Some-Burn
@@ -26,3 +26,12 @@ returns-in-Some-Init g c =
     let found : c.in_ok-command_in.field-0 ≡ Some (commands.Init c.in-Some-Init.digest) = c.in-Some-Init.is ∙ ap (λ (x : Command). Some x) c.in-Some-Init.field-0-is in
     let is : Some (init c.in-Some-Init.digest) ≡ command_of (word_bytes c.args.words.now) = ap (option_map command_seen) (sym found) ∙ c.in_ok-command_in.ensures in
     subst (λ (o : Option CommandLine). Works o before c.make_matter.result after) is (c.make_matter.ensures source folder)
+
+pub returns-in-Some-Import : goal.returns-in-Some-Import
+returns-in-Some-Import g c =
+    let folder = g.F.Folder.shows c.args.folder.now in
+    let before = world (g.S.Source.shows c.args.source.now) (g.K.Keeper.shows c.args.keeper.now) folder in
+    let after = world (g.S.Source.shows c.import_batch.new.source) (g.K.Keeper.shows c.import_batch.new.keeper) folder in
+    let found : c.in_ok-command_in.field-0 ≡ Some (commands.Import c.in-Some-Import.name) = c.in-Some-Import.is ∙ ap (λ (x : Command). Some x) c.in-Some-Import.field-0-is in
+    let is : Some (import c.in-Some-Import.name.now) ≡ command_of (word_bytes c.args.words.now) = ap (option_map command_seen) (sym found) ∙ c.in_ok-command_in.ensures in
+    subst (λ (o : Option CommandLine). Works o before c.import_batch.result after) is (c.import_batch.ensures folder)

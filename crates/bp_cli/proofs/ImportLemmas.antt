@@ -1,0 +1,305 @@
+-- Lemmas of import: from what loading the tables, reading the batch and the step gave to the outcome
+-- of the command.
+use Rattle.std.proofs.Common.{ℕ, ◌≡◌, Bool, true, false, cond, List, [], ◌∷◌, Option, Some, None, Result, Ok, Err, refl, sym, ap, subst, ◌∙◌}
+use Rattle.std.specs.Prelude.{IfSome, nat_lt}
+use Rattle.std.specs.Result.{IsErr, IsErrAnd}
+use Rattle.std.specs.Str.{bytes_eq, chars}
+use Rattle.bp_core.specs.Counts.{risen}
+use Rattle.bp_core.specs.Rules.{bare_rule}
+use Rattle.bp_core.specs.declared.kept.Row.{Row}
+use Rattle.bp_core.specs.declared.rules.Rule.{Rule}
+use Rattle.bp_core.specs.declared.rules.RuleKind.{RuleKind}
+use Rattle.bp_core.specs.declared.rules.RuleKind.TheVariants as kinds
+use Rattle.bp_outside.specs.Source.{FileMap, SourceView}
+use Rattle.bp_outside.specs.Folder.{FolderView}
+use Rattle.bp_import.specs.Batch.{BatchAnswers}
+use Rattle.bp_import.specs.Importing.{Comes, after_kind, after_step}
+use Rattle.bp_import.specs.declared.refusals.ImportRefusal.{ImportRefusal}
+use Rattle.bp_import.specs.declared.refusals.ImportRefusal.TheVariants as imports
+use Rattle.bp_keep.specs.Keeper.{KeeperView, SameRows}
+use Rattle.bp_matter.specs.Batches.{BatchShown}
+use Rattle.bp_matter.specs.KeptRows.{rows_of}
+use Rattle.bp_matter.specs.Matter.{Matter, Shown}
+use Rattle.bp_matter.specs.Valid.{IsValid}
+use Rattle.bp_rules.specs.Changes.{after}
+use Rattle.bp_rules.specs.Importing.{import_of, import_by, batch_with, unless_full}
+use Rattle.bp_matter.specs.declared.limits.TheConstants.{MAX_BATCHES, MAX_DOCUMENTS, MAX_FIELDS, MAX_PAGES, MAX_PIXELS}
+use Rattle.bp_rules.specs.Limits.{limit_passed, full_rule, documents_limit, pages_limit, pixels_limit, fields_limit, batches_limit, documents_after, pages_after, pixels_after, fields_after, batches_after}
+use Rattle.bp_rules.specs.Loading.{IsLoadRule, LoadedFrom, LoadsTables}
+use Rattle.bp_rules.specs.Steps.{Stays, StepsImport, ImportMade}
+use Rattle.bp_rules.specs.declared.importing.Imported.{Imported}
+use Rattle.bp_rules.specs.declared.loading.LoadRefusal.{LoadRefusal}
+use Rattle.bp_rules.specs.declared.loading.LoadRefusal.TheVariants as loads
+use Rattle.bp_rules.specs.declared.stepping.Counted.{Counted}
+use Rattle.bp_rules.specs.declared.stepping.StepRefusal.{StepRefusal}
+use Rattle.bp_rules.specs.declared.stepping.StepRefusal.TheVariants as steps
+use Rattle.bp_cli.specs.declared.stops.Stop.{Stop}
+use Rattle.bp_cli.specs.declared.stops.Stop.TheVariants as stops
+use Rattle.bp_cli.specs.Commands.{import, uses_of, IsOutcome}
+use Rattle.bp_cli.specs.Endings.{Ending, world, done, KeeperLeft, Ends, untouched, kept}
+use Rattle.bp_cli.specs.Import.{MatterAnswers, ImportOutcome, imported_line, step_gives}
+use Rattle.bp_cli.specs.Stops.{StopsForLoad, StopsForBatch, StopsForStep}
+
+-- import, and the folder that it doesn't use
+abbrev pub ImportEnds : List ℕ → SourceView → KeeperView → Ending → SourceView → KeeperView → Type 0
+ImportEnds name s k r s' k' = (folder : FolderView)
+    → Ends (uses_of (import name)) (IsOutcome (import name) (world s k folder)) (world s k folder) r (world s' k' folder)
+
+-- what a `?` hands on, by what the refusal became
+by_stop : (P : Ending → Type 0) (Q : Stop → Type 0) (r : Ending) → IsErr r → IsErrAnd r Q → ((stop : Stop) → Q stop → P (Err stop)) → P r
+by_stop P Q (Ok line) is stop give = absurd stop
+by_stop P Q (Err s) is stop give = give s stop
+
+-- ---- which rules raise no count
+
+load_calm : (source : SourceView) (kind : RuleKind) → IsLoadRule kind → source ≡ after_kind source kind
+load_calm source kinds.NoMatter is = refl
+load_calm source kinds.KeptRowBad is = refl
+load_calm source other is = absurd is
+
+pick : (t : Bool) (r rule : Rule) (rest : Option Rule) → r.kind ≡ kinds.MatterFull → (rest ≡ Some rule → rule.kind ≡ kinds.MatterFull) → cond t (Some r) rest ≡ Some rule → rule.kind ≡ kinds.MatterFull
+pick true r rule rest own others is = let same : r ≡ rule = cc in ap (λ (x : Rule). x.kind) (sym same) ∙ own
+pick false r rule rest own others is = others is
+
+no_limit : (rule : Rule) → let none : Option Rule = None in none ≡ Some rule → rule.kind ≡ kinds.MatterFull
+no_limit rule is = cc
+
+-- the tests of the limits from each one on
+abbrev from_batches : Matter → Option Rule
+from_batches m = cond (nat_lt MAX_BATCHES (batches_after m)) (Some (full_rule batches_limit (batches_after m))) None
+
+abbrev from_fields : Matter → BatchShown → Option Rule
+from_fields m b = cond (nat_lt MAX_FIELDS (fields_after m b)) (Some (full_rule fields_limit (fields_after m b))) (from_batches m)
+
+abbrev from_pixels : Matter → BatchShown → Option Rule
+from_pixels m b = cond (nat_lt MAX_PIXELS (pixels_after m b)) (Some (full_rule pixels_limit (pixels_after m b))) (from_fields m b)
+
+abbrev from_pages : Matter → BatchShown → Option Rule
+from_pages m b = cond (nat_lt MAX_PAGES (pages_after m b)) (Some (full_rule pages_limit (pages_after m b))) (from_pixels m b)
+
+limit_kind : (m : Matter) (b : BatchShown) (rule : Rule) → limit_passed m b ≡ Some rule → rule.kind ≡ kinds.MatterFull
+limit_kind m b rule is =
+    pick (nat_lt MAX_DOCUMENTS (documents_after m b)) (full_rule documents_limit (documents_after m b)) rule (from_pages m b) refl
+    (pick (nat_lt MAX_PAGES (pages_after m b)) (full_rule pages_limit (pages_after m b)) rule (from_pixels m b) refl
+    (pick (nat_lt MAX_PIXELS (pixels_after m b)) (full_rule pixels_limit (pixels_after m b)) rule (from_fields m b) refl
+    (pick (nat_lt MAX_FIELDS (fields_after m b)) (full_rule fields_limit (fields_after m b)) rule (from_batches m) refl
+    (pick (nat_lt MAX_BATCHES (batches_after m)) (full_rule batches_limit (batches_after m)) rule None refl (no_limit rule))))) is
+
+calm_by : (source : SourceView) (kind known : RuleKind) → known ≡ kind → source ≡ after_kind source known → source ≡ after_kind source kind
+calm_by source kind known same calm = calm ∙ ap (after_kind source) same
+
+full_calm : (source : SourceView) (m : Matter) (b : BatchShown) (o : Option Rule) (rule : Rule) → limit_passed m b ≡ o → unless_full m b o ≡ Err rule → source ≡ after_kind source rule.kind
+full_calm source m b None rule passed is = cc
+full_calm source m b (Some r) rule passed is =
+    let same : r ≡ rule = cc in
+    calm_by source rule.kind kinds.MatterFull (sym (limit_kind m b r passed) ∙ ap (λ (x : Rule). x.kind) same) refl
+
+differs_calm : (source : SourceView) (t : Bool) (x : Imported) (rule : Rule) → let other : Result Imported Rule = Err (bare_rule kinds.BatchDiffers) in cond t (Ok x) other ≡ Err rule → source ≡ after_kind source rule.kind
+differs_calm source true x rule is = cc
+differs_calm source false x rule is =
+    let same : bare_rule kinds.BatchDiffers ≡ rule = cc in
+    calm_by source rule.kind kinds.BatchDiffers (ap (λ (y : Rule). y.kind) same) refl
+
+step_calm : (source : SourceView) (m : Matter) (b : BatchShown) (rule : Rule) → import_of m b ≡ Err rule → source ≡ after_kind source rule.kind
+unfolding import_of
+step_calm source m b rule is = elim (batch_with b.name m) as (λ o. import_by m b o ≡ Err rule → source ≡ after_kind source rule.kind) [
+  | None ↦ λ at. full_calm source m b (limit_passed m b) rule refl at
+  | Some row ↦ λ at. differs_calm source (bytes_eq row.digest b.digest) _ rule at
+] is
+
+-- ---- what was told of the rows and of the batch
+
+abbrev pub SomeBatch : Type 0
+SomeBatch = (files : FileMap) (name : List ℕ) → (answer : Result BatchShown Rule) × BatchAnswers files name answer
+
+some_found : SomeBatch → (told : Option FileMap) (name : List ℕ) → (answer : Result BatchShown Rule) × IfSome told (λ there. BatchAnswers there name answer)
+some_found some None name = (Err (bare_rule kinds.NoMatter), tt)
+some_found some (Some files) name = some files name
+
+kept_rule : (told : Option (List Row)) (rule : Rule) → IfSome told (λ rows. LoadedFrom rows (Err (loads.Rule rule))) → IfSome told (λ rows. MatterAnswers rows (Err rule))
+kept_rule None rule loaded = tt
+kept_rule (Some []) rule loaded = ap (λ (r : Rule). Err r) loaded
+kept_rule (Some (row ∷ rows)) rule loaded = loaded
+
+kept_matter : (told : Option (List Row)) (tables : Shown) → IsValid tables.matter → IfSome told (λ rows. LoadedFrom rows (Ok tables)) → IfSome told (λ rows. MatterAnswers rows (Ok tables.matter))
+kept_matter None tables valid loaded = tt
+kept_matter (Some []) tables valid loaded = absurd loaded
+kept_matter (Some (row ∷ rows)) tables valid loaded = (valid, loaded.0)
+
+-- rows that were loaded are those of the matter
+keeps_matter : (told : Option (List Row)) (tables : Shown) → IfSome told (λ rows. LoadedFrom rows (Ok tables)) → IfSome told (λ rows. rows ≡ rows_of tables.matter)
+keeps_matter None tables loaded = tt
+keeps_matter (Some []) tables loaded = absurd loaded
+keeps_matter (Some (row ∷ rows)) tables loaded = loaded.0
+
+-- rows that one step left and the next kept
+rows_same : (was mid now : Option (List Row)) → SameRows was mid → IfSome now (λ rows. mid ≡ Some rows) → SameRows was now
+rows_same None mid now same left = tt
+rows_same (Some rows) mid None same left = tt
+rows_same (Some rows) None (Some here) same left = let no : None ≡ Some here = left in cc
+rows_same (Some rows) (Some there) (Some here) same left = let is : Some there ≡ Some here = left in let e : there ≡ here = cc in sym e ∙ same
+
+load_left : (before mid : KeeperView) (r : Result Shown LoadRefusal) (count : ℕ) → LoadsTables before r mid → mid.faults ≡ count → KeeperLeft None count before mid
+load_left before mid r count loads faults = record { rows = loads.same; faults = faults; sure = loads.sure }
+
+-- ---- loading stopped
+
+load_stops : SomeBatch → (name : List ℕ) (s : SourceView) (before mid : KeeperView) (refusal : LoadRefusal) → LoadsTables before (Err refusal) mid → (stop : Stop) → StopsForLoad refusal stop → ImportEnds name s before (Err stop) s mid
+load_stops some name s before mid (loads.Rule rule) loaded stop is = λ folder.
+    subst (λ (x : Stop). Ends (uses_of (import name)) (IsOutcome (import name) (world s before folder)) (world s before folder) (Err x) (world s mid folder)) (sym is)
+    (let found = some_found some s.files (chars name) in
+    record {
+      outcome = record { tables = Err rule; kept = kept_rule before.rows rule loaded.told_before; batch = found.0; found = found.1; gives = refl };
+      source = load_calm s rule.kind loaded.rule;
+      keeper = load_left before mid (Err (loads.Rule rule)) before.faults loaded loaded.faults;
+      folder = refl;
+    })
+load_stops some name s before mid loads.KeeperFault loaded stop is = λ folder.
+    subst (λ (x : Stop). Ends (uses_of (import name)) (IsOutcome (import name) (world s before folder)) (world s before folder) (Err x) (world s mid folder)) (sym is)
+    (record { used = refl; source = refl; keeper = load_left before mid (Err loads.KeeperFault) (risen before.faults) loaded loaded.faults; folder = refl })
+load_stops some name s before mid loads.OutOfMemory loaded stop is = λ folder.
+    subst (λ (x : Stop). Ends (uses_of (import name)) (IsOutcome (import name) (world s before folder)) (world s before folder) (Err x) (world s mid folder)) (sym is)
+    (untouched refl (load_left before mid (Err loads.OutOfMemory) before.faults loaded loaded.faults) refl)
+
+pub load_refused : SomeBatch → (name : List ℕ) (s : SourceView) (before mid : KeeperView) (refusal : LoadRefusal) (r : Ending) → LoadsTables before (Err refusal) mid → IsErr r → IsErrAnd r (StopsForLoad refusal) → ImportEnds name s before r s mid
+load_refused some name s before mid refusal r loaded is stop =
+    by_stop (λ e. ImportEnds name s before e s mid) (StopsForLoad refusal) r is stop (load_stops some name s before mid refusal loaded)
+
+-- ---- the tables were loaded, and memory ran out
+
+lacks : (name : List ℕ) (s : SourceView) (before mid : KeeperView) (tables : Shown) → LoadsTables before (Ok tables) mid → ImportEnds name s before (Err stops.OutOfMemory) s mid
+lacks name s before mid tables loaded = λ folder. untouched refl (load_left before mid (Ok tables) before.faults loaded loaded.faults) refl
+
+pub lacked : (name : List ℕ) (s : SourceView) (before mid : KeeperView) (tables : Shown) (r : Ending) → LoadsTables before (Ok tables) mid → IsErr r → IsErrAnd r (λ x. x ≡ stops.OutOfMemory) → ImportEnds name s before r s mid
+lacked name s before mid tables r loaded is stop =
+    by_stop (λ e. ImportEnds name s before e s mid) (λ x. x ≡ stops.OutOfMemory) r is stop
+    (λ x same. subst (λ (y : Stop). ImportEnds name s before (Err y) s mid) (sym same) (lacks name s before mid tables loaded))
+
+-- ---- reading the batch stopped
+
+told_rule : (told : Option FileMap) (name : List ℕ) (rule : Rule) → IfSome told (λ files. Comes {X = BatchShown} (λ b. b) (BatchAnswers files name) (Err (imports.Rule rule))) → IfSome told (λ there. BatchAnswers there name (Err rule))
+told_rule None name rule is = tt
+told_rule (Some files) name rule is = is
+
+read_stops : (name text : List ℕ) (s s' : SourceView) (before mid : KeeperView) (tables : Shown) (refusal : ImportRefusal) → text ≡ chars name → IsValid tables.matter → LoadsTables before (Ok tables) mid
+    → IfSome s.files (λ files. Comes {X = BatchShown} (λ b. b) (BatchAnswers files text) (Err refusal)) → s' ≡ after_step {X = BatchShown} s (Err refusal)
+    → (stop : Stop) → StopsForBatch refusal stop → ImportEnds name s before (Err stop) s' mid
+read_stops name text s s' before mid tables (imports.Rule rule) named valid loaded told now stop is = λ folder.
+    subst (λ (x : Stop). Ends (uses_of (import name)) (IsOutcome (import name) (world s before folder)) (world s before folder) (Err x) (world s' mid folder)) (sym is)
+    (record {
+      outcome = record {
+        tables = Ok tables.matter;
+        kept = kept_matter before.rows tables valid loaded.told_before;
+        batch = Err rule;
+        found = subst (λ (t : List ℕ). IfSome s.files (λ there. BatchAnswers there t (Err rule))) named (told_rule s.files text rule told);
+        gives = refl;
+      };
+      source = now;
+      keeper = load_left before mid (Ok tables) before.faults loaded loaded.faults;
+      folder = refl;
+    })
+read_stops name text s s' before mid tables imports.SourceFault named valid loaded told now stop is = λ folder.
+    subst (λ (x : Stop). Ends (uses_of (import name)) (IsOutcome (import name) (world s before folder)) (world s before folder) (Err x) (world s' mid folder)) (sym is)
+    (record { used = refl; source = now; keeper = load_left before mid (Ok tables) before.faults loaded loaded.faults; folder = refl })
+read_stops name text s s' before mid tables imports.OutOfMemory named valid loaded told now stop is = λ folder.
+    subst (λ (x : Stop). Ends (uses_of (import name)) (IsOutcome (import name) (world s before folder)) (world s before folder) (Err x) (world s' mid folder)) (sym is)
+    (untouched now (load_left before mid (Ok tables) before.faults loaded loaded.faults) refl)
+
+pub read_refused : (name text : List ℕ) (s s' : SourceView) (before mid : KeeperView) (tables : Shown) (refusal : ImportRefusal) (r : Ending) → text ≡ chars name → IsValid tables.matter → LoadsTables before (Ok tables) mid
+    → IfSome s.files (λ files. Comes {X = BatchShown} (λ b. b) (BatchAnswers files text) (Err refusal)) → s' ≡ after_step {X = BatchShown} s (Err refusal)
+    → IsErr r → IsErrAnd r (StopsForBatch refusal) → ImportEnds name s before r s' mid
+read_refused name text s s' before mid tables refusal r named valid loaded told now is stop =
+    by_stop (λ e. ImportEnds name s before e s' mid) (StopsForBatch refusal) r is stop (read_stops name text s s' before mid tables refusal named valid loaded told now)
+
+-- ---- the step stopped
+
+told_batch : (told : Option FileMap) (name : List ℕ) (b : BatchShown) → IfSome told (λ files. Comes {X = BatchShown} (λ x. x) (BatchAnswers files name) (Ok b)) → IfSome told (λ there. BatchAnswers there name (Ok b))
+told_batch None name b is = tt
+told_batch (Some files) name b is = is
+
+-- the outcome, by what the import of the batch comes to
+outcome_of : (name text : List ℕ) (s : SourceView) (before mid : KeeperView) (tables : Shown) (b : BatchShown) (answer : Result Imported Rule) → text ≡ chars name → IsValid tables.matter → LoadsTables before (Ok tables) mid
+    → IfSome s.files (λ files. Comes {X = BatchShown} (λ x. x) (BatchAnswers files text) (Ok b)) → import_of tables.matter b ≡ answer → ImportOutcome name s.files before.rows (step_gives name tables.matter answer)
+outcome_of name text s before mid tables b answer named valid loaded told is = record {
+  tables = Ok tables.matter;
+  kept = kept_matter before.rows tables valid loaded.told_before;
+  batch = Ok b;
+  found = subst (λ (t : List ℕ). IfSome s.files (λ there. BatchAnswers there t (Ok b))) named (told_batch s.files text b told);
+  gives = ap (step_gives name tables.matter) is;
+}
+
+stays_left : (before mid k' : KeeperView) (tables : Shown) (m m' : Matter) (count : ℕ) → LoadsTables before (Ok tables) mid → Stays m mid count m' k' → KeeperLeft None count before k'
+stays_left before mid k' tables m m' count loaded stays =
+    record { rows = rows_same before.rows mid.rows k'.rows loaded.same stays.rows; faults = stays.faults; sure = stays.sure ∙ loaded.sure }
+
+count_left : (before after : KeeperView) (count count' : ℕ) → count ≡ count' → KeeperLeft None count before after → KeeperLeft None count' before after
+count_left before after count count' same left = record { rows = left.rows; faults = left.faults ∙ same; sure = left.sure }
+
+step_stops : (name text : List ℕ) (s s' : SourceView) (before mid k' : KeeperView) (tables : Shown) (b : BatchShown) (m' : Matter) (refusal : StepRefusal) → text ≡ chars name → IsValid tables.matter → LoadsTables before (Ok tables) mid
+    → IfSome s.files (λ files. Comes {X = BatchShown} (λ x. x) (BatchAnswers files text) (Ok b)) → s' ≡ s → StepsImport tables.matter b mid (Err refusal) m' k'
+    → (stop : Stop) → StopsForStep refusal stop → ImportEnds name s before (Err stop) s' k'
+step_stops name text s s' before mid k' tables b m' (steps.Rule rule) named valid loaded told now step stop is = λ folder.
+    subst (λ (x : Stop). Ends (uses_of (import name)) (IsOutcome (import name) (world s before folder)) (world s before folder) (Err x) (world s' k' folder)) (sym is)
+    (record {
+      outcome = outcome_of name text s before mid tables b (Err rule) named valid loaded told step.0;
+      source = now ∙ step_calm s tables.matter b rule step.0;
+      keeper = subst (λ (k : KeeperView). KeeperLeft None before.faults before k) (sym step.2) (load_left before mid (Ok tables) before.faults loaded loaded.faults);
+      folder = refl;
+    })
+step_stops name text s s' before mid k' tables b m' steps.KeeperFault named valid loaded told now step stop is = λ folder.
+    subst (λ (x : Stop). Ends (uses_of (import name)) (IsOutcome (import name) (world s before folder)) (world s before folder) (Err x) (world s' k' folder)) (sym is)
+    (record {
+      used = refl;
+      source = now;
+      keeper = count_left before k' (risen mid.faults) (risen before.faults) (ap risen loaded.faults) (stays_left before mid k' tables tables.matter m' (risen mid.faults) loaded step.1);
+      folder = refl;
+    })
+step_stops name text s s' before mid k' tables b m' steps.OutOfMemory named valid loaded told now step stop is = λ folder.
+    subst (λ (x : Stop). Ends (uses_of (import name)) (IsOutcome (import name) (world s before folder)) (world s before folder) (Err x) (world s' k' folder)) (sym is)
+    (untouched now (count_left before k' mid.faults before.faults loaded.faults (stays_left before mid k' tables tables.matter m' mid.faults loaded step)) refl)
+
+pub step_refused : (name text : List ℕ) (s s' : SourceView) (before mid k' : KeeperView) (tables : Shown) (b : BatchShown) (m' : Matter) (refusal : StepRefusal) (r : Ending) → text ≡ chars name → IsValid tables.matter → LoadsTables before (Ok tables) mid
+    → IfSome s.files (λ files. Comes {X = BatchShown} (λ x. x) (BatchAnswers files text) (Ok b)) → s' ≡ s → StepsImport tables.matter b mid (Err refusal) m' k'
+    → IsErr r → IsErrAnd r (StopsForStep refusal) → ImportEnds name s before r s' k'
+step_refused name text s s' before mid k' tables b m' refusal r named valid loaded told now step is stop =
+    by_stop (λ e. ImportEnds name s before e s' k') (StopsForStep refusal) r is stop (step_stops name text s s' before mid k' tables b m' refusal named valid loaded told now step)
+
+-- ---- the step was made
+
+-- the rows of the matter after the import stand
+made_left : (before mid k' : KeeperView) (tables : Shown) (b : BatchShown) (counted : Counted) (m' : Matter) → LoadsTables before (Ok tables) mid → (made : ImportMade tables.matter b mid counted m' k') → KeeperLeft (Some (rows_of (after tables.matter made.imported.change))) before.faults before k'
+made_left before mid k' tables b counted m' loaded made = record {
+  rows = subst (λ (m : Matter). IfSome k'.rows (λ now. now ≡ rows_of m)) made.made.matter (made.made.kept (keeps_matter mid.rows tables loaded.told_after));
+  faults = made.made.faults ∙ loaded.faults;
+  sure = made.made.sure ∙ loaded.sure;
+}
+
+made_outcome : (name text : List ℕ) (s : SourceView) (before mid k' : KeeperView) (tables : Shown) (b : BatchShown) (counted : Counted) (m' : Matter) → text ≡ chars name → IsValid tables.matter → LoadsTables before (Ok tables) mid
+    → IfSome s.files (λ files. Comes {X = BatchShown} (λ x. x) (BatchAnswers files text) (Ok b)) → (made : ImportMade tables.matter b mid counted m' k')
+    → ImportOutcome name s.files before.rows (done (imported_line name counted) [] (Some (rows_of (after tables.matter made.imported.change))))
+made_outcome name text s before mid k' tables b counted m' named valid loaded told made =
+    subst (λ (n : Counted). ImportOutcome name s.files before.rows (done (imported_line name n) [] (Some (rows_of (after tables.matter made.imported.change))))) (sym made.numbers)
+    (outcome_of name text s before mid tables b (Ok made.imported) named valid loaded told made.answer)
+
+pub imports_made : (name text : List ℕ) (s s' : SourceView) (before mid k' : KeeperView) (tables : Shown) (b : BatchShown) (counted : Counted) (m' : Matter) (line : List ℕ) → text ≡ chars name → IsValid tables.matter → LoadsTables before (Ok tables) mid
+    → IfSome s.files (λ files. Comes {X = BatchShown} (λ x. x) (BatchAnswers files text) (Ok b)) → s' ≡ s → ImportMade tables.matter b mid counted m' k' → line ≡ imported_line name counted → ImportEnds name s before (Ok line) s' k'
+imports_made name text s s' before mid k' tables b counted m' line named valid loaded told now made printed = λ folder.
+    let rows : List Row = rows_of (after tables.matter made.imported.change) in
+    record {
+      files = [];
+      rows = Some rows;
+      outcome = subst (λ (l : List ℕ). ImportOutcome name s.files before.rows (done l [] (Some rows))) (sym printed)
+          (made_outcome name text s before mid k' tables b counted m' named valid loaded told made);
+      source = now;
+      keeper = made_left before mid k' tables b counted m' loaded made;
+      folder = refl;
+    }
+
+-- and memory for the line ran out
+pub line_lacked : (name text : List ℕ) (s s' : SourceView) (before mid k' : KeeperView) (tables : Shown) (b : BatchShown) (counted : Counted) (m' : Matter) (r : Ending) → text ≡ chars name → IsValid tables.matter → LoadsTables before (Ok tables) mid
+    → IfSome s.files (λ files. Comes {X = BatchShown} (λ x. x) (BatchAnswers files text) (Ok b)) → s' ≡ s → ImportMade tables.matter b mid counted m' k' → IsErr r → IsErrAnd r (λ x. x ≡ stops.OutOfMemory) → ImportEnds name s before r s' k'
+line_lacked name text s s' before mid k' tables b counted m' r named valid loaded told now made is stop =
+    by_stop (λ e. ImportEnds name s before e s' k') (λ x. x ≡ stops.OutOfMemory) r is stop
+    (λ x same. subst (λ (y : Stop). ImportEnds name s before (Err y) s' k') (sym same)
+    (λ folder. kept (imported_line name counted) [] (Some (rows_of (after tables.matter made.imported.change)))
+    (made_outcome name text s before mid k' tables b counted m' named valid loaded told made) now (made_left before mid k' tables b counted m' loaded made) refl))

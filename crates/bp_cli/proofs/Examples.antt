@@ -1,5 +1,5 @@
 -- Worked examples of the definitions in specs/, each run by the check.
-use Rattle.std.proofs.Common.{ℕ, ◌≡◌, Bool, true, false, List, [], ◌∷◌, ◌++◌, Some, None, Ok, Err, refl}
+use Rattle.std.proofs.Common.{ℕ, ◌≡◌, Bool, true, false, List, [], ◌∷◌, ◌++◌, replicate, Some, None, Ok, Err, refl}
 use Rattle.std.specs.Prelude.{codes}
 use Rattle.std.specs.Fmt.{digits}
 use Rattle.std.specs.Str.{chars}
@@ -17,9 +17,14 @@ use Rattle.bp_core.specs.declared.rectangle.Rect.{Rect}
 use Rattle.bp_cli.specs.Burn.{BurnLine, PathAnswers, burn_page, burn_read, burn_gives, paths_of}
 use Rattle.hex.proofs.OnLiterals.{hex_on_literals}
 use Rattle.bp_core.specs.declared.kept.Row.{Row}
+use Rattle.bp_matter.specs.Batches.{BatchShown}
 use Rattle.bp_matter.specs.Fields.{word}
+use Rattle.bp_matter.specs.Matter.{Matter}
+use Rattle.bp_rules.specs.Beginning.{begun}
+use Rattle.bp_rules.specs.Importing.{import_of}
+use Rattle.bp_cli.specs.Import.{MatterAnswers, import_gives}
 use Rattle.bp_cli.specs.Init.{digest_of, init_gives}
-use Rattle.bp_cli.specs.Commands.{burn, init, command_of}
+use Rattle.bp_cli.specs.Commands.{burn, init, import, command_of}
 use Rattle.bp_cli.specs.Endings.{done, refused, status_of, text_of}
 use Rattle.bp_cli.specs.Runs.{all_statuses}
 use Rattle.bp_cli.specs.declared.burn.TheConstants.{FILE_LIMIT}
@@ -120,6 +125,53 @@ matter_made = refl
 
 matter_there : init_gives abc_bytes (lead_row ∷ []) ≡ refused (bare_rule kinds.MatterThere)
 matter_there = refl
+
+-- ---- import
+
+import_line : command_of (codes "import" ∷ codes "B0" ∷ []) ≡ Some (import (codes "B0"))
+import_line = refl
+
+import_alone : command_of (codes "import" ∷ []) ≡ None
+import_alone = refl
+
+import_more : command_of (codes "import" ∷ codes "B0" ∷ codes "B1" ∷ []) ≡ None
+import_more = refl
+
+no_matter : MatterAnswers [] (Err (bare_rule kinds.NoMatter))
+no_matter = refl
+
+-- a matter that is missing comes before a name that is refused
+matter_first : import_gives (codes "a b") (Err (bare_rule kinds.NoMatter)) (Err (bare_rule kinds.PathRefused)) ≡ refused (bare_rule kinds.NoMatter)
+matter_first = refl
+
+-- the batch B0 without fields and documents, whose files have this digest
+empty_batch : ℕ → BatchShown
+empty_batch n = record { name = codes "B0"; digest = replicate 32 n; fields = []; docs = [] }
+
+-- its kept row: version, the digest, no document, no page, and `B0`
+batch_kept : Row
+batch_kept =
+    record { kind = 11; k1 = 1; k2 = 0; body = 1 ∷ (replicate 32 7 ++ (0 ∷ 0 ∷ 0 ∷ 0 ∷ 0 ∷ 0 ∷ 0 ∷ 0 ∷ 2 ∷ 0 ∷ 0 ∷ 0 ∷ codes "B0")) }
+
+batch_imported : import_gives (codes "B0") (Ok (begun abc_bytes)) (Ok (empty_batch 7)) ≡ done (codes "batch B0 documents 0 pages 0\n") [] (Some (lead_row ∷ batch_kept ∷ []))
+unfolding abc_bytes lead_row batch_kept empty_batch import_of word digits lib.Utf8.encode
+batch_imported = refl
+
+-- the matter with that batch
+with_batch : Matter
+with_batch = record (begun abc_bytes) {
+  batches = record { num = 1; digest = replicate 32 7; documents = 0; pages = 0; name = codes "B0" } ∷ [];
+}
+
+-- again: the same line, and nothing changed
+batch_again : import_gives (codes "B0") (Ok with_batch) (Ok (empty_batch 7)) ≡ done (codes "batch B0 documents 0 pages 0\n") [] (Some (lead_row ∷ batch_kept ∷ []))
+unfolding abc_bytes lead_row batch_kept empty_batch with_batch import_of word digits lib.Utf8.encode
+batch_again = refl
+
+-- other files under that name
+batch_differs : import_gives (codes "B0") (Ok with_batch) (Ok (empty_batch 8)) ≡ refused (bare_rule kinds.BatchDiffers)
+unfolding empty_batch with_batch import_of
+batch_differs = refl
 
 -- ---- the file, or the first broken rule
 

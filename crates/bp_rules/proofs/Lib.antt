@@ -8,3 +8,4 @@ pub mod DecidingLemmas
 pub mod LoadLemmas
 pub mod RoomLemmas
 pub mod Examples
+pub mod StepExamples

@@ -1,9 +1,14 @@
 pub mod Beginning
+pub mod Calling
 pub mod Changes
 pub mod Importing
 pub mod ImportRows
 pub mod Limits
 pub mod Loading
+pub mod Refusing
+pub mod Roles
 pub mod Room
+pub mod Running
+pub mod Stepping
 pub mod Steps
 pub mod Written

@@ -13,6 +13,7 @@ mod import_rows;
 mod importing;
 mod limits;
 mod loading;
+mod roles;
 mod stepping;
 #[cfg(test)]
 mod tests;
@@ -22,4 +23,5 @@ pub use beginning::begin;
 pub use changes::{Change, Edit, ImportRows};
 pub use importing::{Imported, decide_import};
 pub use loading::{LoadRefusal, load_tables};
+pub use roles::may;
 pub use stepping::{Counted, StepRefusal, step_import};

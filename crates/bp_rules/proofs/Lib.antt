@@ -1,11 +1,17 @@
 pub mod ListLemmas
+pub mod FoundLemmas
 pub mod DocLemmas
 pub mod PageLemmas
 pub mod ProductionLemmas
 pub mod ImportLemmas
 pub mod PutLemmas
+pub mod RowPutLemmas
 pub mod DecidingLemmas
 pub mod LoadLemmas
 pub mod RoomLemmas
+pub mod CallLemmas
+pub mod MarkLemmas
+pub mod StaffLemmas
+pub mod EditLemmas
 pub mod Examples
 pub mod StepExamples

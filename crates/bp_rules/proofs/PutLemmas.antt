@@ -12,7 +12,7 @@ use Rattle.bp_rules.specs.Changes.{put_of, rows_kept, with_rows}
 use Rattle.bp_rules.specs.declared.changes.ImportRows.{ImportRows}
 
 -- a row that is there, or one that is put
-data Strand : Type 0 where
+pub data Strand : Type 0 where
   old : Row → Strand
   new : Row → Strand
 
@@ -32,13 +32,13 @@ news (old row ∷ w) = news w
 news (new row ∷ w) = row ∷ news w
 
 -- rows above all others are put before them
-put-first : (x : Row) (rows : List Row) → ascends row_key (row_key x + 1) rows ≡ true → put row_key x rows ≡ x ∷ rows
+pub put-first : (x : Row) (rows : List Row) → ascends row_key (row_key x + 1) rows ≡ true → put row_key x rows ≡ x ∷ rows
 put-first x [] up = refl
 put-first x (y ∷ rows) up =
     let above : row_key x + 1 ≤ row_key y = leb-true (row_key x + 1) (row_key y) (and_parts (leb (row_key x + 1) (row_key y)) (ascends row_key (row_key y + 1) rows) up).0 in
     rw (lt-ltb (row_key x) (row_key y) (omega arith)) refl
 
-put-later : (x y : Row) (rows : List Row) → row_key x + 1 ≤ row_key y → put row_key y (x ∷ rows) ≡ x ∷ put row_key y rows
+pub put-later : (x y : Row) (rows : List Row) → row_key x + 1 ≤ row_key y → put row_key y (x ∷ rows) ≡ x ∷ put row_key y rows
 put-later x y rows lt = rw (le-ltb (row_key y) (row_key x) (omega arith), ne_eqb (row_key y) (row_key x) (λ e. omega arith)) refl
 
 -- a part of a list in order is in order
@@ -81,16 +81,28 @@ strands-put low (new x ∷ w) up =
     ∙ puts-later x (news w) (olds w) (news-ascend (row_key x + 1) w rest) ∙ ap (λ (l : List Row). x ∷ l) (strands-put (row_key x + 1) w rest)
 
 -- what runs of strands are made of
-record Weaves (before puts after : List Row) : Type 0 where
-  strands : List Strand
-  is_old : olds strands ≡ before
-  is_new : news strands ≡ puts
-  is_all : map row_in strands ≡ after
+pub record Weaves (before puts after : List Row) : Type 0 where
+  pub strands : List Strand
+  pub is_old : olds strands ≡ before
+  pub is_new : news strands ≡ puts
+  pub is_all : map row_in strands ≡ after
 
-keep : {before puts after : List Row} (rows : List Row) → Weaves before puts after → Weaves (rows ++ before) puts (rows ++ after)
+pub keep : {before puts after : List Row} (rows : List Row) → Weaves before puts after → Weaves (rows ++ before) puts (rows ++ after)
 keep [] w = w
 keep (row ∷ rows) w =
     let rest = keep rows w in
+    record {
+      strands = old row ∷ rest.strands;
+      is_old = ap (λ (l : List Row). row ∷ l) rest.is_old;
+      is_new = rest.is_new;
+      is_all = ap (λ (l : List Row). row ∷ l) rest.is_all;
+    }
+
+-- rows that stay
+pub still : (rows : List Row) → Weaves rows [] rows
+still [] = record { strands = []; is_old = refl; is_new = refl; is_all = refl }
+still (row ∷ rows) =
+    let rest = still rows in
     record {
       strands = old row ∷ rest.strands;
       is_old = ap (λ (l : List Row). row ∷ l) rest.is_old;
@@ -110,13 +122,13 @@ add (row ∷ rows) w =
     }
 
 -- the rows of a list, and those that are added behind
-grow : {T : Type 0} (kept : T → Row) {before puts after : List Row} (xs ys : List T) → Weaves before puts after → Weaves (map kept xs ++ before) (map kept ys ++ puts) (map kept (xs ++ ys) ++ after)
+pub grow : {T : Type 0} (kept : T → Row) {before puts after : List Row} (xs ys : List T) → Weaves before puts after → Weaves (map kept xs ++ before) (map kept ys ++ puts) (map kept (xs ++ ys) ++ after)
 grow kept {before} {puts} {after} xs ys w =
     let parts : map kept xs ++ (map kept ys ++ after) ≡ map kept (xs ++ ys) ++ after =
     sym (append_assoc (map kept xs) (map kept ys) after) ∙ ap (λ (l : List Row). l ++ after) (sym (map-append kept xs ys)) in
     subst (λ (l : List Row). Weaves (map kept xs ++ before) (map kept ys ++ puts) l) parts (keep (map kept xs) (add (map kept ys) w))
 
-nothing : Weaves [] [] []
+pub nothing : Weaves [] [] []
 nothing = record { strands = []; is_old = refl; is_new = refl; is_all = refl }
 
 -- the same of the last list
@@ -127,7 +139,7 @@ last kept xs ys =
     (subst (λ (l : List Row). Weaves (map kept xs) l (map kept (xs ++ ys) ++ [])) (append-nil (map kept ys))
     (subst (λ (l : List Row). Weaves l (map kept ys ++ []) (map kept (xs ++ ys) ++ [])) (append-nil (map kept xs)) w))
 
-weaves-put : (before puts after : List Row) → Weaves before puts after → ascends row_key 0 after ≡ true → put_all (map put_of puts) before ≡ after
+pub weaves-put : (before puts after : List Row) → Weaves before puts after → ascends row_key 0 after ≡ true → put_all (map put_of puts) before ≡ after
 weaves-put before puts after w up =
     let strands_up : ascends row_key 0 (map row_in w.strands) ≡ true = ap (ascends row_key 0) w.is_all ∙ up in
     ap (λ (l : List Row). put_all (map put_of l) before) (sym w.is_new)

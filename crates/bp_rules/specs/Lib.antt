@@ -1,6 +1,7 @@
 pub mod Beginning
 pub mod Calling
 pub mod Changes
+pub mod Deciding
 pub mod Importing
 pub mod ImportRows
 pub mod Limits

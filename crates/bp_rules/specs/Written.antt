@@ -1,10 +1,14 @@
 -- The rows of a change have a writing.
-use Rattle.std.specs.Prelude.{IsTrue}
+use Rattle.std.specs.Prelude.{Bool, IsTrue, true}
 use Rattle.std.specs.List.{list_all}
-use Rattle.bp_matter.specs.Written.{batch_written, doc_written, field_written, page_written, words_written}
+use Rattle.bp_matter.specs.Written.{batch_written, box_written, call_written, doc_written, entry_written, field_written, held_written, page_written, staff_written, words_written}
+use Rattle.bp_rules.specs.declared.changes.CallEdit.{CallEdit}
+use Rattle.bp_rules.specs.declared.changes.CallEdit.TheVariants as call_edits
 use Rattle.bp_rules.specs.declared.changes.Edit.{Edit}
-use Rattle.bp_rules.specs.declared.changes.Edit.TheVariants.{Import, Nothing}
+use Rattle.bp_rules.specs.declared.changes.Edit.TheVariants.{Import, Nothing, Review, Staff}
 use Rattle.bp_rules.specs.declared.changes.ImportRows.{ImportRows}
+use Rattle.bp_rules.specs.declared.changes.MarkEdit.{MarkEdit}
+use Rattle.bp_rules.specs.declared.changes.MarkEdit.TheVariants as mark_edits
 
 -- the rows of an import have one
 pub record RowsWritten (rows : ImportRows) : Type 0 where
@@ -14,7 +18,20 @@ pub record RowsWritten (rows : ImportRows) : Type 0 where
   pub batch : IsTrue (batch_written rows.batch)
   pub words : IsTrue (list_all words_written rows.words)
 
--- and so do those of any change
+-- a row that is put has one
+abbrev pub call_edit_written : CallEdit → Bool
+call_edit_written (call_edits.Put row) = call_written row
+call_edit_written _ = true
+
+abbrev pub mark_edit_written : MarkEdit → Bool
+mark_edit_written (mark_edits.PutBox row) = box_written row
+mark_edit_written (mark_edits.PutHeld row) = held_written row
+mark_edit_written (mark_edits.PutEntry row) = entry_written row
+mark_edit_written _ = true
+
+-- and so do the rows of any change
 abbrev pub EditWritten : Edit → Type 0
 EditWritten Nothing = Unit {0}
 EditWritten (Import rows) = RowsWritten rows
+EditWritten (Staff row) = IsTrue (staff_written row)
+EditWritten (Review call mark) = IsTrue (call_edit_written call) × IsTrue (mark_edit_written mark)

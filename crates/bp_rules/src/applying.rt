@@ -1,12 +1,19 @@
 // Making a decided change.
-ghost use Rattle.std.specs.Prelude.{[], ◌≡◌, ◌≤◌, ◌++◌, ◌∷◌, length, OnOk};
+ghost use Rattle.std.specs.Prelude.{[], ◌≡◌, ◌≤◌, ◌++◌, ◌∷◌, length, IsTrue, OnOk};
+ghost use Rattle.bp_core.specs.Sorted.{ascends, put};
+ghost use Rattle.bp_matter.specs.Matter.{call_key};
 ghost use Rattle.bp_matter.specs.Valid.{IsValid};
-ghost use Rattle.bp_rules.specs.Changes.{after, puts_of, rows_kept, with_rows};
-ghost use Rattle.bp_rules.specs.Room.{HasRoom, HasRoomForFour, HasRoomForRows};
+ghost use Rattle.bp_rules.specs.Calling.{with_staff};
+ghost use Rattle.bp_rules.specs.Changes.{after, boxes_after, call_puts, calls_after, entries_after, held_after, mark_puts, puts_of, rows_kept, with_rows};
+ghost use Rattle.bp_rules.specs.Room.{HasRoom, HasRoomForEdit, HasRoomForFour, HasRoomForRows, ListsAscend};
+ghost use Rattle.bp_rules.specs.declared.changes.Edit.TheVariants.{Review};
 
-use crate::changes::{Change, Edit, ImportRows};
-use bp_core::{ListOf, OutOfMemory};
-use bp_matter::{BatchRow, DocRow, FieldRow, PageRow, PageWords, Tables};
+use crate::changes::{CallEdit, Change, Edit, ImportRows, MarkEdit};
+use bp_core::{Keyed, ListOf, OutOfMemory, put_row, remove_row, two_keys};
+use bp_matter::{
+    BatchRow, CallRow, DocBox, DocEntry, DocHeld, DocRow, FieldRow, PageRow, PageWords, StaffRow,
+    Tables,
+};
 
 /// Makes room in each list for as many rows as the change has puts. The contents stay as they are.
 pub fn make_room(tables: &mut Tables, change: &Change) -> Result<(), OutOfMemory>
@@ -68,7 +75,87 @@ pub fn apply(tables: &mut Tables, change: Change)
     match change.into_edit() {
         Edit::Nothing => {}
         Edit::Import(rows) => add_rows(tables, rows),
+        Edit::Staff(row) => add_staff(tables, row),
+        Edit::Review(call, mark) => edit_rows(tables, call, mark),
     }
+}
+
+fn add_staff(tables: &mut Tables, row: StaffRow)
+    requires valid { IsValid (with_staff row tables.old.matter) }
+    requires room { 1 ≤ tables.old.spare }
+    ensures { tables.new.matter ≡ with_staff row tables.old.matter }
+{
+    push_staff(&mut tables.staff, row);
+}
+
+fn push_staff(staff: &mut Vec<StaffRow>, row: StaffRow)
+    requires { HasRoom 1 staff.old }
+    ensures { staff.new.items ≡ staff.old.items ++ row ∷ [] }
+{
+    let _ = staff.push(row);
+}
+
+// Changes the rows of a document. Between the lists the tables need not be valid.
+fn edit_rows(tables: &mut Tables, call: CallEdit, mark: MarkEdit)
+    requires valid { IsValid (after tables.old.matter (Review call mark)) }
+    requires room { length (call_puts call ++ mark_puts mark) ≤ tables.old.spare }
+    ensures { tables.new.matter ≡ after tables.old.matter (Review call mark) }
+{
+    edit_lists(
+        &mut tables.calls,
+        &mut tables.boxes,
+        &mut tables.held,
+        &mut tables.entries,
+        call,
+        mark,
+    );
+}
+
+fn edit_lists(
+    calls: &mut Vec<CallRow>,
+    boxes: &mut Vec<DocBox>,
+    held: &mut Vec<DocHeld>,
+    entries: &mut Vec<DocEntry>,
+    call: CallEdit,
+    mark: MarkEdit,
+)
+    requires order { ListsAscend calls.old.items boxes.old.items held.old.items entries.old.items }
+    requires room { HasRoomForEdit calls.old boxes.old held.old entries.old call mark }
+    ensures calls { calls.new.items ≡ calls_after call calls.old.items }
+    ensures boxes { boxes.new.items ≡ boxes_after mark boxes.old.items }
+    ensures held { held.new.items ≡ held_after mark held.old.items }
+    ensures entries { entries.new.items ≡ entries_after mark entries.old.items }
+{
+    edit_call(calls, call);
+    match mark {
+        MarkEdit::Stays => {}
+        MarkEdit::PutBox(row) => put_in(boxes, row),
+        MarkEdit::DropBox(doc, num) => remove_row(boxes, two_keys(doc.0, num)),
+        MarkEdit::PutHeld(row) => put_in(held, row),
+        MarkEdit::DropHeld(doc, field) => remove_row(held, two_keys(doc.0, field)),
+        MarkEdit::PutEntry(row) => put_in(entries, row),
+    }
+}
+
+fn edit_call(calls: &mut Vec<CallRow>, call: CallEdit)
+    requires order { IsTrue (ascends call_key 0 calls.old.items) }
+    requires room { HasRoom (length (call_puts call)) calls.old }
+    ensures { calls.new.items ≡ calls_after call calls.old.items }
+{
+    match call {
+        CallEdit::Stays => {}
+        CallEdit::Put(row) => put_in(calls, row),
+        CallEdit::Gone(doc) => remove_row(calls, u128::from(doc.0)),
+    }
+}
+
+// Puts a row into a list that has room for it.
+fn put_in<T: Keyed + Drop>(rows: &mut Vec<T>, row: T)
+    requires order { IsTrue (ascends T.key_of 0 rows.old.items) }
+    requires room { HasRoom 1 rows.old }
+    ensures { rows.new.items ≡ put T.key_of row rows.old.items }
+{
+    let _ = put_row(rows, row);
 }
 
 // Adds the rows of an import. Between the lists the tables need not be valid.

@@ -1,11 +1,16 @@
 // Changes of a matter, and the puts that keep them.
 ghost use Rattle.std.specs.Prelude.{◌≡◌, ◌++◌, ◌∷◌, [], IfOk, OnOk, IsTrue, map};
 ghost use Rattle.std.specs.List.{list_all};
-ghost use Rattle.bp_rules.specs.Changes.{put_of, puts_of, rows_kept};
-ghost use Rattle.bp_rules.specs.Written.{EditWritten, RowsWritten};
+ghost use Rattle.bp_matter.specs.KeptRows.{staff_kept};
+ghost use Rattle.bp_matter.specs.Written.{staff_written};
+ghost use Rattle.bp_rules.specs.Changes.{call_puts, gone, mark_puts, put_of, puts_of, rows_kept};
+ghost use Rattle.bp_rules.specs.Written.{EditWritten, RowsWritten, call_edit_written, mark_edit_written};
 
-use bp_core::{ListOf, OutOfMemory, Put, PutList, Row};
-use bp_matter::{BatchRow, DocRow, FieldRow, Kind, PageRow, PageWords};
+use bp_core::{DocNo, ListOf, OutOfMemory, Put, PutList, Row};
+use bp_matter::{
+    BatchRow, CallRow, DocBox, DocEntry, DocHeld, DocRow, FieldRow, Kind, PageRow, PageWords,
+    StaffRow,
+};
 use std::alloc::Global;
 use std::marker::Model;
 
@@ -19,13 +24,39 @@ pub struct ImportRows {
     pub words: ListOf<PageWords>,
 }
 
+/// What becomes of the call of a document.
+#[derive(Debug, Drop)]
+pub enum CallEdit {
+    Stays,
+    Put(CallRow),
+    /// This document is uncalled.
+    Gone(DocNo),
+}
+
+/// What becomes of a box, a held field or the log entry of a document.
+#[derive(Debug, Drop)]
+pub enum MarkEdit {
+    Stays,
+    PutBox(DocBox),
+    /// The box of this number goes.
+    DropBox(DocNo, u32),
+    PutHeld(DocHeld),
+    /// The field of this number is free.
+    DropHeld(DocNo, u32),
+    PutEntry(DocEntry),
+}
+
 /// What a change does to the tables.
-// A review call that changes other lists gets a variant here, an arm in `apply` and in `puts_of`
-// below, and a case in `after` and `puts_of` of specs/Changes.antt.
+// A call that changes other lists gets a variant here, an arm in `apply` and in `puts_of` below,
+// and a case in `after` and `puts_of` of specs/Changes.antt.
 #[derive(Debug, Drop)]
 pub enum Edit {
     Nothing,
     Import(ImportRows),
+    /// A member of the staff comes.
+    Staff(StaffRow),
+    /// The call of a document changes, a mark of it, or both.
+    Review(CallEdit, MarkEdit),
 }
 
 /// A change of a matter that was decided. Contracts see its `Edit`; its puts are those of it.
@@ -81,7 +112,64 @@ fn puts_of(alloc: Global, edit: &Edit) -> Result<PutList, OutOfMemory>
     match edit {
         Edit::Nothing => Ok(ListOf::new(alloc)),
         Edit::Import(rows) => import_puts(alloc, rows),
+        Edit::Staff(row) => staff_puts(alloc, row),
+        Edit::Review(call, mark) => review_puts(alloc, call, mark),
     }
+}
+
+fn staff_puts(alloc: Global, row: &StaffRow) -> Result<PutList, OutOfMemory>
+    requires { IsTrue (staff_written row.now) }
+    ensures { IfOk result (λ puts. puts ≡ put_of (staff_kept row.now) ∷ []) }
+{
+    let mut puts = Vec::new(alloc);
+    push_put(alloc, &mut puts, row)?;
+    Ok(ListOf::from_vec(puts))
+}
+
+fn review_puts(alloc: Global, call: &CallEdit, mark: &MarkEdit) -> Result<PutList, OutOfMemory>
+    requires call { IsTrue (call_edit_written call.now) }
+    requires mark { IsTrue (mark_edit_written mark.now) }
+    ensures { IfOk result (λ puts. puts ≡ call_puts call.now ++ mark_puts mark.now) }
+{
+    let mut puts = Vec::new(alloc);
+    push_call(alloc, &mut puts, call)?;
+    push_mark(alloc, &mut puts, mark)?;
+    Ok(ListOf::from_vec(puts))
+}
+
+// Adds the puts of a changed call.
+fn push_call(alloc: Global, puts: &mut Vec<Put>, call: &CallEdit) -> Result<(), OutOfMemory>
+    requires { IsTrue (call_edit_written call.now) }
+    ensures { OnOk result (puts.new.items ≡ puts.old.items ++ call_puts call.now) }
+{
+    match call {
+        CallEdit::Stays => Ok(()),
+        CallEdit::Put(row) => push_put(alloc, puts, row),
+        CallEdit::Gone(doc) => push_gone(puts, 5, doc.0, 0),
+    }
+}
+
+// Adds the puts of a changed mark.
+fn push_mark(alloc: Global, puts: &mut Vec<Put>, mark: &MarkEdit) -> Result<(), OutOfMemory>
+    requires { IsTrue (mark_edit_written mark.now) }
+    ensures { OnOk result (puts.new.items ≡ puts.old.items ++ mark_puts mark.now) }
+{
+    match mark {
+        MarkEdit::Stays => Ok(()),
+        MarkEdit::PutBox(row) => push_put(alloc, puts, row),
+        MarkEdit::DropBox(doc, num) => push_gone(puts, 6, doc.0, *num),
+        MarkEdit::PutHeld(row) => push_put(alloc, puts, row),
+        MarkEdit::DropHeld(doc, field) => push_gone(puts, 7, doc.0, *field),
+        MarkEdit::PutEntry(row) => push_put(alloc, puts, row),
+    }
+}
+
+fn push_gone(puts: &mut Vec<Put>, kind: u8, k1: u32, k2: u32) -> Result<(), OutOfMemory>
+    ensures { OnOk result (puts.new.items ≡ puts.old.items ++ gone kind k1 k2 ∷ []) }
+{
+    let body = None;
+    puts.push(Put { kind, k1, k2, body })?;
+    Ok(())
 }
 
 fn import_puts(alloc: Global, rows: &ImportRows) -> Result<PutList, OutOfMemory>

@@ -8,19 +8,24 @@
 mod applying;
 mod beginning;
 mod changes;
+mod confirming;
 mod copies;
+mod deciding;
 mod import_rows;
 mod importing;
 mod limits;
 mod loading;
+mod refusing;
 mod roles;
 mod stepping;
 #[cfg(test)]
 mod tests;
+mod texts;
 
 pub use applying::{apply, make_room};
 pub use beginning::begin;
-pub use changes::{Change, Edit, ImportRows};
+pub use changes::{CallEdit, Change, Edit, ImportRows, MarkEdit};
+pub use deciding::Decided;
 pub use importing::{Imported, decide_import};
 pub use loading::{LoadRefusal, load_tables};
 pub use roles::may;

@@ -13,5 +13,6 @@ pub mod CallLemmas
 pub mod MarkLemmas
 pub mod StaffLemmas
 pub mod EditLemmas
+pub mod ReviewingLemmas
 pub mod Examples
 pub mod StepExamples

@@ -23,6 +23,7 @@ use Rattle.bp_matter.specs.declared.rows.Entry.{Entry}
 use Rattle.bp_matter.specs.declared.rows.StaffRow.{StaffRow}
 use Rattle.bp_matter.specs.declared.rows.State.{State}
 use Rattle.bp_matter.specs.declared.rows.State.TheVariants.{Confirmed, First, Uncalled}
+use Rattle.bp_rules.specs.Deciding.{EntryScalars}
 use Rattle.bp_rules.specs.Calling.{with_box, with_entry, with_held, without_box, without_held}
 use Rattle.bp_rules.proofs.CallLemmas.{doc-word, is_open}
 use Rattle.bp_rules.proofs.FoundLemmas.{all-found, filter-put, filter-without}
@@ -231,13 +232,6 @@ pub text-short : (limit : ℕ) (t : List ℕ) → limit ≤ 1000 → is_text lim
 text-short limit t few h scalars =
     let bytes : length (encode_utf8_all t) ≤ limit = leb-true (length (encode_utf8_all t)) limit (and_parts (leb (length (encode_utf8_all t)) limit) (list_all is_text_character t) h).0 in
     and_from (all_scalars t) (is_word (length (encode_utf8_all t))) scalars (lt-ltb (length (encode_utf8_all t)) (2 ^ 32) (omega arith))
-
--- the texts of an entry are of Unicode characters
-pub record EntryScalars (e : Entry) : Type 0 where
-  pub date : all_scalars e.date ≡ true
-  pub author : all_scalars e.author ≡ true
-  pub recipients : all_scalars e.recipients ≡ true
-  pub description : all_scalars e.description ≡ true
 
 entry-written : (row : DocEntry) → is_word row.doc.0 ≡ true → entry_fits row.entry ≡ true → EntryScalars row.entry → entry_written row ≡ true
 entry-written row word fits s =

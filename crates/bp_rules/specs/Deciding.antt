@@ -1,13 +1,19 @@
 -- What deciding a call gives.
-use Rattle.std.specs.Prelude.{◌≡◌, ℕ, Bool, false, true, IsTrue, is_some, List, Result, Ok, Err}
+use Rattle.std.specs.Prelude.{◌≡◌, ℕ, Bool, false, true, IsTrue, is_some, length, List, Result, Ok, Err}
+use Rattle.std.specs.Str.{all_scalars}
+use Rattle.bp_core.specs.Sorted.{find_key}
 use Rattle.bp_core.specs.declared.refusals.Refusal.{Refusal}
 use Rattle.bp_core.specs.declared.refusals.Refusal.TheVariants as refusals
 use Rattle.bp_core.specs.declared.rules.Rule.{Rule}
 use Rattle.bp_matter.specs.LookUps.{call_with}
-use Rattle.bp_matter.specs.Matter.{Matter}
+use Rattle.bp_matter.specs.Matter.{Matter, staff_key}
 use Rattle.bp_matter.specs.Valid.{IsValid}
+use Rattle.bp_matter.specs.ValidRows.{names}
+use Rattle.bp_matter.specs.ValidStaff.{checker_there, is_checker}
 use Rattle.bp_matter.specs.declared.calls.Call.{Call}
 use Rattle.bp_matter.specs.declared.calls.Call.TheVariants.{Freeze, GetProduction}
+use Rattle.bp_matter.specs.declared.rows.Entry.{Entry}
+use Rattle.bp_matter.specs.declared.rows.StaffRow.{StaffRow}
 use Rattle.bp_rules.specs.Calling.{box_with, held_with}
 use Rattle.bp_rules.specs.Changes.{CanBeMade, after}
 use Rattle.bp_rules.specs.Stepping.{Stepped}
@@ -56,3 +62,15 @@ pub record CanBeReviewed (m : Matter) (call : CallEdit) (mark : MarkEdit) : Type
   pub whole : IsValid (after m (Review call mark))
   pub call_stands : IsTrue (call_there m call)
   pub mark_stands : IsTrue (mark_there m mark)
+
+-- a member of the staff of a matter, by number
+pub record IsCaller (m : Matter) (row : StaffRow) : Type 0 where
+  pub named : IsTrue (names (length m.staff) row.staff.0)
+  pub checker : IsTrue (is_checker row.role) → IsTrue (checker_there (find_key staff_key row.staff.0 m.staff))
+
+-- the texts of a log entry are of Unicode characters
+pub record EntryScalars (e : Entry) : Type 0 where
+  pub date : IsTrue (all_scalars e.date)
+  pub author : IsTrue (all_scalars e.author)
+  pub recipients : IsTrue (all_scalars e.recipients)
+  pub description : IsTrue (all_scalars e.description)

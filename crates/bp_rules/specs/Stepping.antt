@@ -1,6 +1,6 @@
 -- One call on a matter: its reply and the matter after it, or the first rule that it breaks. Each
 -- call tests its rules in their order, and then says what it does.
-use Rattle.std.specs.Prelude.{Bool, List, Option, Some, None, Result, Ok, Err, if◌then◌else◌, is_none, length, nat_le, not, ◌&&◌, ◌==◌, ℕ}
+use Rattle.std.specs.Prelude.{Bool, List, Option, Some, None, Result, Ok, Err, if◌then◌else◌, is_some, length, nat_le, not, ◌&&◌, ◌==◌, ℕ}
 use Rattle.std.specs.Str.{bytes_eq}
 use Rattle.bp_core.specs.declared.numbers.DocNo.{DocNo}
 use Rattle.bp_core.specs.declared.numbers.StaffNo.{StaffNo}
@@ -82,8 +82,8 @@ put_box m caller box page =
 -- where there is no such box nothing changes
 abbrev pub drop_box : Matter → StaffNo → ℕ → ℕ → Result Stepped Rule
 drop_box m caller doc num =
-    if is_none (box_with doc num m) then done m
-    else done (without_box doc num (edited caller doc m))
+    if is_some (box_with doc num m) then done (without_box doc num (edited caller doc m))
+    else done m
 
 abbrev pub hold_field : Matter → StaffNo → DocNo → Basis → Option FieldRow → Result Stepped Rule
 hold_field m caller doc basis None = refused kinds.NoField
@@ -93,11 +93,14 @@ hold_field m caller doc basis (Some row) =
     (edited caller doc.0 m))
 
 -- where the field isn't held back nothing changes
+abbrev pub free_held : Matter → StaffNo → ℕ → ℕ → Result Stepped Rule
+free_held m caller doc field =
+    if is_some (held_with doc field m) then done (without_held doc field (edited caller doc m))
+    else done m
+
 abbrev pub free_field : Matter → StaffNo → ℕ → Option FieldRow → Result Stepped Rule
 free_field m caller doc None = refused kinds.NoField
-free_field m caller doc (Some row) =
-    if is_none (held_with doc row.field m) then done m
-    else done (without_held doc row.field (edited caller doc m))
+free_field m caller doc (Some row) = free_held m caller doc row.field
 
 abbrev pub put_entry : Matter → StaffNo → DocEntry → Result Stepped Rule
 put_entry m caller row =

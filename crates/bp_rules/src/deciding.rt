@@ -1,10 +1,151 @@
 // Deciding a call.
-use crate::changes::Change;
-use bp_matter::Reply;
+ghost use Rattle.std.specs.Prelude.{◌≡◌, IsTrue};
+ghost use Rattle.bp_rules.specs.Changes.{after};
+ghost use Rattle.bp_rules.specs.Deciding.{CanBeReviewed, Decides, IsCaller, is_review};
+ghost use Rattle.bp_rules.specs.Roles.{may};
+ghost use Rattle.bp_rules.specs.Stepping.{done, step_by, step_of, told};
+ghost use Rattle.bp_rules.specs.declared.changes.Edit.TheVariants.{Review};
+
+use crate::calling::{confirm, send_back, set_call};
+use crate::changes::{CallEdit, Change, Edit, MarkEdit};
+use crate::entering::put_entry;
+use crate::holding::{free_field, hold_field};
+use crate::marking::{drop_box, put_box};
+use crate::members::add_staff;
+use crate::roles::may;
+use crate::seeing::{see_doc, see_page, see_words};
+use bp_core::{Refusal, Rule, RuleKind};
+use bp_matter::laws::order_law;
+use bp_matter::{BoxRow, Call, Reply, StaffRow, Tables};
+use std::alloc::Global;
 
 /// What a call was decided to change, and its reply.
 #[derive(Debug, Drop)]
 pub struct Decided {
     pub change: Change,
     pub reply: Reply,
+}
+
+/// Decides a call that was made with this key: what it changes and what is replied, or the first
+/// rule that it breaks. A call that changes nothing has no puts.
+// Freeze and GetProduction come later, and then nothing is asked of the caller.
+#[tactic(auto, unfolding(crate::specs::Stepping::step_of))]
+pub fn decide(
+    alloc: Global,
+    tables: &Tables,
+    key: &[u8; 32],
+    call: &Call,
+) -> Result<Decided, Refusal>
+    requires { IsTrue (is_review call.now) }
+    ensures { Decides tables.now.matter (step_of tables.now.matter key.now call.now) result }
+{
+    tables.know_valid();
+    let Some(caller) = tables.staff_with(key) else {
+        return Err(Refusal::Rule(Rule::bare(RuleKind::KeyUnknown)));
+    };
+    if !may(caller.role, call) {
+        return Err(Refusal::Rule(Rule::bare(RuleKind::RoleRefused)));
+    }
+    decide_by(alloc, tables, caller, call)
+}
+
+// Decides a call of this member of the staff, who may make it.
+fn decide_by(
+    alloc: Global,
+    tables: &Tables,
+    caller: &StaffRow,
+    call: &Call,
+) -> Result<Decided, Refusal>
+    requires caller { IsCaller tables.now.matter caller.now }
+    requires may { IsTrue (may caller.now.role call.now) }
+    ensures { Decides tables.now.matter
+        (step_by tables.now.matter caller.now.staff call.now) result }
+{
+    let by = caller.staff;
+    match call {
+        Call::AddStaff { name, role, digest } => add_staff(alloc, tables, name, *role, *digest),
+        Call::SeeDoc { doc } => see_doc(alloc, tables, by, *doc),
+        Call::SeePage { doc, page } => see_page(alloc, tables, by, *doc, *page),
+        Call::SeeWords { doc, page } => see_words(alloc, tables, by, *doc, *page),
+        Call::SetCall {
+            doc,
+            responsive,
+            treatment,
+            designation,
+        } => set_call(
+            alloc,
+            tables,
+            by,
+            *doc,
+            *responsive,
+            *treatment,
+            designation,
+        ),
+        Call::PutBox {
+            doc,
+            num,
+            page,
+            rect,
+            basis,
+        } => {
+            let row = BoxRow {
+                num: *num,
+                page: *page,
+                rect: *rect,
+                basis: *basis,
+            };
+            put_box(alloc, tables, by, *doc, row)
+        }
+        Call::DropBox { doc, num } => drop_box(alloc, tables, by, *doc, *num),
+        Call::HoldField { doc, field, basis } => {
+            hold_field(alloc, tables, by, *doc, field, *basis)
+        }
+        Call::FreeField { doc, field } => free_field(alloc, tables, by, *doc, field),
+        Call::PutEntry {
+            doc,
+            date,
+            author,
+            recipients,
+            description,
+        } => put_entry(
+            alloc,
+            tables,
+            by,
+            *doc,
+            date,
+            author,
+            recipients,
+            description,
+        ),
+        Call::Confirm { doc } => confirm(alloc, tables, by, *doc),
+        Call::SendBack { doc } => send_back(alloc, tables, by, *doc),
+        Call::Freeze { .. } | Call::GetProduction { .. } => told(alloc, tables, Reply::Done),
+    }
+}
+
+// A reply to a call that changes nothing.
+pub(crate) fn told(alloc: Global, tables: &Tables, reply: Reply) -> Result<Decided, Refusal>
+    ensures { Decides tables.now.matter (told tables.now.matter reply) result }
+{
+    tables.know_valid();
+    let change = Change::new(alloc, Edit::Nothing)?;
+    Ok(Decided { change, reply })
+}
+
+// A change of the rows of a document.
+pub(crate) fn reviewed(
+    alloc: Global,
+    tables: &Tables,
+    call: CallEdit,
+    mark: MarkEdit,
+) -> Result<Decided, Refusal>
+    requires { CanBeReviewed tables.now.matter call mark }
+    ensures { Decides tables.now.matter
+        (done (after tables.now.matter (Review call mark))) result }
+{
+    tables.know_valid();
+    order_law();
+    let change = Change::new(alloc, Edit::Review(call, mark))?;
+    let reply = Reply::Done;
+    Ok(Decided { change, reply })
 }

@@ -152,7 +152,7 @@ fn text_at(alloc: Global, texts: &[Text], place: usize) -> Result<Text, OutOfMem
     }
 }
 
-fn empty(alloc: Global) -> Text
+pub(crate) fn empty(alloc: Global) -> Text
     ensures { result ≡ [] }
 {
     Text::from_string(String::new(alloc))

@@ -7,16 +7,22 @@
 
 mod applying;
 mod beginning;
+mod calling;
 mod changes;
 mod confirming;
 mod copies;
 mod deciding;
+mod entering;
+mod holding;
 mod import_rows;
 mod importing;
 mod limits;
 mod loading;
+mod marking;
+mod members;
 mod refusing;
 mod roles;
+mod seeing;
 mod stepping;
 #[cfg(test)]
 mod tests;
@@ -25,7 +31,7 @@ mod texts;
 pub use applying::{apply, make_room};
 pub use beginning::begin;
 pub use changes::{CallEdit, Change, Edit, ImportRows, MarkEdit};
-pub use deciding::Decided;
+pub use deciding::{Decided, decide};
 pub use importing::{Imported, decide_import};
 pub use loading::{LoadRefusal, load_tables};
 pub use roles::may;

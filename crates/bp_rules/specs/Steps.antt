@@ -1,16 +1,21 @@
 -- Steps: what a matter and its keeper are after one.
-use Rattle.std.specs.Prelude.{◌≡◌, ℕ, List, Option, Some, Result, Ok, Err, IfSome}
+use Rattle.std.specs.Prelude.{◌≡◌, ℕ, [], List, Option, Some, Result, Ok, Err, IfSome}
 use Rattle.std.specs.Option.{option_map}
 use Rattle.std.specs.Result.{IsOk}
 use Rattle.bp_core.specs.Counts.{risen}
 use Rattle.bp_core.specs.declared.kept.Row.{Row}
 use Rattle.bp_keep.specs.Keeper.{KeeperView}
 use Rattle.bp_keep.specs.Puts.{put_all}
+use Rattle.bp_keep.specs.declared.refusals.KeepRefusal.{KeepRefusal}
+use Rattle.bp_keep.specs.declared.refusals.KeepRefusal.TheVariants as keeps
 use Rattle.bp_matter.specs.Batches.{BatchShown}
 use Rattle.bp_matter.specs.KeptRows.{rows_of}
 use Rattle.bp_matter.specs.Matter.{Matter}
+use Rattle.bp_matter.specs.declared.calls.Call.{Call}
+use Rattle.bp_matter.specs.declared.calls.Reply.{Reply}
 use Rattle.bp_rules.specs.Changes.{after, puts_of}
 use Rattle.bp_rules.specs.Importing.{import_of}
+use Rattle.bp_rules.specs.Stepping.{step_of}
 use Rattle.bp_rules.specs.declared.changes.Edit.{Edit}
 use Rattle.bp_rules.specs.declared.importing.Imported.{Imported}
 use Rattle.bp_rules.specs.declared.stepping.Counted.{Counted}
@@ -43,6 +48,16 @@ pub record Stays (m : Matter) (keeper : KeeperView) (count : ℕ) (m' : Matter)
   pub faults : keeper'.faults ≡ count
   pub sure : keeper'.sure ≡ keeper.sure
 
+-- what making a change gives: the change made and kept, and nothing asked of the keeper where
+-- there are no puts; or a fault of the keeper or want of memory, which leave all
+abbrev pub Makes : Matter → KeeperView → Edit → Result (Unit {0}) KeepRefusal → Matter → KeeperView
+    → Type 0
+Makes m keeper edit (Ok _) m' keeper' =
+    Made m keeper edit m' keeper' × (puts_of edit ≡ [] → keeper' ≡ keeper)
+Makes m keeper edit (Err keeps.Failed) m' keeper' =
+    Stays m keeper (risen keeper.faults) m' keeper'
+Makes m keeper edit (Err keeps.OutOfMemory) m' keeper' = Stays m keeper keeper.faults m' keeper'
+
 -- the numbers that are told of an import
 abbrev pub counted_of : Imported → Counted
 counted_of imported = record { documents = imported.documents; pages = imported.pages }
@@ -65,3 +80,23 @@ StepsImport m b keeper (Err (stops.Rule rule)) m' keeper' =
 StepsImport m b keeper (Err stops.KeeperFault) m' keeper' =
     IsOk (import_of m b) × Stays m keeper (risen keeper.faults) m' keeper'
 StepsImport m b keeper (Err stops.OutOfMemory) m' keeper' = Stays m keeper keeper.faults m' keeper'
+
+-- a call was made, and its reply told; the keeper is asked for nothing where there are no puts
+pub record CallMade (m : Matter) (key : List ℕ) (call : Call) (keeper : KeeperView) (reply : Reply)
+    (m' : Matter) (keeper' : KeeperView) : Type 0 where
+  pub edit : Edit
+  pub answer : step_of m key call ≡ Ok (record { reply = reply; matter = after m edit })
+  pub made : Made m keeper edit m' keeper'
+  pub quiet : puts_of edit ≡ [] → keeper' ≡ keeper
+
+-- what a step gives: the call made and kept; or a rule, a fault of the keeper or want of memory,
+-- which leave all
+abbrev pub StepsCall : Matter → List ℕ → Call → KeeperView → Result Reply StepRefusal → Matter
+    → KeeperView → Type 0
+StepsCall m key call keeper (Ok reply) m' keeper' = CallMade m key call keeper reply m' keeper'
+StepsCall m key call keeper (Err (stops.Rule rule)) m' keeper' =
+    (step_of m key call ≡ Err rule) × (m' ≡ m) × (keeper' ≡ keeper)
+StepsCall m key call keeper (Err stops.KeeperFault) m' keeper' =
+    IsOk (step_of m key call) × Stays m keeper (risen keeper.faults) m' keeper'
+StepsCall m key call keeper (Err stops.OutOfMemory) m' keeper' =
+    Stays m keeper keeper.faults m' keeper'

@@ -1,8 +1,9 @@
 //! The rules of a matter: how it begins, how it is loaded from its keeper, and how it changes.
 //!
-//! A change is decided on tables (`decide_import`), room is made for it (`make_room`), its puts are
-//! committed to the keeper, and it is made (`apply`), which can't fail; `step_import` does all of
-//! it. What an import does to a matter is `import_of` of specs/Importing.antt.
+//! A change is decided on tables (`decide`, `decide_import`), room is made for it (`make_room`), its
+//! puts are committed to the keeper, and it is made (`apply`), which can't fail; `step` and
+//! `step_import` do all of it. What a call does to a matter is `step_of` of specs/Stepping.antt, and
+//! what an import does `import_of` of specs/Importing.antt. `may` says who may make a call.
 #![tactic(auto)]
 
 mod applying;
@@ -21,6 +22,8 @@ mod loading;
 mod marking;
 mod members;
 mod refusing;
+#[cfg(test)]
+mod review_tests;
 mod roles;
 mod seeing;
 mod stepping;
@@ -35,4 +38,4 @@ pub use deciding::{Decided, decide};
 pub use importing::{Imported, decide_import};
 pub use loading::{LoadRefusal, load_tables};
 pub use roles::may;
-pub use stepping::{Counted, StepRefusal, step_import};
+pub use stepping::{Counted, StepRefusal, step, step_import};

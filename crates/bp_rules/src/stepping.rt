@@ -1,12 +1,16 @@
 // Steps: decided, kept and made.
-ghost use Rattle.std.specs.Prelude.{◌≡◌};
-ghost use Rattle.bp_rules.specs.Steps.{StepsImport};
+ghost use Rattle.std.specs.Prelude.{◌≡◌, IsTrue};
+ghost use Rattle.bp_rules.specs.Deciding.{is_review};
+ghost use Rattle.bp_rules.specs.Changes.{CanBeMade};
+ghost use Rattle.bp_rules.specs.Steps.{Makes, StepsCall, StepsImport};
 
 use crate::applying::{apply, make_room};
+use crate::changes::Change;
+use crate::deciding::{Decided, decide};
 use crate::importing::{Imported, decide_import};
 use bp_core::{OutOfMemory, Refusal, Rule};
 use bp_keep::{KeepRefusal, Keeper};
-use bp_matter::{Batch, Tables};
+use bp_matter::{Batch, Call, Reply, Tables};
 use std::alloc::Global;
 use thiserror::Error;
 
@@ -51,14 +55,61 @@ pub fn step_import<K: Keeper>(
         Err(Refusal::Rule(rule)) => return Err(StepRefusal::Rule(rule)),
         Err(Refusal::OutOfMemory) => return Err(StepRefusal::OutOfMemory),
     };
+    match make(alloc, tables, keeper, change) {
+        Ok(()) => Ok(Counted { documents, pages }),
+        Err(KeepRefusal::Failed) => Err(StepRefusal::KeeperFault),
+        Err(KeepRefusal::OutOfMemory) => Err(StepRefusal::OutOfMemory),
+    }
+}
+
+/// Makes a call with this key: the tables and the kept rows are those after it. Room is made before
+/// the rows are committed, so after the commit nothing can fail; where there are no puts nothing is
+/// committed. A refusal leaves tables and rows.
+// Freeze and GetProduction come later, and then nothing is asked of the caller.
+pub fn step<K: Keeper>(
+    alloc: Global,
+    tables: &mut Tables,
+    keeper: &mut K,
+    key: &[u8; 32],
+    call: &Call,
+) -> Result<Reply, StepRefusal>
+    requires { IsTrue (is_review call.now) }
+    ensures { StepsCall tables.old.matter key.now call.now (K.shows keeper.old) result
+        tables.new.matter (K.shows keeper.new) }
+{
+    let Decided { change, reply } = match decide(alloc, tables, key, call) {
+        Ok(decided) => decided,
+        Err(Refusal::Rule(rule)) => return Err(StepRefusal::Rule(rule)),
+        Err(Refusal::OutOfMemory) => return Err(StepRefusal::OutOfMemory),
+    };
+    match make(alloc, tables, keeper, change) {
+        Ok(()) => Ok(reply),
+        Err(KeepRefusal::Failed) => Err(StepRefusal::KeeperFault),
+        Err(KeepRefusal::OutOfMemory) => Err(StepRefusal::OutOfMemory),
+    }
+}
+
+// Keeps a decided change and makes it. Without puts there is nothing to do.
+fn make<K: Keeper>(
+    alloc: Global,
+    tables: &mut Tables,
+    keeper: &mut K,
+    change: Change,
+) -> Result<(), KeepRefusal>
+    requires { CanBeMade tables.old.matter change }
+    ensures { Makes tables.old.matter (K.shows keeper.old) change result tables.new.matter
+        (K.shows keeper.new) }
+{
+    if change.puts().is_empty() {
+        return Ok(());
+    }
     if make_room(tables, &change).is_err() {
-        return Err(StepRefusal::OutOfMemory);
+        return Err(KeepRefusal::OutOfMemory);
     }
     match keeper.commit(alloc, change.puts()) {
         Ok(()) => {}
-        Err(KeepRefusal::Failed) => return Err(StepRefusal::KeeperFault),
-        Err(KeepRefusal::OutOfMemory) => return Err(StepRefusal::OutOfMemory),
+        Err(refusal) => return Err(refusal),
     }
     apply(tables, change);
-    Ok(Counted { documents, pages })
+    Ok(())
 }

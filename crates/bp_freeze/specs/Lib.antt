@@ -1,0 +1,9 @@
+pub mod Agree
+pub mod Alike
+pub mod Csv
+pub mod Families
+pub mod Freezing
+pub mod Log
+pub mod Refusals
+pub mod Seeing
+pub mod Selecting

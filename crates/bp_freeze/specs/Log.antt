@@ -1,0 +1,102 @@
+-- The privilege log of a production (FRCP 26(b)(5)(A)): what is withheld as privileged is claimed,
+-- and described so that the claim can be assessed. It is a function of the production alone.
+use Rattle.std.specs.Prelude.{ℕ, Bool, true, false, List, [], ◌∷◌, ◌++◌, map, filter, codes, ◌&&◌, ◌||◌, not, is_none, nat_le, if◌then◌else◌, Option, Some, None, encode_utf8_all, IsTrue}
+use Rattle.std.specs.List.{list_all, list_any, flat_map, join_with_byte}
+use Rattle.bp_core.specs.declared.review.Basis.{Basis}
+use Rattle.bp_core.specs.declared.review.Basis.TheVariants.{Ac, Wp}
+use Rattle.bp_core.specs.declared.review.Treatment.{Treatment}
+use Rattle.bp_core.specs.declared.review.Treatment.TheVariants.{Withhold}
+use Rattle.bp_bates.specs.Labels.{label_of}
+use Rattle.bp_bates.specs.Prefixes.{is_good_prefix}
+use Rattle.bp_bates.specs.Spans.{largest_of}
+use Rattle.bp_bates.specs.declared.prefixes.Prefix.{Prefix}
+use Rattle.bp_matter.specs.Treatments.{is_withheld}
+use Rattle.bp_matter.specs.ValidItems.{is_logged, optional_fits}
+use Rattle.bp_matter.specs.declared.rows.Entry.{Entry}
+use Rattle.bp_matter.specs.declared.rows.Item.{Item}
+use Rattle.bp_matter.specs.declared.rows.Production.{Production}
+use Rattle.bp_freeze.specs.Csv.{csv_line}
+
+abbrev pub is_ac : Basis → Bool
+is_ac Ac = true
+is_ac _ = false
+
+abbrev pub is_wp : Basis → Bool
+is_wp Wp = true
+is_wp _ = false
+
+-- the whole document is withheld on such a ground
+abbrev pub is_withheld_on : (Basis → Bool) → Treatment → Bool
+is_withheld_on test (Withhold basis) = test basis
+is_withheld_on test _ = false
+
+-- such a ground occurs in the item
+abbrev pub occurs : (Basis → Bool) → Item → Bool
+occurs test i =
+    is_withheld_on test i.treatment || list_any (λ box. test box.basis) i.boxes
+    || list_any (λ held. test held.basis) i.held
+
+-- a code where it occurs
+abbrev pub code_if : Bool → List ℕ → List (List ℕ)
+code_if true code = code ∷ []
+code_if false code = []
+
+abbrev pub semicolon : ℕ
+semicolon = 59
+
+-- the codes AC and WP that occur
+abbrev pub claims : Item → List ℕ
+claims i =
+    join_with_byte semicolon
+    (code_if (occurs is_ac i) (codes "AC") ++ code_if (occurs is_wp i) (codes "WP"))
+
+-- what became of the document
+abbrev pub outcome : Treatment → List ℕ
+outcome treatment = if is_withheld treatment then codes "Withheld" else codes "Redacted"
+
+-- the four values of an entry, in UTF-8
+abbrev pub entry_values : Option Entry → List (List ℕ)
+entry_values None = [] ∷ [] ∷ [] ∷ [] ∷ []
+entry_values (Some e) =
+    encode_utf8_all e.date ∷ encode_utf8_all e.author
+    ∷ encode_utf8_all e.recipients ∷ encode_utf8_all e.description ∷ []
+
+-- the label of a number
+abbrev pub label_in : Prefix → ℕ → List ℕ
+label_in prefix number = label_of prefix.text prefix.width number
+
+-- the row of an item: its first and its last label, what became of it and on which ground, its entry
+abbrev pub log_row : Prefix → Item → List (List ℕ)
+log_row prefix i =
+    label_in prefix i.span.first ∷ label_in prefix i.span.last
+    ∷ outcome i.treatment ∷ claims i ∷ entry_values i.entry
+
+-- the names of the columns
+abbrev pub log_columns : List (List ℕ)
+log_columns =
+    codes "BEGLABEL" ∷ codes "ENDLABEL" ∷ codes "TREATMENT" ∷ codes "BASIS"
+    ∷ codes "DATE" ∷ codes "AUTHOR" ∷ codes "RECIPIENTS" ∷ codes "DESCRIPTION" ∷ []
+
+-- the line of an item that the log lists: it is withheld, or has a box or a held field with AC or WP
+abbrev pub log_line : Prefix → Item → List ℕ
+log_line prefix i = if is_logged i then csv_line (log_row prefix i) else []
+
+-- the log: the names of the columns, and a line for each item that it lists
+unfoldable pub log_of : Production → List ℕ
+log_of f = csv_line log_columns ++ flat_map (log_line f.request.prefix) f.items
+
+-- the labels of an item are those of numbers up to the largest of the width
+abbrev pub span_fits : ℕ → Item → Bool
+span_fits width i =
+    nat_le 1 i.span.first && nat_le i.span.first (largest_of width)
+    && nat_le 1 i.span.last && nat_le i.span.last (largest_of width)
+
+-- an item that is listed has an entry, whose texts are those that a call accepts
+abbrev pub entry_stands : Item → Bool
+entry_stands i = (not (is_logged i) || not (is_none i.entry)) && optional_fits i.entry
+
+-- what the log needs of a production
+pub record CanBeLogged (f : Production) : Type 0 where
+  pub prefix : IsTrue (is_good_prefix f.request.prefix.text f.request.prefix.width)
+  pub spans : IsTrue (list_all (span_fits f.request.prefix.width) f.items)
+  pub entries : IsTrue (list_all entry_stands f.items)

@@ -1,0 +1,7 @@
+//! The freeze of the decisions: which documents a request produces, under which label numbers, and
+//! the privilege log of what is held back.
+#![tactic(auto)]
+
+mod laws;
+
+pub use laws::same_freeze;

@@ -1,2 +1,4 @@
 mod Examples
 pub mod AlikeLemmas
+pub mod CsvLemmas
+pub mod LogLemmas

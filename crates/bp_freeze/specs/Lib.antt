@@ -7,3 +7,4 @@ pub mod Log
 pub mod Refusals
 pub mod Seeing
 pub mod Selecting
+pub mod Writing

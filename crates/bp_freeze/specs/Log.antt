@@ -3,7 +3,7 @@
 use Rattle.std.specs.Prelude.{ℕ, Bool, true, false, List, [], ◌∷◌, ◌++◌, map, filter, codes, ◌&&◌, ◌||◌, not, is_none, nat_le, if◌then◌else◌, Option, Some, None, encode_utf8_all, IsTrue}
 use Rattle.std.specs.List.{list_all, list_any, flat_map, join_with_byte}
 use Rattle.bp_core.specs.declared.review.Basis.{Basis}
-use Rattle.bp_core.specs.declared.review.Basis.TheVariants.{Ac, Wp}
+use Rattle.bp_core.specs.declared.review.Basis.TheVariants.{Ac, Pi, Ts, Wp}
 use Rattle.bp_core.specs.declared.review.Treatment.{Treatment}
 use Rattle.bp_core.specs.declared.review.Treatment.TheVariants.{Withhold}
 use Rattle.bp_bates.specs.Labels.{label_of}
@@ -17,24 +17,24 @@ use Rattle.bp_matter.specs.declared.rows.Item.{Item}
 use Rattle.bp_matter.specs.declared.rows.Production.{Production}
 use Rattle.bp_freeze.specs.Csv.{csv_line}
 
-abbrev pub is_ac : Basis → Bool
-is_ac Ac = true
-is_ac _ = false
+-- the two grounds are the same
+abbrev pub is_basis : Basis → Basis → Bool
+is_basis Ac Ac = true
+is_basis Wp Wp = true
+is_basis Pi Pi = true
+is_basis Ts Ts = true
+is_basis _ _ = false
 
-abbrev pub is_wp : Basis → Bool
-is_wp Wp = true
-is_wp _ = false
+-- the whole document is withheld on this ground
+abbrev pub is_withheld_for : Basis → Treatment → Bool
+is_withheld_for basis (Withhold other) = is_basis basis other
+is_withheld_for basis _ = false
 
--- the whole document is withheld on such a ground
-abbrev pub is_withheld_on : (Basis → Bool) → Treatment → Bool
-is_withheld_on test (Withhold basis) = test basis
-is_withheld_on test _ = false
-
--- such a ground occurs in the item
-abbrev pub occurs : (Basis → Bool) → Item → Bool
-occurs test i =
-    is_withheld_on test i.treatment || list_any (λ box. test box.basis) i.boxes
-    || list_any (λ held. test held.basis) i.held
+-- the ground occurs in the item
+abbrev pub occurs : Basis → Item → Bool
+occurs basis i =
+    is_withheld_for basis i.treatment || list_any (λ box. is_basis basis box.basis) i.boxes
+    || list_any (λ held. is_basis basis held.basis) i.held
 
 -- a code where it occurs
 abbrev pub code_if : Bool → List ℕ → List (List ℕ)
@@ -48,7 +48,7 @@ semicolon = 59
 abbrev pub claims : Item → List ℕ
 claims i =
     join_with_byte semicolon
-    (code_if (occurs is_ac i) (codes "AC") ++ code_if (occurs is_wp i) (codes "WP"))
+    (code_if (occurs Ac i) (codes "AC") ++ code_if (occurs Wp i) (codes "WP"))
 
 -- what became of the document
 abbrev pub outcome : Treatment → List ℕ
@@ -65,11 +65,15 @@ entry_values (Some e) =
 abbrev pub label_in : Prefix → ℕ → List ℕ
 label_in prefix number = label_of prefix.text prefix.width number
 
--- the row of an item: its first and its last label, what became of it and on which ground, its entry
-abbrev pub log_row : Prefix → Item → List (List ℕ)
-log_row prefix i =
+-- its first and its last label, what became of it, and on which ground
+abbrev pub claim_values : Prefix → Item → List (List ℕ)
+claim_values prefix i =
     label_in prefix i.span.first ∷ label_in prefix i.span.last
-    ∷ outcome i.treatment ∷ claims i ∷ entry_values i.entry
+    ∷ outcome i.treatment ∷ claims i ∷ []
+
+-- the row of an item: its claim and its entry
+abbrev pub log_row : Prefix → Item → List (List ℕ)
+log_row prefix i = claim_values prefix i ++ entry_values i.entry
 
 -- the names of the columns
 abbrev pub log_columns : List (List ℕ)

@@ -3,5 +3,7 @@
 #![tactic(auto)]
 
 mod laws;
+mod log;
 
 pub use laws::same_freeze;
+pub use log::log_text;

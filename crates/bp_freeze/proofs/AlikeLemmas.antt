@@ -7,7 +7,7 @@ use Rattle.bp_matter.specs.ValidItems.{numbers_due}
 use Rattle.bp_matter.specs.declared.rows.Request.{Request}
 use Rattle.bp_freeze.specs.Alike.{DecidedAlike, is_withheld_doc}
 use Rattle.bp_freeze.specs.Freezing.{freeze_by, freeze_of}
-use Rattle.bp_freeze.specs.Seeing.{Decisions, Seen, decisions_of, numbers_of, page_count, range_of, seen_by, seen_of, treatment_of}
+use Rattle.bp_freeze.specs.Seeing.{Decisions, Seen, decisions_of, numbers_of, page_count, seen_by, seen_of, treatment_of}
 
 -- over the numbers a to a + n - 1
 pub map_over_range : {B : Type 0} (f g : ℕ → B) (a n : ℕ) → ((k : ℕ) → a ≤ k → k < a + n → f k ≡ g k) → map f (range_with_len a n) ≡ map g (range_with_len a n)
@@ -27,7 +27,7 @@ seen-same : (q : Request) (m n : Matter) → DecidedAlike q m n → seen_of m q 
 seen-same q m n alike =
     map_over_range (λ doc. seen_by (decisions_of m) (numbers_of m doc) doc) (λ doc. seen_by (decisions_of m) (numbers_of n doc) doc) q.from.0 (q.to.0 + 1 - q.from.0)
     (λ doc low high. ap (λ k. seen_by (decisions_of m) k doc) (same_numbers q m n alike doc low (omega arith)))
-    ∙ ap (λ (d : Decisions). map (λ doc. seen_by d (numbers_of n doc) doc) (range_of q)) alike.decisions
+    ∙ ap (λ (d : Decisions). map (λ doc. seen_by d (numbers_of n doc) doc) (range_with_len q.from.0 (q.to.0 + 1 - q.from.0))) alike.decisions
 
 pub freeze-same : (q : Request) (m n : Matter) → DecidedAlike q m n → freeze_of m q ≡ freeze_of n q
 unfolding freeze_of

@@ -4,6 +4,7 @@ pub mod Csv
 pub mod Families
 pub mod Freezing
 pub mod Log
+pub mod Marks
 pub mod Refusals
 pub mod Seeing
 pub mod Selecting

@@ -92,18 +92,24 @@ request_rules d q =
     ∷ unless (is_range q (length d.parents)) (bare_rule kinds.RangeEmpty)
     ∷ []
 
--- what the documents of the range say
-abbrev pub range_rules : Decisions → List Seen → Request → List (Option Rule)
-range_rules d docs q =
+-- what its families say
+abbrev pub family_rules : Decisions → List Seen → Request → List (Option Rule)
+family_rules d docs q =
     none_of kinds.SplitFamily (find (λ s. reaches_outside q 1 d.parents s.parent) docs)
     ∷ none_of kinds.Unsettled (find is_unsettled docs)
-    ∷ unless (not (length (selected docs) == 0)) (bare_rule kinds.NothingResponsive)
+    ∷ []
+
+-- what it would take
+abbrev pub taking_rules : Decisions → List Seen → Request → List (Option Rule)
+taking_rules d docs q =
+    unless (not (length (selected docs) == 0)) (bare_rule kinds.NothingResponsive)
     ∷ unless (nat_le (last_taken d docs q) (largest_of q.prefix.width))
-    (bates_full_rule (largest_of q.prefix.width))
+        (bates_full_rule (largest_of q.prefix.width))
     ∷ unless (nat_lt (length d.productions) MAX_PRODUCTIONS)
-    (productions_full_rule (length d.productions + 1))
+        (productions_full_rule (length d.productions + 1))
     ∷ []
 
 -- the first rule that a new request breaks, in the order in which they are tried
 abbrev pub first_refusal : Decisions → List Seen → Request → Option Rule
-first_refusal d docs q = first_rule (request_rules d q ++ range_rules d docs q)
+first_refusal d docs q =
+    first_rule (request_rules d q ++ (family_rules d docs q ++ taking_rules d docs q))

@@ -93,10 +93,14 @@ treatment_of (Some row) = row.treatment
 abbrev pub numbers_of : Matter → ℕ → ℕ
 numbers_of m doc = numbers_due (treatment_of (find_key call_key doc m.calls)) (page_count m doc)
 
--- the numbers of the documents of the range
-abbrev pub range_of : Request → List ℕ
-range_of q = range_with_len q.from.0 (q.to.0 + 1 - q.from.0)
+-- a document as a freeze sees it
+abbrev pub seen_in : Matter → ℕ → Seen
+seen_in m doc = seen_by (decisions_of m) (numbers_of m doc) doc
+
+-- so many documents, from this one on
+abbrev pub seen_from : Matter → ℕ → ℕ → List Seen
+seen_from m doc count = map (seen_in m) (range_with_len doc count)
 
 -- the documents of the range
 abbrev pub seen_of : Matter → Request → List Seen
-seen_of m q = map (λ doc. seen_by (decisions_of m) (numbers_of m doc) doc) (range_of q)
+seen_of m q = seen_from m q.from.0 (q.to.0 + 1 - q.from.0)

@@ -2,8 +2,12 @@
 //! the privilege log of what is held back.
 #![tactic(auto)]
 
+mod documents;
+mod families;
+mod items;
 mod laws;
 mod log;
+mod marks;
 
 pub use laws::same_freeze;
 pub use log::log_text;

@@ -1,0 +1,6 @@
+use Rattle.std.proofs.Common.{◌≡◌, map, take}
+use Rattle.bp_freeze.proofs.items.held_of.Given as goal
+
+-- those so far
+abbrev pub invariant-loop-row : goal.invariant-loop-row
+invariant-loop-row l = l.held.items ≡ map (λ row. row.row) (take l.row-index l.rows)

@@ -135,7 +135,7 @@ parents_are n before (row ∷ docs) numbered families =
 pub valid-parents : (m : Matter) → IsValid m → are_parents 1 1 (decisions_of m).parents ≡ true
 valid-parents m valid = parents_are 1 1 m.docs valid.docs.numbered valid.docs.families
 
-many_parents : (m : Matter) → length (decisions_of m).parents ≡ length m.docs
+pub many_parents : (m : Matter) → length (decisions_of m).parents ≡ length m.docs
 many_parents m = length-map m.docs (λ (row : DocRow). row.parent.0)
 
 -- a parent is at most the number of its document

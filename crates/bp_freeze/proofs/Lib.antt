@@ -2,5 +2,7 @@ mod Examples
 pub mod AlikeLemmas
 pub mod CsvLemmas
 pub mod FamilyLemmas
+pub mod FreezeLemmas
 pub mod LogLemmas
 pub mod RangeLemmas
+pub mod RuleLemmas

@@ -32,12 +32,12 @@ unbroken_by test no_return no_newline b passes =
           let clash : test 13 ≡ true = subst (λ n. test n ≡ true) at passes in
           absurd cc)
       | inr other ↦ elim (cases_Bool (b == newline)) [
-          | inl same ↦ (
-              let at : b ≡ 10 = eqb-true b 10 same in
-              let clash : test 10 ≡ true = subst (λ n. test n ≡ true) at passes in
-              absurd cc)
-          | inr none ↦ or_from _ _ other none
-        ]
+        | inl same ↦ (
+            let at : b ≡ 10 = eqb-true b 10 same in
+            let clash : test 10 ≡ true = subst (λ n. test n ≡ true) at passes in
+            absurd cc)
+        | inr none ↦ or_from _ _ other none
+      ]
     ]
 
 all_unbroken : (test : ℕ → Bool) → test 13 ≡ false → test 10 ≡ false → (bytes : List ℕ) → list_all test bytes ≡ true → list_any breaks bytes ≡ false
@@ -80,12 +80,12 @@ unbroken_encode c h =
     elim (cases_Bool (ltb c 128)) [
       | inl e ↦ rw e (or_from _ _ (high c h) refl)
       | inr e ↦ elim (cases_Bool (ltb c 2048)) [
-          | inl e2 ↦ rw (e, e2) (or_from _ _ (high (192 + c / 64) (omega arith)) (or_from _ _ (high (128 + c % 64) (omega arith)) refl))
-          | inr e2 ↦ elim (cases_Bool (ltb c 65536)) [
-              | inl e3 ↦ rw (e, e2, e3) (or_from _ _ (high (224 + c / 4096) (omega arith)) (or_from _ _ (high (128 + (c / 64) % 64) (omega arith)) (or_from _ _ (high (128 + c % 64) (omega arith)) refl)))
-              | inr e3 ↦ rw (e, e2, e3) (or_from _ _ (high (240 + c / 262144) (omega arith)) (or_from _ _ (high (128 + (c / 4096) % 64) (omega arith)) (or_from _ _ (high (128 + (c / 64) % 64) (omega arith)) (or_from _ _ (high (128 + c % 64) (omega arith)) refl))))
-            ]
+        | inl e2 ↦ rw (e, e2) (or_from _ _ (high (192 + c / 64) (omega arith)) (or_from _ _ (high (128 + c % 64) (omega arith)) refl))
+        | inr e2 ↦ elim (cases_Bool (ltb c 65536)) [
+          | inl e3 ↦ rw (e, e2, e3) (or_from _ _ (high (224 + c / 4096) (omega arith)) (or_from _ _ (high (128 + (c / 64) % 64) (omega arith)) (or_from _ _ (high (128 + c % 64) (omega arith)) refl)))
+          | inr e3 ↦ rw (e, e2, e3) (or_from _ _ (high (240 + c / 262144) (omega arith)) (or_from _ _ (high (128 + (c / 4096) % 64) (omega arith)) (or_from _ _ (high (128 + (c / 64) % 64) (omega arith)) (or_from _ _ (high (128 + c % 64) (omega arith)) refl))))
         ]
+      ]
     ]
 
 character_high : (c : ℕ) → is_text_character c ≡ true → 32 ≤ c

@@ -99,15 +99,20 @@ family_rules d docs q =
     ∷ none_of kinds.Unsettled (find is_unsettled docs)
     ∷ []
 
--- what it would take
+-- what a production of so many documents would take: it ends at this number of this width, and so
+-- many productions stand
+abbrev pub taken_rules : ℕ → ℕ → ℕ → ℕ → List (Option Rule)
+taken_rules documents last width productions =
+    unless (not (documents == 0)) (bare_rule kinds.NothingResponsive)
+    ∷ unless (nat_le last (largest_of width)) (bates_full_rule (largest_of width))
+    ∷ unless (nat_lt productions MAX_PRODUCTIONS) (productions_full_rule (productions + 1))
+    ∷ []
+
+-- what the selected documents would take
 abbrev pub taking_rules : Decisions → List Seen → Request → List (Option Rule)
 taking_rules d docs q =
-    unless (not (length (selected docs) == 0)) (bare_rule kinds.NothingResponsive)
-    ∷ unless (nat_le (last_taken d docs q) (largest_of q.prefix.width))
-        (bates_full_rule (largest_of q.prefix.width))
-    ∷ unless (nat_lt (length d.productions) MAX_PRODUCTIONS)
-        (productions_full_rule (length d.productions + 1))
-    ∷ []
+    taken_rules (length (selected docs)) (last_taken d docs q) q.prefix.width
+    (length d.productions)
 
 -- the first rule that a new request breaks, in the order in which they are tried
 abbrev pub first_refusal : Decisions → List Seen → Request → Option Rule

@@ -11,9 +11,7 @@ use crate::documents::{numbers_of, parent_of, treatment_of};
 use crate::marks::is_marked;
 use bp_bates::Span;
 use bp_core::{DocNo, ListOf, OutOfMemory, Text};
-use bp_matter::{
-    BoxList, CallRow, DocBox, DocEntry, DocHeld, Entry, HeldList, Item, Tables,
-};
+use bp_matter::{BoxList, CallRow, DocBox, DocEntry, DocHeld, Entry, HeldList, Item, Tables};
 use std::alloc::Global;
 
 // Items, and the number after their spans.

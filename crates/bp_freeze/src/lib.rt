@@ -4,10 +4,14 @@
 
 mod documents;
 mod families;
+mod freezing;
 mod items;
 mod laws;
 mod log;
 mod marks;
+mod requests;
+mod texts;
 
+pub use freezing::freeze;
 pub use laws::same_freeze;
 pub use log::log_text;

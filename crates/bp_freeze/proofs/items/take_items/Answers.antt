@@ -36,9 +36,9 @@ loop-number-preserved c =
             high = omega (arith, before.high, moved, fits);
           })
       | else-is_selected w ↦ record {
-          items = rw (w.items-is, w.next-is) (sym (ap (λ left. c.loop-number.items.items ++ items_from c.loop-number.next left) (after-none m (is_selected docs) doc c.args.end (omega arith) (sym tells ∙ w.if-is_selected.false))) ∙ before.items);
-          numbers = rw w.next-is (sym (ap (λ left. c.loop-number.next + all_numbers left) (after-none m (is_selected docs) doc c.args.end (omega arith) (sym tells ∙ w.if-is_selected.false))) ∙ before.numbers);
-          low = rw w.next-is before.low;
-          high = rw w.next-is (omega (arith, before.high));
-        }
+        items = rw (w.items-is, w.next-is) (sym (ap (λ left. c.loop-number.items.items ++ items_from c.loop-number.next left) (after-none m (is_selected docs) doc c.args.end (omega arith) (sym tells ∙ w.if-is_selected.false))) ∙ before.items);
+        numbers = rw w.next-is (sym (ap (λ left. c.loop-number.next + all_numbers left) (after-none m (is_selected docs) doc c.args.end (omega arith) (sym tells ∙ w.if-is_selected.false))) ∙ before.numbers);
+        low = rw w.next-is before.low;
+        high = rw w.next-is (omega (arith, before.high));
+      }
     ]

@@ -1,0 +1,410 @@
+-- Worked examples of the definitions in specs/, each run by the check.
+use Rattle.std.proofs.Common.{◌≡◌, ℕ, zero, suc, ◌<◌, ◌||◌, ◌==◌, true, false, List, [], ◌∷◌, ◌++◌, length, map, Some, None, Result, Ok, Err, get_or, refl, sym, ap, subst, ◌∙◌, arith, if◌then◌else◌}
+use Rattle.std.specs.Prelude.{codes, encode_utf8_all, ◌≤◌, take}
+use Rattle.std.specs.Fmt.{digits}
+use Rattle.bp_core.specs.declared.rectangle.Rect.{Rect}
+use Rattle.bp_core.specs.declared.review.Basis.TheVariants.{Ac, Wp, Pi}
+use Rattle.bp_core.specs.declared.review.Treatment.{Treatment}
+use Rattle.bp_core.specs.declared.review.Treatment.TheVariants.{Produce, Redact, Withhold}
+use Rattle.bp_core.specs.declared.rules.Rule.{Rule}
+use Rattle.bp_rows.specs.Burned.{burned}
+use Rattle.bp_rows.specs.Image.{Image, pixel, white_image}
+use Rattle.bp_rows.specs.declared.resolution.Unit.TheVariants.{Inch}
+use Rattle.bp_text.specs.declared.words.Word.{Word}
+use Rattle.bp_outside.specs.declared.files.FileRow.{FileRow}
+use Rattle.bp_matter.specs.Matter.{Matter}
+use Rattle.bp_matter.specs.declared.rows.CallRow.{CallRow}
+use Rattle.bp_matter.specs.declared.rows.DocRow.{DocRow}
+use Rattle.bp_matter.specs.declared.rows.Entry.{Entry}
+use Rattle.bp_matter.specs.declared.rows.Item.{Item}
+use Rattle.bp_matter.specs.declared.rows.Production.{Production}
+use Rattle.bp_matter.specs.declared.rows.Request.{Request}
+use Rattle.bp_matter.specs.declared.rows.State.TheVariants.{Confirmed}
+use Rattle.bp_matter.specs.Treatments.{is_withheld}
+use Rattle.bp_freeze.specs.Agree.{Agree, ItemAgrees, PageAgrees, ValueAgrees, field_number}
+use Rattle.bp_freeze.specs.Alike.{Alike, is_withheld_doc}
+use Rattle.bp_freeze.specs.Freezing.{freeze_of}
+use Rattle.bp_freeze.specs.Log.{log_of}
+use Rattle.bp_freeze.specs.Seeing.{page_count}
+use Rattle.bp_rows.proofs.BurnedLemmas.{pixel-burned}
+use Rattle.hex.specs.Hex.{encode_with}
+use Rattle.sha2.specs.Sha256.{compress, digest_bytes, first_words, hash_after, rounds, schedule, sha256}
+use Rattle.bp_press.specs.Contents.{produced_page, slip_sheet}
+use Rattle.bp_press.specs.Manifest.{manifest_line, manifest_of}
+use Rattle.bp_press.specs.Paths.{folder_of}
+use Rattle.bp_press.specs.Volume.{file_at, files_of, volume_of}
+
+-- ---- folders of a thousand images
+
+first_folder : folder_of 0 ≡ codes "0001"
+first_folder = refl
+
+last_of_first : folder_of 999 ≡ codes "0001"
+last_of_first = refl
+
+second_folder : folder_of 1000 ≡ codes "0002"
+second_folder = refl
+
+-- ---- matters
+
+abbrev doc : ℕ → ℕ → ℕ → List ℕ → DocRow
+doc n parent pages author = record {
+  doc = record { 0 = n };
+  parent = record { 0 = parent };
+  pages = pages;
+  batch = 1;
+  id = [];
+  values = author ∷ [];
+}
+
+abbrev call : ℕ → Treatment → CallRow
+call n treatment = record {
+  doc = record { 0 = n };
+  state = Confirmed (record { 0 = 1 }) (record { 0 = 2 });
+  responsive = true;
+  treatment = treatment;
+  designation = [];
+}
+
+abbrev empty : Matter
+empty = record {
+  staff = [];
+  fields = record { field = 1; name = codes "AUTHOR" } ∷ [];
+  docs = [];
+  pages = [];
+  calls = [];
+  boxes = [];
+  held = [];
+  entries = [];
+  prefixes = [];
+  productions = [];
+  batches = [];
+  words = [];
+}
+
+abbrev entry : List ℕ → List ℕ → List ℕ → List ℕ → Entry
+entry date author recipients description =
+    record { date = date; author = author; recipients = recipients; description = description }
+
+-- the volume of what a matter freezes
+abbrev pressed : Matter → Result Production Rule → List FileRow
+pressed m (Ok f) = volume_of f m
+pressed m (Err rule) = []
+
+abbrev paths : List FileRow → List (List ℕ)
+paths files = map (λ row. row.path) files
+
+-- a line of a DAT, with a dot for the byte between two values
+abbrev with_separators : ℕ → ℕ
+with_separators c = if c == 0xB7 then 0x14 else c
+
+abbrev dat_line : List ℕ → List ℕ
+dat_line text = encode_utf8_all (map with_separators text) ++ codes "\r\n"
+
+-- ---- two documents: a page with a box for PI, whose field is held for PI; and one that is withheld
+-- for WP
+
+abbrev blank : Image
+blank = white_image 64 32 (record { num = 200; den = 1 }) (record { num = 200; den = 1 }) Inch
+
+abbrev area : Rect
+area = record { left = 8; top = 8; width = 16; height = 8 }
+
+abbrev word : ℕ → List ℕ → Word
+word left text = record {
+  line = 1;
+  rect = record { left = left; top = 9; width = 4; height = 4 };
+  text = text;
+}
+
+abbrev two : Image → List Word → List ℕ → ℕ → Matter
+two image words author pages = record empty {
+  docs = doc 1 1 1 author ∷ doc 2 2 pages [] ∷ [];
+  pages = record { doc = record { 0 = 1 }; page = record { 0 = 1 }; image = image } ∷ [];
+  calls = call 1 Redact ∷ call 2 (Withhold Wp) ∷ [];
+  boxes = record { doc = record { 0 = 1 }; row = record { num = 1; page = record { 0 = 1 }; rect = area; basis = Pi } } ∷ [];
+  held = record { doc = record { 0 = 1 }; row = record { field = 1; basis = Pi } } ∷ [];
+  entries = record { doc = record { 0 = 2 }; entry = entry (codes "2020-01-02") (codes "Ng") (codes "A, B") (codes "Draft") } ∷ [];
+  words = record { doc = record { 0 = 1 }; page = record { 0 = 1 }; words = words } ∷ [];
+}
+
+abbrev smith : Matter
+smith = two blank (word 10 (codes "Smith") ∷ []) (codes "Smith") 1
+
+abbrev jones : Matter
+jones = two (burned blank (area ∷ [])) (word 9 (codes "Jo") ∷ word 14 (codes "Hart") ∷ []) (codes "Jones") 3
+
+abbrev asked : Request
+asked = record {
+  id = codes "R";
+  volume = codes "V1";
+  prefix = record { text = codes "AB-"; width = 4 };
+  from = record { 0 = 1 };
+  to = record { 0 = 2 };
+  fields = codes "AUTHOR" ∷ [];
+}
+
+eight_paths : paths (pressed smith (freeze_of smith asked))
+    ≡ (codes "V1/IMAGES/0001/AB-0001.TIF" ∷ codes "V1/TEXT/0001/AB-0001.TXT"
+    ∷ codes "V1/IMAGES/0001/AB-0002.TIF" ∷ codes "V1/TEXT/0001/AB-0002.TXT"
+    ∷ codes "V1/DATA/V1.DAT" ∷ codes "V1/DATA/V1.OPT" ∷ codes "V1/DATA/V1-LOG.CSV"
+    ∷ codes "V1/MANIFEST.TXT" ∷ [])
+unfolding freeze_of volume_of files_of lib.Utf8.encode
+eight_paths = refl
+
+-- the word in the box leaves nothing, not even the end of its line
+boxed_text : file_at (codes "V1/TEXT/0001/AB-0001.TXT") (pressed jones (freeze_of jones asked)) ≡ Some (12 ∷ [])
+unfolding freeze_of volume_of files_of lib.Utf8.encode
+boxed_text = refl
+
+withheld_text : file_at (codes "V1/TEXT/0001/AB-0002.TXT") (pressed jones (freeze_of jones asked)) ≡ Some (codes "DOCUMENT WITHHELD - WP\r\n" ++ 12 ∷ [])
+unfolding freeze_of volume_of files_of lib.Utf8.encode
+withheld_text = refl
+
+-- the held field, and the empty one of the withheld document
+two_in_dat : file_at (codes "V1/DATA/V1.DAT") (pressed jones (freeze_of jones asked))
+    ≡ Some (dat_line (codes "þBEGDOCþ·þENDDOCþ·þBEGATTACHþ·þENDATTACHþ·þPAGECOUNTþ·þDESIGNATIONþ·þWITHHELDþ·þTEXTPATHþ·þAUTHORþ")
+    ++ dat_line (codes "þAB-0001þ·þAB-0001þ·þAB-0001þ·þAB-0001þ·þ1þ·þþ·þþ·þV1\\TEXT\\0001\\AB-0001.TXTþ·þWITHHELD - PIþ")
+    ++ dat_line (codes "þAB-0002þ·þAB-0002þ·þAB-0002þ·þAB-0002þ·þ1þ·þþ·þWPþ·þV1\\TEXT\\0001\\AB-0002.TXTþ·þþ"))
+unfolding freeze_of volume_of files_of digits lib.Utf8.encode
+two_in_dat = refl
+
+two_in_opt : file_at (codes "V1/DATA/V1.OPT") (pressed jones (freeze_of jones asked))
+    ≡ Some (codes "AB-0001,V1,V1\\IMAGES\\0001\\AB-0001.TIF,Y,,,1\r\nAB-0002,V1,V1\\IMAGES\\0001\\AB-0002.TIF,Y,,,1\r\n")
+unfolding freeze_of volume_of files_of digits lib.Utf8.encode
+two_in_opt = refl
+
+withheld_in_log : file_at (codes "V1/DATA/V1-LOG.CSV") (pressed jones (freeze_of jones asked))
+    ≡ Some (codes "BEGLABEL,ENDLABEL,TREATMENT,BASIS,DATE,AUTHOR,RECIPIENTS,DESCRIPTION\nAB-0002,AB-0002,Withheld,WP,2020-01-02,Ng,\"A, B\",Draft\n")
+unfolding freeze_of volume_of files_of log_of lib.Utf8.encode
+withheld_in_log = refl
+
+-- digests as another program gives them
+boxed_in_manifest : manifest_line (record { path = codes "V1/TEXT/0001/AB-0001.TXT"; bytes = 12 ∷ [] })
+    ≡ codes "ef6cbd2161eaea7943ce8693b9824d23d1793ffb1c0fca05b600d3899b44c977  V1/TEXT/0001/AB-0001.TXT\n"
+unfolding manifest_line sha256 first_words schedule rounds compress hash_after digest_bytes encode_with lib.Utf8.encode
+boxed_in_manifest = refl
+
+withheld_in_manifest : manifest_line (record { path = codes "V1/TEXT/0001/AB-0002.TXT"; bytes = codes "DOCUMENT WITHHELD - WP\r\n" ++ 12 ∷ [] })
+    ≡ codes "6a0593e61d42aca7441c5661a40fb1f836edeb85dae6c2d80d86c09f81b40edb  V1/TEXT/0001/AB-0002.TXT\n"
+unfolding manifest_line sha256 first_words schedule rounds compress hash_after digest_bytes encode_with lib.Utf8.encode
+withheld_in_manifest = refl
+
+-- the manifest has a line for each of the other seven files
+seven_in_manifest : file_at (codes "V1/MANIFEST.TXT") (pressed smith (freeze_of smith asked))
+    ≡ Some (manifest_of (take 7 (pressed smith (freeze_of smith asked))))
+unfolding freeze_of volume_of files_of lib.Utf8.encode
+seven_in_manifest = refl
+
+-- ---- the two matters differ, and nothing shows it
+
+abbrev redacted : Item
+redacted = record {
+  doc = record { 0 = 1 };
+  parent = record { 0 = 1 };
+  treatment = Redact;
+  boxes = record { num = 1; page = record { 0 = 1 }; rect = area; basis = Pi } ∷ [];
+  held = record { field = 1; basis = Pi } ∷ [];
+  entry = None;
+  designation = [];
+  span = record { first = 1; last = 1 };
+}
+
+abbrev withheld : Item
+withheld = record {
+  doc = record { 0 = 2 };
+  parent = record { 0 = 2 };
+  treatment = Withhold Wp;
+  boxes = [];
+  held = [];
+  entry = Some (entry (codes "2020-01-02") (codes "Ng") (codes "A, B") (codes "Draft"));
+  designation = [];
+  span = record { first = 2; last = 2 };
+}
+
+abbrev frozen : Production
+frozen = record {
+  request = asked;
+  items = redacted ∷ withheld ∷ [];
+  span = record { first = 1; last = 2 };
+}
+
+frozen_in_smith : freeze_of smith asked ≡ Ok frozen
+unfolding freeze_of lib.Utf8.encode
+frozen_in_smith = refl
+
+frozen_in_jones : freeze_of jones asked ≡ Ok frozen
+unfolding freeze_of lib.Utf8.encode
+frozen_in_jones = refl
+
+-- the page with its band
+page_sides : ((produced_page asked smith redacted 1).width ∷ (produced_page asked smith redacted 1).height ∷ []) ≡ (64 ∷ 64 ∷ [])
+unfolding produced_page
+page_sides = refl
+
+sheet_sides : ((slip_sheet asked withheld Wp).width ∷ (slip_sheet asked withheld Wp).height ∷ []) ≡ (1700 ∷ 2232 ∷ [])
+unfolding slip_sheet
+sheet_sides = refl
+
+-- the box is black, and what is left of it isn't
+box_is_black : (pixel (produced_page asked smith redacted 1) 8 7 ∷ pixel (produced_page asked smith redacted 1) 8 8 ∷ pixel (produced_page asked smith redacted 1) 15 23 ∷ []) ≡ (false ∷ true ∷ true ∷ [])
+unfolding produced_page
+box_is_black = refl
+
+page_agrees : PageAgrees smith jones redacted 1
+page_agrees = record {
+  image = record {
+    width = refl;
+    height = refl;
+    xres = refl;
+    yres = refl;
+    unit = refl;
+    pixels = λ r c down across out. sym (pixel-burned blank (area ∷ []) r c down across ∙ ap (λ b. b || pixel blank r c) out);
+  };
+  words = refl;
+}
+
+value_agrees : (k : ℕ) (d : List ℕ) → k < 1 → ValueAgrees smith jones redacted (get_or asked.fields k d)
+value_agrees zero d l field is free = absurd cc
+value_agrees (suc k) d l field is free = absurd (omega arith)
+
+number_agrees : (k : ℕ) (d : List ℕ) → k < 1 → field_number smith (get_or asked.fields k d) ≡ field_number jones (get_or asked.fields k d)
+number_agrees zero d l = refl
+number_agrees (suc k) d l = absurd (omega arith)
+
+item_agrees : (k : ℕ) (d : Item) → k < 2 → is_withheld (get_or frozen.items k d).treatment ≡ false → ItemAgrees frozen smith jones (get_or frozen.items k d)
+item_agrees zero d l shown = record {
+  counts = refl;
+  pages = λ page low high. subst (PageAgrees smith jones redacted) (omega (arith, low, high)) page_agrees;
+  values = value_agrees;
+}
+item_agrees (suc zero) d l shown = absurd cc
+item_agrees (suc (suc k)) d l shown = absurd (omega arith)
+
+they_agree : Agree frozen smith jones
+they_agree = record { numbers = number_agrees; items = item_agrees }
+
+same_count : (doc : ℕ) → 1 ≤ doc → doc ≤ 2 → is_withheld_doc smith doc ≡ false → page_count smith doc ≡ page_count jones doc
+same_count zero low high shown = absurd (omega arith)
+same_count (suc zero) low high shown = refl
+same_count (suc (suc zero)) low high shown = absurd cc
+same_count (suc (suc (suc n))) low high shown = absurd (omega arith)
+
+ok_only : {f g : Production} → (the : Result Production Rule) → the ≡ Ok f → the ≡ Ok g → f ≡ g
+ok_only the h k = cc
+
+they_are_alike : Alike asked smith jones
+they_are_alike = record {
+  decided = record { decisions = refl; counts = same_count };
+  shown = λ f e. subst (λ g. Agree g smith jones) (ok_only (freeze_of smith asked) frozen_in_smith e) they_agree;
+}
+
+-- ---- a family of three, the second withheld: how many pages that has makes no difference
+
+abbrev family : ℕ → Matter
+family pages = record empty {
+  docs = doc 1 1 2 [] ∷ doc 2 1 pages [] ∷ doc 3 1 3 [] ∷ [];
+  calls = call 1 Produce ∷ call 2 (Withhold Ac) ∷ call 3 Produce ∷ [];
+  entries = record { doc = record { 0 = 2 }; entry = entry [] [] [] [] } ∷ [];
+}
+
+abbrev family_asked : Request
+family_asked = record asked { to = record { 0 = 3 }; fields = [] }
+
+family_frozen : freeze_of (family 40) family_asked ≡ freeze_of (family 1) family_asked
+unfolding freeze_of
+family_frozen = refl
+
+family_pressed : pressed (family 40) (freeze_of (family 40) family_asked) ≡ pressed (family 1) (freeze_of (family 1) family_asked)
+unfolding freeze_of volume_of files_of produced_page
+family_pressed = refl
+
+-- ---- twelve documents in four families, of which one isn't responsive; the third is withheld for AC,
+-- the fifth holds AUTHOR for PI, and the tenth has an AC box
+
+abbrev twelve : Matter
+twelve = record empty {
+  docs =
+      doc 1 1 3 (codes "Ng") ∷ doc 2 1 2 (codes "Ng") ∷ doc 3 1 5 (codes "Ng")
+      ∷ doc 4 4 1 (codes "Ortiz") ∷ doc 5 4 4 (codes "Ortiz") ∷ doc 6 4 2 (codes "Ortiz")
+      ∷ doc 7 7 3 (codes "Berg") ∷ doc 8 7 1 (codes "Berg")
+      ∷ doc 9 9 2 (codes "Berg") ∷ doc 10 9 4 (codes "Berg") ∷ doc 11 9 1 [] ∷ doc 12 9 3 (codes "Lee\nChan")
+      ∷ [];
+  calls =
+      call 1 Produce ∷ call 2 Produce
+      ∷ record (call 3 (Withhold Ac)) { designation = codes "CONFIDENTIAL" }
+      ∷ call 4 Produce ∷ call 5 Redact ∷ call 6 Produce
+      ∷ record (call 7 Produce) { responsive = false } ∷ record (call 8 Produce) { responsive = false }
+      ∷ call 9 Produce ∷ call 10 Redact ∷ call 11 Produce ∷ call 12 Produce ∷ [];
+  boxes = record { doc = record { 0 = 10 }; row = record { num = 1; page = record { 0 = 1 }; rect = area; basis = Ac } } ∷ [];
+  held = record { doc = record { 0 = 5 }; row = record { field = 1; basis = Pi } } ∷ [];
+  entries =
+      record { doc = record { 0 = 3 }; entry = entry (codes "2019-03-04") (codes "Ng") (codes "Ortiz, Berg") (codes "Letter asking counsel for advice on the lease") }
+      ∷ record { doc = record { 0 = 10 }; entry = entry (codes "2019-05-02") (codes "Berg") (codes "Ng") (codes "Note quoting counsel") }
+      ∷ [];
+}
+
+abbrev twelve_asked : Request
+twelve_asked = record {
+  id = codes "R-1";
+  volume = codes "VOL001";
+  prefix = record { text = codes "ABC"; width = 8 };
+  from = record { 0 = 1 };
+  to = record { 0 = 12 };
+  fields = codes "AUTHOR" ∷ [];
+}
+
+abbrev twelve_pressed : List FileRow
+unfolding freeze_of lib.Utf8.encode
+twelve_pressed = pressed twelve (freeze_of twelve twelve_asked)
+
+twelve_files : length twelve_pressed ≡ 37
+unfolding freeze_of lib.Utf8.encode twelve_pressed volume_of files_of
+twelve_files = refl
+
+twelve_in_dat : file_at (codes "VOL001/DATA/VOL001.DAT") twelve_pressed
+    ≡ Some (dat_line (codes "þBEGDOCþ·þENDDOCþ·þBEGATTACHþ·þENDATTACHþ·þPAGECOUNTþ·þDESIGNATIONþ·þWITHHELDþ·þTEXTPATHþ·þAUTHORþ")
+    ++ dat_line (codes "þABC00000001þ·þABC00000003þ·þABC00000001þ·þABC00000006þ·þ3þ·þþ·þþ·þVOL001\\TEXT\\0001\\ABC00000001.TXTþ·þNgþ")
+    ++ dat_line (codes "þABC00000004þ·þABC00000005þ·þABC00000001þ·þABC00000006þ·þ2þ·þþ·þþ·þVOL001\\TEXT\\0001\\ABC00000004.TXTþ·þNgþ")
+    ++ dat_line (codes "þABC00000006þ·þABC00000006þ·þABC00000001þ·þABC00000006þ·þ1þ·þCONFIDENTIALþ·þACþ·þVOL001\\TEXT\\0001\\ABC00000006.TXTþ·þþ")
+    ++ dat_line (codes "þABC00000007þ·þABC00000007þ·þABC00000007þ·þABC00000013þ·þ1þ·þþ·þþ·þVOL001\\TEXT\\0001\\ABC00000007.TXTþ·þOrtizþ")
+    ++ dat_line (codes "þABC00000008þ·þABC00000011þ·þABC00000007þ·þABC00000013þ·þ4þ·þþ·þþ·þVOL001\\TEXT\\0001\\ABC00000008.TXTþ·þWITHHELD - PIþ")
+    ++ dat_line (codes "þABC00000012þ·þABC00000013þ·þABC00000007þ·þABC00000013þ·þ2þ·þþ·þþ·þVOL001\\TEXT\\0001\\ABC00000012.TXTþ·þOrtizþ")
+    ++ dat_line (codes "þABC00000014þ·þABC00000015þ·þABC00000014þ·þABC00000023þ·þ2þ·þþ·þþ·þVOL001\\TEXT\\0001\\ABC00000014.TXTþ·þBergþ")
+    ++ dat_line (codes "þABC00000016þ·þABC00000019þ·þABC00000014þ·þABC00000023þ·þ4þ·þþ·þþ·þVOL001\\TEXT\\0001\\ABC00000016.TXTþ·þBergþ")
+    ++ dat_line (codes "þABC00000020þ·þABC00000020þ·þABC00000014þ·þABC00000023þ·þ1þ·þþ·þþ·þVOL001\\TEXT\\0001\\ABC00000020.TXTþ·þþ")
+    ++ dat_line (codes "þABC00000021þ·þABC00000023þ·þABC00000014þ·þABC00000023þ·þ3þ·þþ·þþ·þVOL001\\TEXT\\0001\\ABC00000021.TXTþ·þLee®Chanþ"))
+unfolding freeze_of lib.Utf8.encode twelve_pressed volume_of files_of digits
+twelve_in_dat = refl
+
+twelve_in_opt : file_at (codes "VOL001/DATA/VOL001.OPT") twelve_pressed
+    ≡ Some (codes "ABC00000001,VOL001,VOL001\\IMAGES\\0001\\ABC00000001.TIF,Y,,,3\r\n"
+    ++ codes "ABC00000002,VOL001,VOL001\\IMAGES\\0001\\ABC00000002.TIF,,,,\r\n"
+    ++ codes "ABC00000003,VOL001,VOL001\\IMAGES\\0001\\ABC00000003.TIF,,,,\r\n"
+    ++ codes "ABC00000004,VOL001,VOL001\\IMAGES\\0001\\ABC00000004.TIF,Y,,,2\r\n"
+    ++ codes "ABC00000005,VOL001,VOL001\\IMAGES\\0001\\ABC00000005.TIF,,,,\r\n"
+    ++ codes "ABC00000006,VOL001,VOL001\\IMAGES\\0001\\ABC00000006.TIF,Y,,,1\r\n"
+    ++ codes "ABC00000007,VOL001,VOL001\\IMAGES\\0001\\ABC00000007.TIF,Y,,,1\r\n"
+    ++ codes "ABC00000008,VOL001,VOL001\\IMAGES\\0001\\ABC00000008.TIF,Y,,,4\r\n"
+    ++ codes "ABC00000009,VOL001,VOL001\\IMAGES\\0001\\ABC00000009.TIF,,,,\r\n"
+    ++ codes "ABC00000010,VOL001,VOL001\\IMAGES\\0001\\ABC00000010.TIF,,,,\r\n"
+    ++ codes "ABC00000011,VOL001,VOL001\\IMAGES\\0001\\ABC00000011.TIF,,,,\r\n"
+    ++ codes "ABC00000012,VOL001,VOL001\\IMAGES\\0001\\ABC00000012.TIF,Y,,,2\r\n"
+    ++ codes "ABC00000013,VOL001,VOL001\\IMAGES\\0001\\ABC00000013.TIF,,,,\r\n"
+    ++ codes "ABC00000014,VOL001,VOL001\\IMAGES\\0001\\ABC00000014.TIF,Y,,,2\r\n"
+    ++ codes "ABC00000015,VOL001,VOL001\\IMAGES\\0001\\ABC00000015.TIF,,,,\r\n"
+    ++ codes "ABC00000016,VOL001,VOL001\\IMAGES\\0001\\ABC00000016.TIF,Y,,,4\r\n"
+    ++ codes "ABC00000017,VOL001,VOL001\\IMAGES\\0001\\ABC00000017.TIF,,,,\r\n"
+    ++ codes "ABC00000018,VOL001,VOL001\\IMAGES\\0001\\ABC00000018.TIF,,,,\r\n"
+    ++ codes "ABC00000019,VOL001,VOL001\\IMAGES\\0001\\ABC00000019.TIF,,,,\r\n"
+    ++ codes "ABC00000020,VOL001,VOL001\\IMAGES\\0001\\ABC00000020.TIF,Y,,,1\r\n"
+    ++ codes "ABC00000021,VOL001,VOL001\\IMAGES\\0001\\ABC00000021.TIF,Y,,,3\r\n"
+    ++ codes "ABC00000022,VOL001,VOL001\\IMAGES\\0001\\ABC00000022.TIF,,,,\r\n"
+    ++ codes "ABC00000023,VOL001,VOL001\\IMAGES\\0001\\ABC00000023.TIF,,,,\r\n")
+unfolding freeze_of lib.Utf8.encode twelve_pressed volume_of files_of digits
+twelve_in_opt = refl
+
+twelve_in_log : file_at (codes "VOL001/DATA/VOL001-LOG.CSV") twelve_pressed
+    ≡ Some (codes "BEGLABEL,ENDLABEL,TREATMENT,BASIS,DATE,AUTHOR,RECIPIENTS,DESCRIPTION\nABC00000006,ABC00000006,Withheld,AC,2019-03-04,Ng,\"Ortiz, Berg\",Letter asking counsel for advice on the lease\nABC00000016,ABC00000019,Redacted,AC,2019-05-02,Berg,Ng,Note quoting counsel\n")
+unfolding freeze_of lib.Utf8.encode twelve_pressed volume_of files_of log_of
+twelve_in_log = refl

@@ -1,0 +1,123 @@
+-- What a volume shows of each item is the same in two matters that show the same of the production.
+use Rattle.std.proofs.Common.{◌≡◌, ℕ, zero, suc, ◌+◌, ◌-◌, ◌≤◌, ◌<◌, false, List, [], ◌∷◌, ◌++◌, map, flat_map, get_or, All, Option, Some, None, unwrap_or, refl, ap, ap₂, ◌∙◌, arith}
+use Rattle.std.specs.List.{range_with_len}
+use Rattle.bp_core.specs.declared.rectangle.Rect.{Rect}
+use Rattle.bp_core.specs.declared.review.Basis.{Basis}
+use Rattle.bp_core.specs.declared.review.Treatment.{Treatment}
+use Rattle.bp_core.specs.declared.review.Treatment.TheVariants.{Produce, Redact, Withhold}
+use Rattle.bp_rows.specs.Burned.{burned}
+use Rattle.bp_rows.specs.Image.{Image}
+use Rattle.bp_rows.proofs.BurnedLemmas.{burned-AgreeOutside}
+use Rattle.bp_burn.specs.Band.{banded}
+use Rattle.bp_text.specs.PageText.{page_text_of}
+use Rattle.bp_text.specs.declared.words.Word.{Word}
+use Rattle.bp_matter.specs.LookUps.{of_row, page_with}
+use Rattle.bp_matter.specs.Matter.{Matter}
+use Rattle.bp_matter.specs.Treatments.{is_withheld}
+use Rattle.bp_matter.specs.declared.rows.HeldRow.{HeldRow}
+use Rattle.bp_matter.specs.declared.rows.Item.{Item}
+use Rattle.bp_matter.specs.declared.rows.Production.{Production}
+use Rattle.bp_matter.specs.declared.rows.Request.{Request}
+use Rattle.bp_freeze.specs.Agree.{Agree, ItemAgrees, PagesAgree, ValueAgrees, field_number, held_for, rects_on, value_in}
+use Rattle.bp_freeze.specs.Log.{label_in}
+use Rattle.bp_freeze.specs.Seeing.{page_count}
+use Rattle.bp_freeze.proofs.AlikeLemmas.{map_over_range}
+use Rattle.bp_press.specs.Contents.{Content, content_by, ground_of, page_text, pages_of, part_of, produced_content, produced_page, value_by, value_shown, value_unless}
+use Rattle.bp_press.specs.Volume.{files_of, volume_of}
+
+-- over the members of a list
+map_over : {A B : Type 0} (f g : A → B) (xs : List A) → All (λ x. f x ≡ g x) xs → map f xs ≡ map g xs
+map_over f g [] h = refl
+map_over f g (x ∷ xs) h = ap₂ (λ y ys. y ∷ ys) (h 0 x (omega arith)) (map_over f g xs (λ k d l. h (suc k) d (omega arith)))
+
+-- over the numbers a to a + n - 1
+texts_over_range : (f g : ℕ → List ℕ) (a n : ℕ) → ((k : ℕ) → a ≤ k → k < a + n → f k ≡ g k) → flat_map f (range_with_len a n) ≡ flat_map g (range_with_len a n)
+texts_over_range f g a zero h = refl
+texts_over_range f g a (suc n) h = ap₂ (λ x xs. x ++ xs) (h a (omega arith) (omega arith)) (texts_over_range f g (a + 1) n (λ k low high. h k (omega arith) (omega arith)))
+
+-- ---- pages
+
+same_burned : (rects : List Rect) (none : Image) (o p : Option Image) → PagesAgree rects o p → burned (unwrap_or o none) rects ≡ burned (unwrap_or p none) rects
+same_burned rects none None None agree = refl
+same_burned rects none None (Some q) agree = absurd agree
+same_burned rects none (Some p) None agree = absurd agree
+same_burned rects none (Some p) (Some q) agree = burned-AgreeOutside rects p q agree
+
+-- the page of an item, if it is there
+abbrev image_of : Matter → Item → ℕ → Option Image
+image_of m i page = of_row (λ row. row.image) (page_with i.doc.0 page m)
+
+same_page : (q : Request) (m n : Matter) (i : Item) (page : ℕ) → PagesAgree (rects_on i.boxes page) (image_of m i page) (image_of n i page) → produced_page q m i page ≡ produced_page q n i page
+unfolding produced_page
+same_page q m n i page agree =
+    ap (λ (p : Image). banded p (label_in q.prefix (i.span.first + page - 1)) i.designation)
+    (same_burned (rects_on i.boxes page) _ (image_of m i page) (image_of n i page) agree)
+
+same_images : (f : Production) (m n : Matter) (i : Item) → ItemAgrees f m n i → map (produced_page f.request m i) (pages_of m i.doc.0) ≡ map (produced_page f.request n i) (pages_of n i.doc.0)
+same_images f m n i agree =
+    map_over_range (produced_page f.request m i) (produced_page f.request n i) 1 (page_count m i.doc.0)
+    (λ page low high. same_page f.request m n i page (agree.pages page low (omega arith)).image)
+    ∙ ap (λ count. map (produced_page f.request n i) (range_with_len 1 count)) agree.counts
+
+-- ---- words
+
+same_text : (f : Production) (m n : Matter) (i : Item) → ItemAgrees f m n i → flat_map (page_text m i) (pages_of m i.doc.0) ≡ flat_map (page_text n i) (pages_of n i.doc.0)
+same_text f m n i agree =
+    texts_over_range (page_text m i) (page_text n i) 1 (page_count m i.doc.0)
+    (λ page low high. ap (λ (words : Option (List Word)). page_text_of (unwrap_or words [])) (agree.pages page low (omega arith)).words)
+    ∙ ap (λ count. flat_map (page_text n i) (range_with_len 1 count)) agree.counts
+
+-- ---- values
+
+same_unless : (held : Option HeldRow) (o p : Option (List ℕ)) → (held ≡ None → o ≡ p) → value_unless held o ≡ value_unless held p
+same_unless (Some held) o p h = refl
+same_unless None o p h = ap (λ value. unwrap_or value []) (h refl)
+
+same_by : (m n : Matter) (i : Item) (o : Option ℕ) → ((field : ℕ) → o ≡ Some field → held_for i.held field ≡ None → value_in m i.doc.0 field ≡ value_in n i.doc.0 field) → value_by m i o ≡ value_by n i o
+same_by m n i None h = refl
+same_by m n i (Some field) h = same_unless (held_for i.held field) (value_in m i.doc.0 field) (value_in n i.doc.0 field) (h field refl)
+
+same_value : (m n : Matter) (i : Item) (name : List ℕ) → field_number m name ≡ field_number n name → ValueAgrees m n i name → value_shown m i name ≡ value_shown n i name
+same_value m n i name number agree = same_by m n i (field_number m name) agree ∙ ap (value_by n i) number
+
+same_values : (f : Production) (m n : Matter) (i : Item) → Agree f m n → ItemAgrees f m n i → map (value_shown m i) f.request.fields ≡ map (value_shown n i) f.request.fields
+same_values f m n i both agree =
+    map_over (value_shown m i) (value_shown n i) f.request.fields
+    (λ k d l. same_value m n i (get_or f.request.fields k d) (both.numbers k d l) (agree.values k d l))
+
+-- ---- items
+
+content : List Image → List ℕ → List (List ℕ) → Content
+content images text values = record { images = images; text = text; values = values }
+
+same_produced : (f : Production) (m n : Matter) (i : Item) → Agree f m n → ItemAgrees f m n i → produced_content f.request m i ≡ produced_content f.request n i
+unfolding content
+same_produced f m n i both agree =
+    let fields : List (List ℕ) = f.request.fields in
+    ap (λ images. content images (flat_map (page_text m i) (pages_of m i.doc.0)) (map (value_shown m i) fields)) (same_images f m n i agree)
+    ∙ ap (λ text. content (map (produced_page f.request n i) (pages_of n i.doc.0)) text (map (value_shown m i) fields)) (same_text f m n i agree)
+    ∙ ap (λ values. content (map (produced_page f.request n i) (pages_of n i.doc.0)) (flat_map (page_text n i) (pages_of n i.doc.0)) values) (same_values f m n i both agree)
+
+-- of a withheld item nothing is asked, since it shows nothing of the matter
+same_content : (q : Request) (m n : Matter) (i : Item) (ground : Option Basis) → (ground ≡ None → produced_content q m i ≡ produced_content q n i) → content_by q m i ground ≡ content_by q n i ground
+same_content q m n i (Some basis) h = refl
+same_content q m n i None h = h refl
+
+not_withheld : (t : Treatment) → ground_of t ≡ None → is_withheld t ≡ false
+not_withheld Produce h = refl
+not_withheld Redact h = refl
+not_withheld (Withhold basis) h = absurd cc
+
+same_part : (f : Production) (m n : Matter) (i : Item) → Agree f m n → (is_withheld i.treatment ≡ false → ItemAgrees f m n i) → part_of f.request m i ≡ part_of f.request n i
+same_part f m n i both agrees =
+    ap (λ (c : Content). record { item = i; content = c })
+    (same_content f.request m n i (ground_of i.treatment) (λ none. same_produced f m n i both (agrees (not_withheld i.treatment none))))
+
+same_parts : (f : Production) (m n : Matter) → Agree f m n → map (part_of f.request m) f.items ≡ map (part_of f.request n) f.items
+same_parts f m n both =
+    map_over (part_of f.request m) (part_of f.request n) f.items
+    (λ k d l. same_part f m n (get_or f.items k d) both (both.items k d l))
+
+pub volume-same : (f : Production) (m n : Matter) → Agree f m n → volume_of f m ≡ volume_of f n
+unfolding volume_of
+volume-same f m n both = ap (files_of f) (same_parts f m n both)

@@ -1,0 +1,6 @@
+pub mod Contents
+pub mod Files
+pub mod LoadFiles
+pub mod Manifest
+pub mod Paths
+pub mod Volume

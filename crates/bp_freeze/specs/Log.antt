@@ -81,7 +81,8 @@ log_columns =
     codes "BEGLABEL" ∷ codes "ENDLABEL" ∷ codes "TREATMENT" ∷ codes "BASIS"
     ∷ codes "DATE" ∷ codes "AUTHOR" ∷ codes "RECIPIENTS" ∷ codes "DESCRIPTION" ∷ []
 
--- the line of an item that the log lists: it is withheld, or has a box or a held field with AC or WP
+-- the line of an item that the log lists: it is withheld, or has a box or a held field with AC or
+-- WP
 abbrev pub log_line : Prefix → Item → List ℕ
 log_line prefix i = if is_logged i then csv_line (log_row prefix i) else []
 

@@ -20,10 +20,10 @@ use bp_core::{ListOf, OutOfMemory, Refusal, Rule, RuleKind, Text, TextList};
 use bp_matter::{Item, MAX_PRODUCTIONS, Production, Request, Tables};
 use std::alloc::Global;
 
-/// The production that a request gives from then on, or the first rule that it breaks. A kept id answers
-/// with its production, where the request is equal, and with RequestDiffers where it isn't. What is
-/// answered depends on what was decided, and on how many pages those documents of the range have that
-/// aren't withheld, and on nothing else.
+/// The production that a request gives from then on, or the first rule that it breaks (FRCP 34).
+/// A kept id answers with its production, where the request is equal, and with RequestDiffers where
+/// it isn't. What is answered depends on what was decided, and on how many pages those documents of
+/// the range have that aren't withheld, and on nothing else.
 pub fn freeze(alloc: Global, tables: &Tables, request: &Request) -> Result<Production, Refusal>
     ensures answer { Answers (λ f. f) result (freeze_of tables.now.matter request.now) }
     ensures alike { (other : Matter) →

@@ -1,5 +1,9 @@
-//! The freeze of the decisions: which documents a request produces, under which label numbers, and
-//! the privilege log of what is held back.
+//! The freeze of the decisions: which documents a request produces (FRCP 34), under which label
+//! numbers, and the privilege log of what is held back (FRCP 26(b)(5)(A)).
+//!
+//! `freeze` gives the production of a request, or the first rule that it breaks: `freeze_of` of
+//! specs/Freezing.antt. `log_text` gives the log of a production: `log_of` of specs/Log.antt.
+//! `same_freeze` says which matters a freeze can't tell apart: specs/Alike.antt.
 #![tactic(auto)]
 
 mod documents;
@@ -8,10 +12,14 @@ mod freezing;
 mod items;
 mod laws;
 mod log;
+mod loggable;
 mod marks;
 mod requests;
+#[cfg(test)]
+mod tests;
 mod texts;
 
 pub use freezing::freeze;
 pub use laws::same_freeze;
 pub use log::log_text;
+pub use loggable::can_be_logged;

@@ -51,8 +51,8 @@ fn bytes_of(writer: Writer<Vec<u8>>) -> Result<Bytes, OutOfMemory>
     }
 }
 
-// A line of the values of this record. Bytes in memory are written without a fault, and each line has
-// as many values as the first, so that an error is want of memory.
+// A line of the values of this record. Bytes in memory are written without a fault, and each line
+// has as many values as the first, so that an error is want of memory.
 fn put_line(writer: &mut Writer<Vec<u8>>, row: &ByteRecord) -> Result<(), OutOfMemory>
     requires between { IsBetween writer.old }
     requires many { 2 ≤ length (fields_of row.now) }
@@ -168,7 +168,7 @@ fn add(row: &mut ByteRecord, value: &[u8]) -> Result<(), OutOfMemory>
 }
 
 // Whether the log lists an item: it is withheld, or has a box or a held field with AC or WP.
-fn is_logged(item: &Item) -> bool
+pub(crate) fn is_logged(item: &Item) -> bool
     ensures { result ≡ is_logged item.now }
 {
     is_withheld(item.treatment)

@@ -7,6 +7,7 @@ use Rattle.bp_core.specs.declared.review.Basis.TheVariants.{Ac, Wp, Pi}
 use Rattle.bp_core.specs.declared.review.Treatment.{Treatment}
 use Rattle.bp_core.specs.declared.review.Treatment.TheVariants.{Produce, Redact, Withhold}
 use Rattle.bp_core.specs.declared.rules.Rule.{Rule}
+use Rattle.bp_codes.specs.Glyphs.{glyph_rows}
 use Rattle.bp_rows.specs.Burned.{burned}
 use Rattle.bp_rows.specs.Image.{Image, pixel, white_image}
 use Rattle.bp_rows.specs.declared.resolution.Unit.TheVariants.{Inch}
@@ -251,6 +252,11 @@ box_is_black : (pixel (produced_page asked smith redacted 1) 8 7 ∷ pixel (prod
 unfolding produced_page
 box_is_black = refl
 
+-- the label ends in 1, whose glyph has one bit in its first row, where that of 0 and of 2 has three
+label_is_drawn : (pixel (produced_page asked smith redacted 1) 37 36 ∷ pixel (produced_page asked smith redacted 1) 37 39 ∷ pixel (produced_page asked smith redacted 1) 37 42 ∷ []) ≡ (false ∷ true ∷ false ∷ [])
+unfolding produced_page glyph_rows
+label_is_drawn = refl
+
 page_agrees : PageAgrees smith jones redacted 1
 page_agrees = record {
   image = record {
@@ -318,6 +324,49 @@ family_frozen = refl
 family_pressed : pressed (family 40) (freeze_of (family 40) family_asked) ≡ pressed (family 1) (freeze_of (family 1) family_asked)
 unfolding freeze_of volume_of files_of produced_page
 family_pressed = refl
+
+-- ---- a document of two pages, the second without words
+
+abbrev line_word : ℕ → List ℕ → Word
+line_word line text = record {
+  line = line;
+  rect = record { left = 0; top = 0; width = 4; height = 4 };
+  text = text;
+}
+
+abbrev worded : Matter
+worded = record empty {
+  docs = doc 1 1 2 [] ∷ [];
+  calls = call 1 Produce ∷ [];
+  words =
+      record { doc = record { 0 = 1 }; page = record { 0 = 1 }; words = line_word 1 (codes "a") ∷ line_word 1 (0xE9 ∷ []) ∷ line_word 2 (codes "b") ∷ [] }
+      ∷ record { doc = record { 0 = 1 }; page = record { 0 = 2 }; words = [] } ∷ [];
+}
+
+-- U+00E9 has two bytes in UTF-8
+two_page_texts : file_at (codes "V1/TEXT/0001/AB-0001.TXT") (pressed worded (freeze_of worded (record asked { to = record { 0 = 1 } })))
+    ≡ Some (codes "a " ++ 0xC3 ∷ 0xA9 ∷ codes "\r\nb\r\n" ++ 12 ∷ 12 ∷ [])
+unfolding freeze_of volume_of files_of lib.Utf8.encode
+two_page_texts = refl
+
+-- ---- a document of a thousand pages, and one after it
+
+abbrev thousand : Matter
+thousand = record empty {
+  docs = doc 1 1 1000 [] ∷ doc 2 2 1 [] ∷ [];
+  calls = call 1 Produce ∷ call 2 Produce ∷ [];
+}
+
+abbrev thousand_paths : List (List ℕ)
+unfolding freeze_of lib.Utf8.encode
+thousand_paths = paths (pressed thousand (freeze_of thousand asked))
+
+-- its last image and its text, and then the image and the text of the other
+around_a_thousand : (get_or thousand_paths 999 [] ∷ get_or thousand_paths 1000 [] ∷ get_or thousand_paths 1001 [] ∷ get_or thousand_paths 1002 [] ∷ [])
+    ≡ (codes "V1/IMAGES/0001/AB-1000.TIF" ∷ codes "V1/TEXT/0001/AB-0001.TXT"
+    ∷ codes "V1/IMAGES/0002/AB-1001.TIF" ∷ codes "V1/TEXT/0002/AB-1001.TXT" ∷ [])
+unfolding freeze_of lib.Utf8.encode thousand_paths volume_of files_of
+around_a_thousand = refl
 
 -- ---- twelve documents in four families, of which one isn't responsive; the third is withheld for AC,
 -- the fifth holds AUTHOR for PI, and the tenth has an AC box

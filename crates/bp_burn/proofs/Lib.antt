@@ -1,5 +1,5 @@
 mod AsciiLemmas
-mod BandLemmas
+pub mod BandLemmas
 mod BoxPartLemmas
 mod CopyLemmas
 mod Examples

@@ -1,2 +1,4 @@
 mod Examples
 pub mod SameLemmas
+pub mod KeptPageLemmas
+pub mod ReadLemmas

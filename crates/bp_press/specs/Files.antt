@@ -33,7 +33,8 @@ image_files q place number (image ∷ images) =
 
 -- the file of the text of an item, in UTF-8
 abbrev pub text_file : Request → Placed → FileRow
-text_file q p = file (text_path solidus q p.place p.item.span.first) (encode_utf8_all p.content.text)
+text_file q p =
+    file (text_path solidus q p.place p.item.span.first) (encode_utf8_all p.content.text)
 
 abbrev pub item_files : Request → Placed → List FileRow
 item_files q p = image_files q p.place p.item.span.first p.content.images ++ text_file q p ∷ []

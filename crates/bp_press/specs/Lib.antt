@@ -3,4 +3,5 @@ pub mod Files
 pub mod LoadFiles
 pub mod Manifest
 pub mod Paths
+pub mod ReadBack
 pub mod Volume

@@ -36,9 +36,17 @@ with_manifest q files = files ++ file (manifest_path q) (manifest_of files) ∷ 
 unfoldable pub files_of : Production → List Part → List FileRow
 files_of f parts = with_manifest f.request (files_before f (placed 0 parts))
 
+-- what a matter shows of the items of a production
+abbrev pub parts_of : Production → Matter → List Part
+parts_of f m = map (part_of f.request m) f.items
+
+-- the same, each part at its place in the volume
+abbrev pub placed_items : Production → Matter → List Placed
+placed_items f m = placed 0 (parts_of f m)
+
 -- Volume: the files of a production, with what a matter shows of its items
 unfoldable pub volume_of : Production → Matter → List FileRow
-volume_of f m = files_of f (map (part_of f.request m) f.items)
+volume_of f m = files_of f (parts_of f m)
 
 -- the bytes of the file of a path, if there is one
 abbrev pub file_at : List ℕ → List FileRow → Option (List ℕ)

@@ -1,9 +1,11 @@
 //! The volume of a frozen production: the image and the text of each item, the load files, the
 //! privilege log and the manifest. Its definition is `volume_of` in specs/Volume.antt.
 //!
-//! So far the crate has the definitions and their laws; the call that writes a volume to a folder is
-//! to come.
+//! So far the crate has the definitions and their laws; the call that writes a volume to a folder
+//! is to come.
 #![tactic(auto)]
 
-pub mod laws;
+mod laws;
 pub mod paths;
+
+pub use laws::{images_are_read, same_product, same_volume};

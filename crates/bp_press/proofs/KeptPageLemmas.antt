@@ -1,0 +1,183 @@
+-- Each page of an item that a valid matter keeps is there, and is one that can be written.
+use Rattle.std.proofs.Common.{◌≡◌, ℕ, zero, suc, ◌+◌, ◌-◌, ◌≤◌, ◌<◌, ◌^◌, Bool, true, List, [], ◌∷◌, length, map, drop, get_or, All, Option, Some, None, refl, ap, sym, ◌∙◌, arith, eqb, inl, inr}
+use Rattle.std.specs.List.{find, list_all, list_any}
+use Rattle.std.specs.Prelude.{IsTrue, slice_index_or}
+use Rattle.std.specs.Str.{bytes_eq}
+use Rattle.std.proofs.lemmas.Bool.{and_parts, cases_Bool, eqb-true, eq-eqb, ltb-true, or_left, or_right}
+use Rattle.bp_core.specs.Sorted.{find_key, two_keys}
+use Rattle.bp_rows.specs.Image.{Image, IsPage}
+use Rattle.bp_rows.specs.Limits.{sides_are_imported}
+use Rattle.bp_matter.specs.LookUps.{of_row, page_with}
+use Rattle.bp_matter.specs.Matter.{Matter, doc_key, page_key}
+use Rattle.bp_matter.specs.Valid.{IsValid}
+use Rattle.bp_matter.specs.ValidItems.{item_fits, item_of}
+use Rattle.bp_matter.specs.ValidPages.{are_paged, has_rows, page_fits}
+use Rattle.bp_matter.specs.ValidProductions.{production_fits}
+use Rattle.bp_matter.specs.ValidRows.{is_numbered}
+use Rattle.bp_matter.specs.Written.{image_written, page_written}
+use Rattle.bp_matter.specs.declared.rows.DocRow.{DocRow}
+use Rattle.bp_matter.specs.declared.rows.Item.{Item}
+use Rattle.bp_matter.specs.declared.rows.PageRow.{PageRow}
+use Rattle.bp_matter.specs.declared.rows.Production.{Production}
+use Rattle.bp_matter.specs.declared.rows.ProductionRow.{ProductionRow}
+use Rattle.bp_matter.proofs.ImageLemmas.{plain_page}
+use Rattle.bp_freeze.specs.Freezing.{kept_production}
+use Rattle.bp_freeze.specs.Seeing.{page_count}
+use Rattle.bp_press.specs.Contents.{page_in}
+
+-- ---- lists
+
+-- a member that is found passes what all pass
+passes : {T : Type 0} (test fits : T → Bool) (rows : List T) (row : T) → find test rows ≡ Some row → list_all fits rows ≡ true → fits row ≡ true
+passes test fits [] row found all = absurd cc
+passes test fits (first ∷ rows) row found all =
+    let parts = and_parts (fits first) (list_all fits rows) all in
+    elim (cases_Bool (test first)) [
+      | inl same_key ↦ (
+          let same : first ≡ row = cc in
+          ap fits (sym same) ∙ parts.0)
+      | inr other ↦ (
+          let later : find test rows ≡ Some row = cc in
+          passes test fits rows row later parts.1)
+    ]
+
+-- what is there is found
+finds : {T : Type 0} (test : T → Bool) (rows : List T) → list_any test rows ≡ true → (row : T) × (find test rows ≡ Some row)
+finds test [] any = absurd cc
+finds test (first ∷ rows) any =
+    elim (cases_Bool (test first)) [
+      | inl same_key ↦ (first, rw same_key refl)
+      | inr other ↦ (
+          let later : list_any test rows ≡ true = cc in
+          let rest = finds test rows later in
+          (rest.0, rw other rest.1))
+    ]
+
+-- what is left after the first rows was there before
+any-drop : {T : Type 0} (test : T → Bool) (n : ℕ) (rows : List T) → list_any test (drop n rows) ≡ true → list_any test rows ≡ true
+any-drop test zero rows any = any
+any-drop test (suc n) [] any = absurd cc
+any-drop test (suc n) (row ∷ rows) any = or_right (test row) (list_any test rows) (any-drop test n rows any)
+
+-- ---- the pages of a document
+
+-- so many rows have the keys from k on
+has-key : {T : Type 0} (key : T → ℕ) (n k j : ℕ) (rows : List T) → has_rows key n k rows ≡ true → j < n → list_any (λ row. eqb (key row) (k + j)) rows ≡ true
+has-key key zero k j rows has l = absurd (omega arith)
+has-key key (suc n) k j [] has l = absurd cc
+has-key key (suc n) k zero (row ∷ rows) has l =
+    let parts = and_parts (eqb (key row) k) (has_rows key n (k + 1) rows) has in
+    let is : key row ≡ k = eqb-true (key row) k parts.0 in
+    or_left (eqb (key row) (k + 0)) (list_any (λ other. eqb (key other) (k + 0)) rows) (eq-eqb (key row) (k + 0) (omega arith))
+has-key key (suc n) k (suc j) (row ∷ rows) has l =
+    let parts = and_parts (eqb (key row) k) (has_rows key n (k + 1) rows) has in
+    let at : (k + 1) + j ≡ k + suc j = omega arith in
+    or_right (eqb (key row) (k + suc j)) (list_any (λ other. eqb (key other) (k + suc j)) rows)
+    (sym (ap (λ at. list_any (λ other. eqb (key other) at) rows) at) ∙ has-key key n (k + 1) j rows parts.1 (omega arith))
+
+page-there : (doc page : ℕ) (row : DocRow) (docs : List DocRow) (pages : List PageRow) → are_paged page_key docs pages ≡ true → find_key doc_key doc docs ≡ Some row → 1 ≤ page → page ≤ row.pages
+    → list_any (λ other. eqb (page_key other) (two_keys doc page)) pages ≡ true
+page-there doc page row [] pages paged found low high = absurd cc
+page-there doc page row (first ∷ docs) pages paged found low high =
+    let parts = and_parts (has_rows page_key first.pages (two_keys first.doc.0 1) pages) (are_paged page_key docs (drop first.pages pages)) paged in
+    elim (cases_Bool (eqb first.doc.0 doc)) [
+      | inl same_key ↦ (
+          let same : first ≡ row = cc in
+          let many : first.pages ≡ row.pages = ap (λ (r : DocRow). r.pages) same in
+          let is : first.doc.0 ≡ doc = eqb-true first.doc.0 doc same_key in
+          let at : two_keys first.doc.0 1 + (page - 1) ≡ two_keys doc page = omega arith in
+          sym (ap (λ k. list_any (λ other. eqb (page_key other) k) pages) at) ∙ has-key page_key first.pages (two_keys first.doc.0 1) (page - 1) pages parts.0 (omega arith))
+      | inr other ↦ (
+          let later : find_key doc_key doc docs ≡ Some row = cc in
+          any-drop (λ other. eqb (page_key other) (two_keys doc page)) first.pages pages (page-there doc page row docs (drop first.pages pages) parts.1 later low high))
+    ]
+
+-- documents are numbered
+counted : (n doc : ℕ) (row : DocRow) (docs : List DocRow) → is_numbered doc_key n docs ≡ true → find_key doc_key doc docs ≡ Some row → (n ≤ doc) × (slice_index_or (map (λ (r : DocRow). r.pages) docs) (doc - n) 0 ≡ row.pages)
+counted n doc row [] numbered found = absurd cc
+counted n doc row (first ∷ docs) numbered found =
+    let parts = and_parts (eqb first.doc.0 n) (is_numbered doc_key (n + 1) docs) numbered in
+    let number : first.doc.0 ≡ n = eqb-true first.doc.0 n parts.0 in
+    elim (cases_Bool (eqb first.doc.0 doc)) [
+      | inl same_key ↦ (
+          let same : first ≡ row = cc in
+          let is : first.doc.0 ≡ doc = eqb-true first.doc.0 doc same_key in
+          let at : doc - n ≡ 0 = omega arith in
+          (omega arith, ap (λ k. slice_index_or (map (λ (r : DocRow). r.pages) (first ∷ docs)) k 0) at ∙ ap (λ (r : DocRow). r.pages) same))
+      | inr other ↦ (
+          let later : find_key doc_key doc docs ≡ Some row = cc in
+          let rest = counted (n + 1) doc row docs parts.1 later in
+          let at : doc - n ≡ suc (doc - (n + 1)) = omega (arith, rest.0) in
+          (omega (arith, rest.0), ap (λ k. slice_index_or (map (λ (r : DocRow). r.pages) (first ∷ docs)) k 0) at ∙ rest.1))
+    ]
+
+-- ---- a page
+
+-- a page that came in, and can be written
+pub record IsScan (p : Image) : Type 0 where
+  pub page : IsPage p
+  pub sides : IsTrue (sides_are_imported p.width p.height)
+
+is_scan : (row : PageRow) → page_fits row ≡ true → page_written row ≡ true → IsScan row.image
+is_scan row fits written =
+    let p : Image = row.image in
+    let image = and_parts _ (image_written p) (and_parts _ _ written).1 in
+    let xnum = and_parts _ _ (and_parts _ _ (and_parts _ _ image.1).1).1 in
+    let xden = and_parts _ _ xnum.1 in
+    let ynum = and_parts _ _ xden.1 in
+    let yden = and_parts _ _ ynum.1 in
+    record {
+      page = record {
+        sides = (plain_page p.width p.height p.rows yden.1).sides;
+        xres = record { num = ltb-true p.xres.num (2 ^ 32) xnum.0; den = ltb-true p.xres.den (2 ^ 32) xden.0 };
+        yres = record { num = ltb-true p.yres.num (2 ^ 32) ynum.0; den = ltb-true p.yres.den (2 ^ 32) yden.0 };
+        grid = (plain_page p.width p.height p.rows yden.1).grid;
+      };
+      sides = fits;
+    }
+
+scan_found : (m : Matter) → IsValid m → (doc page : ℕ) (o : Option PageRow) → page_with doc page m ≡ o → list_any (λ other. eqb (page_key other) (two_keys doc page)) m.pages ≡ true → IsScan (page_in m doc page)
+scan_found m valid doc page None is any = absurd (let found = finds (λ other. eqb (page_key other) (two_keys doc page)) m.pages any in cc)
+scan_found m valid doc page (Some row) is any =
+    let test : PageRow → Bool = λ other. eqb (page_key other) (two_keys doc page) in
+    rw is (is_scan row (passes test page_fits m.pages row is valid.pages.fit) (passes test page_written m.pages row is valid.pages.written))
+
+-- ---- the pages of an item
+
+doc_found : (m : Matter) → IsValid m → (i : Item) (o : Option DocRow) → find_key doc_key i.doc.0 m.docs ≡ o → item_of o i ≡ true
+    → (page : ℕ) → 1 ≤ page → page ≤ page_count m i.doc.0 → IsScan (page_in m i.doc.0 page)
+doc_found m valid i None is fits page low high = absurd cc
+doc_found m valid i (Some row) is fits page low high =
+    let many = counted 1 i.doc.0 row m.docs valid.docs.numbered is in
+    scan_found m valid i.doc.0 page (page_with i.doc.0 page m) refl (page-there i.doc.0 page row m.docs m.pages valid.pages.paged is low (omega (arith, many.1, high)))
+
+item_found : (m : Matter) → IsValid m → (i : Item) → item_fits (length m.fields) m.docs m.pages i ≡ true
+    → (page : ℕ) → 1 ≤ page → page ≤ page_count m i.doc.0 → IsScan (page_in m i.doc.0 page)
+item_found m valid i fits =
+    let four = and_parts _ _ fits in
+    let three = and_parts _ _ four.0 in
+    let two = and_parts _ _ three.0 in
+    let one = and_parts (item_of (find_key doc_key i.doc.0 m.docs) i) _ two.0 in
+    doc_found m valid i (find_key doc_key i.doc.0 m.docs) refl one.0
+
+all_at : {T : Type 0} (test : T → Bool) (rows : List T) → list_all test rows ≡ true → All (λ row. test row ≡ true) rows
+all_at test [] all k d l = absurd (omega arith)
+all_at test (row ∷ rows) all zero d l = (and_parts (test row) (list_all test rows) all).0
+all_at test (row ∷ rows) all (suc k) d l = all_at test rows (and_parts (test row) (list_all test rows) all).1 k d (omega arith)
+
+kept_fits : (m : Matter) → IsValid m → (f : Production) (o : Option ProductionRow) → find (λ row. bytes_eq row.production.request.id f.request.id) m.productions ≡ o → of_row (λ row. row.production) o ≡ Some f
+    → list_all (item_fits (length m.fields) m.docs m.pages) f.items ≡ true
+kept_fits m valid f None is kept = absurd cc
+kept_fits m valid f (Some row) is kept =
+    let same : row.production ≡ f = cc in
+    let fits = passes (λ row. bytes_eq row.production.request.id f.request.id) (production_fits m.fields m.docs m.pages) m.productions row is valid.productions.fit in
+    let three = and_parts _ _ fits in
+    let two = and_parts _ (list_all (item_fits (length m.fields) m.docs m.pages) row.production.items) three.0 in
+    sym (ap (λ (g : Production). list_all (item_fits (length m.fields) m.docs m.pages) g.items) same) ∙ two.1
+
+-- each page of each item
+pub pages-there : (m : Matter) → IsValid m → (f : Production) → kept_production m.productions f.request.id ≡ Some f
+    → All (λ i. (page : ℕ) → 1 ≤ page → page ≤ page_count m i.doc.0 → IsScan (page_in m i.doc.0 page)) f.items
+pages-there m valid f kept k d l =
+    item_found m valid (get_or f.items k d)
+    (all_at (item_fits (length m.fields) m.docs m.pages) f.items (kept_fits m valid f (find (λ row. bytes_eq row.production.request.id f.request.id) m.productions) refl kept) k d l)

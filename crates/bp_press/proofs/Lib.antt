@@ -1,4 +1,5 @@
 mod Examples
-pub mod SameLemmas
+pub mod GrowLemmas
 pub mod KeptPageLemmas
 pub mod ReadLemmas
+pub mod SameLemmas

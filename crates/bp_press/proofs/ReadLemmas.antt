@@ -25,7 +25,7 @@ use Rattle.bp_matter.specs.Valid.{IsValid}
 use Rattle.bp_matter.specs.declared.rows.Item.{Item}
 use Rattle.bp_matter.specs.declared.rows.Production.{Production}
 use Rattle.bp_matter.specs.declared.rows.Request.{Request}
-use Rattle.bp_freeze.specs.Freezing.{kept_production}
+use Rattle.bp_press.specs.Keeping.{Keeps}
 use Rattle.bp_freeze.specs.Log.{label_in}
 use Rattle.bp_freeze.specs.Agree.{rects_on}
 use Rattle.bp_freeze.specs.Seeing.{page_count}
@@ -178,7 +178,7 @@ in_volume f m path page h =
     holds_left (files_before f (placed_items f m)) (file (manifest_path f.request) (manifest_of (files_before f (placed_items f m))) ∷ []) path page
     (holds_left (flat_map (item_files f.request) (placed_items f m)) (data_files f (placed_items f m)) path page h)
 
-pub read-back : ReadLaw → (f : Production) (m : Matter) → IsValid m → kept_production m.productions f.request.id ≡ Some f → IsReadBack f m
+pub read-back : ReadLaw → (f : Production) (m : Matter) → IsValid m → Keeps m f → IsReadBack f m
 read-back law f m valid kept k d l =
     let q : Request = f.request in
     let p : Placed = get_or (placed_items f m) k d in

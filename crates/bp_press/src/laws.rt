@@ -1,13 +1,13 @@
 //! The laws of the volume. The functions do nothing: the contract of each is the law.
-ghost use Rattle.std.specs.Prelude.{◌≡◌, Ok, Some};
+ghost use Rattle.std.specs.Prelude.{◌≡◌, Ok};
 ghost use Rattle.bp_matter.specs.Matter.{Matter};
+ghost use Rattle.bp_matter.specs.Valid.{IsValid};
 ghost use Rattle.bp_matter.specs.declared.rows.Production.{Production};
 ghost use Rattle.bp_matter.specs.declared.rows.Request.{Request};
 ghost use Rattle.bp_freeze.specs.Agree.{Agree};
 ghost use Rattle.bp_freeze.specs.Alike.{Alike};
 ghost use Rattle.bp_freeze.specs.Freezing.{freeze_of};
-ghost use Rattle.bp_freeze.specs.Freezing.{kept_production};
-ghost use Rattle.bp_matter.specs.Valid.{IsValid};
+ghost use Rattle.bp_press.specs.Keeping.{GrowsTo, Keeps};
 ghost use Rattle.bp_press.specs.ReadBack.{IsReadBack};
 ghost use Rattle.bp_press.specs.Volume.{volume_of};
 
@@ -32,13 +32,20 @@ pub fn same_product()
         → volume_of f n ≡ volume_of f m }
 {}
 
-/// Each image of the volume of a production that a valid matter keeps is read as the page, burned and
-/// with its band, or the slip sheet that it stands for, and as no other page.
-pub fn images_are_read()
-    ensures { (f : Production) (m : Matter)
+/// The volume of a production that a valid matter keeps stays as it is, whatever is decided later
+/// and whatever comes in.
+pub fn volume_stays()
+    ensures { (f : Production) (m n : Matter)
         → IsValid m
-        → kept_production m.productions f.request.id ≡ Some f
-        → IsReadBack f m }
+        → Keeps m f
+        → GrowsTo m n
+        → volume_of f n ≡ volume_of f m }
+{}
+
+/// Each image of the volume of a production that a valid matter keeps is read as the page, burned
+/// and with its band, or the slip sheet that it was made of, and as no other page.
+pub fn images_are_read()
+    ensures { (f : Production) (m : Matter) → IsValid m → Keeps m f → IsReadBack f m }
 {
     written_is_read();
 }

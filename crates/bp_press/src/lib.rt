@@ -8,4 +8,4 @@
 mod laws;
 pub mod paths;
 
-pub use laws::{images_are_read, same_product, same_volume};
+pub use laws::{images_are_read, same_product, same_volume, volume_stays};

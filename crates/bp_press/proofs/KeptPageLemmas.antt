@@ -24,7 +24,7 @@ use Rattle.bp_matter.specs.declared.rows.ProductionRow.{ProductionRow}
 use Rattle.bp_matter.proofs.ImageLemmas.{plain_page}
 use Rattle.bp_press.specs.Keeping.{Keeps}
 use Rattle.bp_freeze.specs.Seeing.{page_count}
-use Rattle.bp_press.specs.Contents.{page_in}
+use Rattle.bp_press.specs.Contents.{image_in}
 
 -- ---- lists
 
@@ -138,7 +138,7 @@ is_scan row fits written =
       sides = fits;
     }
 
-scan_found : (m : Matter) → IsValid m → (doc page : ℕ) (o : Option PageRow) → page_with doc page m ≡ o → list_any (λ other. eqb (page_key other) (two_keys doc page)) m.pages ≡ true → IsScan (page_in m doc page)
+scan_found : (m : Matter) → IsValid m → (doc page : ℕ) (o : Option PageRow) → page_with doc page m ≡ o → list_any (λ other. eqb (page_key other) (two_keys doc page)) m.pages ≡ true → IsScan (image_in m doc page)
 scan_found m valid doc page None is any = absurd (let found = finds (λ other. eqb (page_key other) (two_keys doc page)) m.pages any in cc)
 scan_found m valid doc page (Some row) is any =
     let test : PageRow → Bool = λ other. eqb (page_key other) (two_keys doc page) in
@@ -160,7 +160,7 @@ item-doc m i fits =
     doc_there m.docs i (find_key doc_key i.doc.0 m.docs) refl one.0
 
 item_found : (m : Matter) → IsValid m → (i : Item) → item_fits (length m.fields) m.docs m.pages i ≡ true
-    → (page : ℕ) → 1 ≤ page → page ≤ page_count m i.doc.0 → IsScan (page_in m i.doc.0 page)
+    → (page : ℕ) → 1 ≤ page → page ≤ page_count m i.doc.0 → IsScan (image_in m i.doc.0 page)
 item_found m valid i fits page low high =
     let found = item-doc m i fits in
     let many = counted 1 i.doc.0 found.0 m.docs valid.docs.numbered found.1 in
@@ -203,5 +203,5 @@ kept-fields m valid f kept =
 
 -- each page of each item
 pub pages-there : (m : Matter) → IsValid m → (f : Production) → Keeps m f
-    → All (λ i. (page : ℕ) → 1 ≤ page → page ≤ page_count m i.doc.0 → IsScan (page_in m i.doc.0 page)) f.items
+    → All (λ i. (page : ℕ) → 1 ≤ page → page ≤ page_count m i.doc.0 → IsScan (image_in m i.doc.0 page)) f.items
 pages-there m valid f kept k d l = item_found m valid (get_or f.items k d) (kept-items m valid f kept k d l)

@@ -3,3 +3,4 @@ pub mod GrowLemmas
 pub mod KeptPageLemmas
 pub mod ReadLemmas
 pub mod SameLemmas
+mod TwelveExamples

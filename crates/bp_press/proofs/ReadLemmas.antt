@@ -29,7 +29,7 @@ use Rattle.bp_press.specs.Keeping.{Keeps}
 use Rattle.bp_freeze.specs.Log.{label_in}
 use Rattle.bp_freeze.specs.Agree.{rects_on}
 use Rattle.bp_freeze.specs.Seeing.{page_count}
-use Rattle.bp_press.specs.Contents.{Content, content_by, ground_of, page_in, pages_of, part_of, produced_page, slip_sheet}
+use Rattle.bp_press.specs.Contents.{Content, content_by, ground_of, image_in, pages_of, part_of, produced_page, slip_sheet}
 use Rattle.bp_press.specs.Files.{Placed, image_files, item_files, placed, text_file}
 use Rattle.bp_press.specs.Paths.{image_path, manifest_path}
 use Rattle.bp_press.specs.Manifest.{manifest_of}
@@ -65,11 +65,11 @@ slip_is_page : (basis : Basis) (label designation : List ℕ) → IsPage (slip_o
 slip_is_page basis label designation =
     banded_is_page (inked paper (is_drawn (slip_text basis) 1000 200 0)) label designation refl (record { num = omega arith; den = omega arith }) (record { num = omega arith; den = omega arith })
 
-page_is_read : ReadLaw → (q : Request) (m : Matter) (i : Item) (page : ℕ) → IsScan (page_in m i.doc.0 page) → CanBeRead (produced_page q m i page)
+page_is_read : ReadLaw → (q : Request) (m : Matter) (i : Item) (page : ℕ) → IsScan (image_in m i.doc.0 page) → CanBeRead (produced_page q m i page)
 unfolding produced_page
 page_is_read law q m i page scan p =
     law G4 (produced_page q m i page) p
-    (produced_is_page (page_in m i.doc.0 page) (rects_on i.boxes page) (label_in q.prefix (i.span.first + page - 1)) i.designation scan)
+    (produced_is_page (image_in m i.doc.0 page) (rects_on i.boxes page) (label_in q.prefix (i.span.first + page - 1)) i.designation scan)
 
 slip_is_read : ReadLaw → (q : Request) (i : Item) (basis : Basis) → CanBeRead (slip_sheet q i basis)
 unfolding slip_sheet

@@ -22,7 +22,7 @@ use Rattle.bp_freeze.specs.Agree.{Agree, ItemAgrees, PagesAgree, ValueAgrees, fi
 use Rattle.bp_freeze.specs.Log.{label_in}
 use Rattle.bp_freeze.specs.Seeing.{page_count}
 use Rattle.bp_freeze.proofs.AlikeLemmas.{map_over_range}
-use Rattle.bp_press.specs.Contents.{Content, content_by, ground_of, page_text, pages_of, part_of, produced_content, produced_page, value_by, value_shown, value_unless}
+use Rattle.bp_press.specs.Contents.{Content, content_by, ground_of, kept_text, pages_of, part_of, produced_content, produced_page, value_by, value_shown, value_unless}
 use Rattle.bp_press.specs.Volume.{files_of, volume_of}
 
 -- over the members of a list
@@ -61,11 +61,11 @@ same_images f m n i agree =
 
 -- ---- words
 
-same_text : (f : Production) (m n : Matter) (i : Item) → ItemAgrees f m n i → flat_map (page_text m i) (pages_of m i.doc.0) ≡ flat_map (page_text n i) (pages_of n i.doc.0)
+same_text : (f : Production) (m n : Matter) (i : Item) → ItemAgrees f m n i → flat_map (kept_text m i) (pages_of m i.doc.0) ≡ flat_map (kept_text n i) (pages_of n i.doc.0)
 same_text f m n i agree =
-    texts_over_range (page_text m i) (page_text n i) 1 (page_count m i.doc.0)
+    texts_over_range (kept_text m i) (kept_text n i) 1 (page_count m i.doc.0)
     (λ page low high. ap (λ (words : Option (List Word)). page_text_of (unwrap_or words [])) (agree.pages page low (omega arith)).words)
-    ∙ ap (λ count. flat_map (page_text n i) (range_with_len 1 count)) agree.counts
+    ∙ ap (λ count. flat_map (kept_text n i) (range_with_len 1 count)) agree.counts
 
 -- ---- values
 
@@ -94,9 +94,9 @@ same_produced : (f : Production) (m n : Matter) (i : Item) → Agree f m n → I
 unfolding content
 same_produced f m n i both agree =
     let fields : List (List ℕ) = f.request.fields in
-    ap (λ images. content images (flat_map (page_text m i) (pages_of m i.doc.0)) (map (value_shown m i) fields)) (same_images f m n i agree)
+    ap (λ images. content images (flat_map (kept_text m i) (pages_of m i.doc.0)) (map (value_shown m i) fields)) (same_images f m n i agree)
     ∙ ap (λ text. content (map (produced_page f.request n i) (pages_of n i.doc.0)) text (map (value_shown m i) fields)) (same_text f m n i agree)
-    ∙ ap (λ values. content (map (produced_page f.request n i) (pages_of n i.doc.0)) (flat_map (page_text n i) (pages_of n i.doc.0)) values) (same_values f m n i both agree)
+    ∙ ap (λ values. content (map (produced_page f.request n i) (pages_of n i.doc.0)) (flat_map (kept_text n i) (pages_of n i.doc.0)) values) (same_values f m n i both agree)
 
 -- of a withheld item nothing is asked, since it shows nothing of the matter
 same_content : (q : Request) (m n : Matter) (i : Item) (ground : Option Basis) → (ground ≡ None → produced_content q m i ≡ produced_content q n i) → content_by q m i ground ≡ content_by q n i ground

@@ -47,20 +47,20 @@ withheld_content q i basis = record {
 -- ---- of an item that isn't
 
 -- a page of a document; one that isn't there has no pixels
-abbrev pub page_in : Matter → ℕ → ℕ → Image
-page_in m doc page =
+abbrev pub image_in : Matter → ℕ → ℕ → Image
+image_in m doc page =
     unwrap_or (of_row (λ row. row.image) (page_with doc page m))
     (white_image 0 0 slip_resolution slip_resolution Inch)
 
 -- its page of that number, burned, with its label and its designation
 unfoldable pub produced_page : Request → Matter → Item → ℕ → Image
 produced_page q m i page =
-    produced_of (page_in m i.doc.0 page) (rects_on i.boxes page)
+    produced_of (image_in m i.doc.0 page) (rects_on i.boxes page)
     (label_in q.prefix (i.span.first + page - 1)) i.designation
 
 -- the words of that page which no box touches
-abbrev pub page_text : Matter → Item → ℕ → List ℕ
-page_text m i page =
+abbrev pub kept_text : Matter → Item → ℕ → List ℕ
+kept_text m i page =
     page_text_of (unwrap_or (kept_words m i.doc.0 page (rects_on i.boxes page)) [])
 
 -- what stands for a value that is held
@@ -88,7 +88,7 @@ pages_of m doc = range_with_len 1 (page_count m doc)
 abbrev pub produced_content : Request → Matter → Item → Content
 produced_content q m i = record {
   images = map (produced_page q m i) (pages_of m i.doc.0);
-  text = flat_map (page_text m i) (pages_of m i.doc.0);
+  text = flat_map (kept_text m i) (pages_of m i.doc.0);
   values = map (value_shown m i) q.fields;
 }
 

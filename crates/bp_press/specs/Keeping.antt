@@ -1,5 +1,5 @@
--- Productions that a matter keeps, and what later calls and imports do to the rows that their volumes
--- are made of.
+-- Productions that a matter keeps, and what later calls and imports do to the rows that their
+-- volumes are made of.
 use Rattle.std.specs.Prelude.{◌≡◌, List, ◌++◌, Some}
 use Rattle.bp_matter.specs.Matter.{Matter}
 use Rattle.bp_matter.specs.declared.rows.DocRow.{DocRow}

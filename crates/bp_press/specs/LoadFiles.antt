@@ -46,8 +46,8 @@ abbrev pub dat_row : Production → Placed → List (List ℕ)
 dat_row f p = own_values f p ++ p.content.values
 
 -- the DAT
-abbrev pub dat_file : Production → List Placed → List ℕ
-dat_file f items =
+abbrev pub dat_bytes : Production → List Placed → List ℕ
+dat_bytes f items =
     dat_text (record { columns = columns ++ f.request.fields; rows = map (dat_row f) items })
 
 -- the line of an image of an item, counted from 0; the first says how many there are
@@ -66,5 +66,5 @@ abbrev pub opt_lines : Request → Placed → List OptLine
 opt_lines q p = map (opt_line q p) (range_with_len 0 (length p.content.images))
 
 -- the OPT
-abbrev pub opt_file : Request → List Placed → List ℕ
-opt_file q items = opt_text (flat_map (opt_lines q) items)
+abbrev pub opt_bytes : Request → List Placed → List ℕ
+opt_bytes q items = opt_text (flat_map (opt_lines q) items)

@@ -12,15 +12,15 @@ use Rattle.bp_matter.specs.declared.rows.Request.{Request}
 use Rattle.bp_freeze.specs.Log.{log_of}
 use Rattle.bp_press.specs.Contents.{Part, part_of}
 use Rattle.bp_press.specs.Files.{Placed, item_files, placed}
-use Rattle.bp_press.specs.LoadFiles.{dat_file, opt_file}
+use Rattle.bp_press.specs.LoadFiles.{dat_bytes, opt_bytes}
 use Rattle.bp_press.specs.Manifest.{manifest_of}
 use Rattle.bp_press.specs.Paths.{data_path, manifest_path}
 
 -- DAT, OPT and log
 abbrev pub data_files : Production → List Placed → List FileRow
 data_files f items =
-    file (data_path f.request (codes ".DAT")) (dat_file f items)
-    ∷ file (data_path f.request (codes ".OPT")) (opt_file f.request items)
+    file (data_path f.request (codes ".DAT")) (dat_bytes f items)
+    ∷ file (data_path f.request (codes ".OPT")) (opt_bytes f.request items)
     ∷ file (data_path f.request (codes "-LOG.CSV")) (log_of f)
     ∷ []
 

@@ -7,3 +7,14 @@ pub mod TurnLemmas
 pub mod WordLemmas
 mod Examples
 pub mod LawLemmas
+pub mod DocumentLemmas
+pub mod StepLemmas
+pub mod EachLemmas
+pub mod CountLemmas
+pub mod PlanLemmas
+pub mod DatFactLemmas
+pub mod PageFactLemmas
+pub mod TextFactLemmas
+pub mod ValueFactLemmas
+pub mod RecordFactLemmas
+pub mod OrderFactLemmas

@@ -2,10 +2,12 @@ pub mod Batch
 pub mod Breaks
 pub mod Columns
 pub mod Digest
+pub mod Documents
 pub mod Families
 pub mod Files
 pub mod Importing
 pub mod Places
+pub mod Planned
 pub mod Records
 pub mod Refusals
 pub mod Scans

@@ -1,5 +1,5 @@
 -- The images of a batch, read line by line of its OPT file.
-use Rattle.std.specs.Prelude.{ℕ, ◌≡◌, ◌+◌, List, [], ◌∷◌, ◌++◌, map, Result, Ok, Err, if◌then◌else◌}
+use Rattle.std.specs.Prelude.{ℕ, ◌≡◌, ◌+◌, ◌&&◌, Bool, List, [], ◌∷◌, ◌++◌, map, Result, Ok, Err, if◌then◌else◌}
 use Rattle.std.specs.Option.{ok_or}
 use Rattle.bp_core.specs.InTurn.{onto}
 use Rattle.bp_core.specs.Paths.{path_in}
@@ -7,6 +7,7 @@ use Rattle.bp_core.specs.Rules.{page_limit_rule, rule_at_line}
 use Rattle.bp_core.specs.declared.rules.Rule.{Rule}
 use Rattle.bp_core.specs.declared.rules.RuleKind.TheVariants.{PathRefused}
 use Rattle.bp_load.specs.declared.opt.OptLine.{OptLine}
+use Rattle.bp_matter.specs.Written.{image_written}
 use Rattle.bp_outside.specs.Source.{FileMap}
 use Rattle.bp_rows.specs.Image.{Image}
 use Rattle.bp_rows.specs.Limits.{sides_are_imported}
@@ -90,6 +91,10 @@ abbrev pub LinesAnswer : FileMap → List ℕ → ℕ → List OptLine → Resul
 LinesAnswer files name n [] answer = answer ≡ Ok []
 LinesAnswer files name n (line ∷ lines) answer =
     InTurn (LineAnswers files name n line) (LinesAnswer files name (n + 1) lines) answer
+
+-- a page comes in: its sides are those of an import, and it has a writing
+abbrev pub comes_in : Image → Bool
+comes_in page = sides_are_imported page.width page.height && image_written page
 
 -- the pages of all lines were read, and the digest of the files before them took theirs as well
 pub record ReadsImages (files : FileMap) (name : List ℕ) (lines : List OptLine)

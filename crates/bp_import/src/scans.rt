@@ -1,8 +1,9 @@
 // The images of a batch, read line by line of its OPT file.
-ghost use Rattle.std.specs.Prelude.{◌≡◌, ◌<◌, ◌+◌, ◌^◌, length, IfErr, IfSome};
+ghost use Rattle.std.specs.Prelude.{◌≡◌, ◌<◌, ◌+◌, ◌^◌, length, IfErr, IfOk, IfSome, IsTrue};
+ghost use Rattle.std.specs.List.{list_all};
 ghost use Rattle.bp_import.specs.Importing.{Comes, IsCalm, after_step};
 ghost use Rattle.bp_import.specs.Refusals.{refused_at};
-ghost use Rattle.bp_import.specs.Scans.{BytesAnswer, GivesImages, LineAnswers, path_of_line, scan_seen, scan_with};
+ghost use Rattle.bp_import.specs.Scans.{BytesAnswer, GivesImages, LineAnswers, comes_in, path_of_line, scan_seen, scan_with};
 
 use crate::digest::FilesDigest;
 use crate::files::{IMAGE, path_below, read_file};
@@ -36,6 +37,9 @@ pub fn read_image<S: Source>(
 ) -> Result<ScanFile, ImportRefusal>
     ensures told { IfSome (S.shows source.old).files (λ files.
         Comes scan_seen (LineAnswers files name.now number line.now) result) }
+
+    // Told or not, the page may come in.
+    ensures fits { IfOk result (λ scan. IsTrue (comes_in scan.page)) }
     ensures after { S.shows source.new ≡ after_step (S.shows source.old) result }
 {
     let path = image_path(alloc, name, line, number)?;
@@ -64,6 +68,10 @@ pub fn read_images<S: Source>(
     requires { length lines.now + 1 < 2 ^ 32 }
     ensures told { IfSome (S.shows source.old).files (λ files.
         GivesImages files name.now lines.now digest result) }
+
+    // Told or not, there is a page for each line, and it may come in.
+    ensures count { IfOk result (λ images. length images.pages ≡ length lines.now) }
+    ensures fits { IfOk result (λ images. IsTrue (list_all comes_in images.pages)) }
     ensures after { S.shows source.new ≡ after_step (S.shows source.old) result }
 {
     let mut pages = Vec::with_capacity(alloc, lines.len())?;
@@ -118,6 +126,7 @@ fn at_line(refusal: Refusal, number: u32) -> ImportRefusal
 // The page of the bytes at line `number`.
 fn read_page(alloc: Global, bytes: &[u8], number: u32) -> Result<Page, ImportRefusal>
     ensures answer { Comes (λ page. scan_with bytes.now page) (BytesAnswer number bytes.now) result }
+    ensures fits { IfOk result (λ page. IsTrue (comes_in page)) }
     ensures calm { IfErr result IsCalm }
 {
     let page = match read_tiff(alloc, bytes) {

@@ -18,3 +18,5 @@ pub mod TextFactLemmas
 pub mod ValueFactLemmas
 pub mod RecordFactLemmas
 pub mod OrderFactLemmas
+pub mod WordFactLemmas
+pub mod BatchFactLemmas

@@ -172,7 +172,7 @@ pub record GoodImage (image : List ℕ) : Type 0 where
   pub single : list_all (λ c. not (c == newline)) image ≡ true
   pub plain : list_all (λ c. not (c == comma)) image ≡ true
 
-some_chars : (bytes : List ℕ) (cs : List ℕ) → encode_utf8_all cs ≡ bytes → not (length bytes == 0) ≡ true → not (length cs == 0) ≡ true
+pub some_chars : (bytes : List ℕ) (cs : List ℕ) → encode_utf8_all cs ≡ bytes → not (length bytes == 0) ≡ true → not (length cs == 0) ≡ true
 some_chars bytes [] is some = let e : not (length bytes == 0) ≡ false = ap (λ b. not (length b == 0)) (sym is) in let f : true ≡ false = sym some ∙ e in cc
 some_chars bytes (c ∷ cs) is some = not_same (length (c ∷ cs)) 0 (omega arith)
 

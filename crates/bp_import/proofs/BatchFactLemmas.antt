@@ -152,10 +152,11 @@ pages_good [] (page ∷ pages) rows few differ comes good inside = tt
 pages_good (line ∷ lines) [] rows few differ comes good inside = tt
 pages_good (line ∷ lines) (page ∷ pages) rows few differ comes good inside =
     let parts = and_parts (not (list_any (λ other. bytes_eq other.image line.image) lines)) (all_differ (λ l. l.image) lines) differ in
-    let own = and_parts (comes_in page) (list_all comes_in pages) comes in
-    (page_good line lines page pages rows few own.0 good inside,
-    pages_good lines pages rows few parts.1 own.1 good
-    (each_weaker (Inside (line ∷ lines) (page ∷ pages)) (Inside lines pages) rows (λ row is. tail_inside line lines page pages row (not_true _ parts.0) is) inside))
+    let own = and_parts (comes_in page) (list_all comes_in pages) comes in (
+      page_good line lines page pages rows few own.0 good inside,
+      pages_good lines pages rows few parts.1 own.1 good
+          (each_weaker (Inside (line ∷ lines) (page ∷ pages)) (Inside lines pages) rows (λ row is. tail_inside line lines page pages row (not_true _ parts.0) is) inside),
+    )
 
 pub pages_even : (lines : List OptLine) (pages : List Image) (rows : List WordRow) → length pages ≡ length lines → length (with_words pages (words_of_lines lines rows)) ≡ length lines
 pages_even [] [] rows even = refl
@@ -196,19 +197,19 @@ GoodDoc n doc = (batch_doc_fits n doc ≡ true) × (batch_doc_written doc ≡ tr
 doc_good : (n parent : ℕ) (doc : Record) (own : List BatchPage) → n < 4294967296 → parent < 4294967296 → GoodRecord n doc → GoodImage doc.id → (1 ≤ length own) × Each GoodPage own
     → GoodDoc n (record { id = doc.id; parent = parent; values = doc.values; pages = own })
 doc_good n parent doc own few small good image pages = (
-      and_from (nat_le 1 (length own) && (length doc.values == n) && is_id_of_doc doc.id && list_all is_value doc.values) (list_all batch_page_fits own)
+  and_from (nat_le 1 (length own) && (length doc.values == n) && is_id_of_doc doc.id && list_all is_value doc.values) (list_all batch_page_fits own)
       (and_from (nat_le 1 (length own) && (length doc.values == n) && is_id_of_doc doc.id) (list_all is_value doc.values)
       (and_from (nat_le 1 (length own) && (length doc.values == n)) (is_id_of_doc doc.id)
       (and_from (nat_le 1 (length own)) (length doc.values == n) (le-leb 1 (length own) pages.0) (eq-eqb (length doc.values) n good.even))
       (id_good doc.id good.id image))
       (all_from GoodValue is_value doc.values (λ v is. is.fits) good.values))
       (all_from GoodPage batch_page_fits own (λ p is. is.fits) pages.1),
-      and_from (is_word parent && is_short doc.id && are_few is_short doc.values) (list_all batch_page_written own)
+  and_from (is_word parent && is_short doc.id && are_few is_short doc.values) (list_all batch_page_written own)
       (and_from (is_word parent && is_short doc.id) (are_few is_short doc.values)
       (and_from (is_word parent) (is_short doc.id) (word_from parent small) good.id.short)
       (and_from (list_all is_short doc.values) (is_word (length doc.values)) (all_from GoodValue is_short doc.values (λ v is. is.short) good.values) (word_from (length doc.values) (omega (arith, few, good.even)))))
       (all_from GoodPage batch_page_written own (λ p is. is.written) pages.1),
-    )
+)
 
 pub docs_good : (n m : ℕ) (docs : List Record) (parents : List ℕ) (pieces : List (List BatchPage)) → n < 4294967296 → m < 4294967296
     → Each (GoodRecord n) docs → Each (λ doc. GoodImage doc.id) docs → Each (λ p. p ≤ m) parents → Each (λ own. (1 ≤ length own) × Each GoodPage own) pieces

@@ -20,3 +20,4 @@ pub mod RecordFactLemmas
 pub mod OrderFactLemmas
 pub mod WordFactLemmas
 pub mod BatchFactLemmas
+pub mod FinalLemmas

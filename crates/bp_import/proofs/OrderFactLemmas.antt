@@ -19,7 +19,6 @@ use Rattle.bp_import.specs.Steps.{demand}
 use Rattle.bp_import.specs.declared.records.Record.{Record}
 use Rattle.bp_import.proofs.DatFactLemmas.{demand_parts}
 use Rattle.bp_import.proofs.EachLemmas.{Each, each_weaker, onto_parts}
-use Rattle.bp_import.proofs.RecordFactLemmas.{GoodImage}
 
 -- ---- lines that fit
 
@@ -106,35 +105,35 @@ begun : (docs : List Record) (line : OptLine) → not (begins docs line) ≡ fal
 begun [] line due = cc
 begun (doc ∷ docs) line due = record { first = doc; others = docs; docs_are = refl; same = (bytes_eq-Decides doc.id line.image).0 (not_false (bytes_eq doc.id line.image) due) }
 
-pub record DocsFit (docs : List Record) (lines : List OptLine) : Type 0 where
+pub record DocsFit (P : List ℕ → Type 0) (docs : List Record) (lines : List OptLine) : Type 0 where
   pub counts : length (page_counts lines) ≡ length docs
-  pub ids : Each (λ doc. GoodImage doc.id) docs
+  pub ids : Each (λ doc. P doc.id) docs
 
-docs_fit_when : (before : List OptLine) (docs : List Record) (line : OptLine) (lines : List OptLine) (breaks : Bool) → line.doc_break ≡ breaks
-    → GoodImage line.image → Unbroken before docs line lines → DocsFit (cond breaks (drop 1 docs) docs) lines → DocsFit docs (line ∷ lines)
-docs_fit_when before docs line lines true is good one rest =
+docs_fit_when : (P : List ℕ → Type 0) (before : List OptLine) (docs : List Record) (line : OptLine) (lines : List OptLine) (breaks : Bool) → line.doc_break ≡ breaks
+    → P line.image → Unbroken before docs line lines → DocsFit P (cond breaks (drop 1 docs) docs) lines → DocsFit P docs (line ∷ lines)
+docs_fit_when P before docs line lines true is good one rest =
     let due : not (begins docs line) ≡ false = sym (ap (λ b. cond b (not (begins docs line)) (length before == 0)) is) ∙ one.due in
     let b = begun docs line due in
     let left : drop 1 docs ≡ b.others = ap (drop 1) b.docs_are in
     record {
       counts = ap (λ b. length (cond b ((until_break lines + 1) ∷ page_counts lines) (page_counts lines))) is ∙ ap suc (rest.counts ∙ ap length left) ∙ sym (ap length b.docs_are);
-      ids = subst (Each (λ doc. GoodImage doc.id)) (sym b.docs_are) (subst GoodImage (sym b.same) good, subst (Each (λ doc. GoodImage doc.id)) left rest.ids);
+      ids = subst (Each (λ doc. P doc.id)) (sym b.docs_are) (subst P (sym b.same) good, subst (Each (λ doc. P doc.id)) left rest.ids);
     }
-docs_fit_when before docs line lines false is good one rest =
+docs_fit_when P before docs line lines false is good one rest =
     record {
       counts = ap (λ b. length (cond b ((until_break lines + 1) ∷ page_counts lines) (page_counts lines))) is ∙ rest.counts;
       ids = rest.ids;
     }
 
-docs_fit_behind : (before : List OptLine) (docs : List Record) (lines : List OptLine) → Each (λ line. GoodImage line.image) lines → breaks_behind before docs lines ≡ Ok tt → DocsFit docs lines
-docs_fit_behind before [] [] good e = record { counts = refl; ids = tt }
-docs_fit_behind before (doc ∷ docs) [] good e = absurd (omega (arith, eqb-true (length (doc ∷ docs)) 0 (demand_parts (length (doc ∷ docs) == 0) (broken_behind before) tt e)))
-docs_fit_behind before docs (line ∷ lines) good e =
+docs_fit_behind : (P : List ℕ → Type 0) (before : List OptLine) (docs : List Record) (lines : List OptLine) → Each (λ line. P line.image) lines → breaks_behind before docs lines ≡ Ok tt → DocsFit P docs lines
+docs_fit_behind P before [] [] good e = record { counts = refl; ids = tt }
+docs_fit_behind P before (doc ∷ docs) [] good e = absurd (omega (arith, eqb-true (length (doc ∷ docs)) 0 (demand_parts (length (doc ∷ docs) == 0) (broken_behind before) tt e)))
+docs_fit_behind P before docs (line ∷ lines) good e =
     let one = unbroken before docs line lines e in
-    docs_fit_when before docs line lines line.doc_break refl good.0 one (docs_fit_behind (before ++ line ∷ []) (docs_after docs line) lines good.1 one.rest)
+    docs_fit_when P before docs line lines line.doc_break refl good.0 one (docs_fit_behind P (before ++ line ∷ []) (docs_after docs line) lines good.1 one.rest)
 
-pub docs_fit : (docs : List Record) (lines : List OptLine) → Each (λ line. GoodImage line.image) lines → breaks_of docs lines ≡ Ok tt → DocsFit docs lines
-docs_fit docs lines good e = docs_fit_behind [] docs lines good e
+pub docs_fit : (P : List ℕ → Type 0) (docs : List Record) (lines : List OptLine) → Each (λ line. P line.image) lines → breaks_of docs lines ≡ Ok tt → DocsFit P docs lines
+docs_fit P docs lines good e = docs_fit_behind P [] docs lines good e
 
 -- ---- counts
 

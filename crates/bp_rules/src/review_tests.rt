@@ -5,7 +5,7 @@ ghost use Rattle.bp_rules.specs.Deciding.{is_review};
 use crate::{StepRefusal, load_tables, step};
 use bp_core::{
     Basis, Bytes, DocNo, ListOf, NumberList, OutOfMemory, PageNo, Rect, Row, StaffNo, Text,
-    Treatment,
+    Treatment, ascends,
 };
 use bp_keep::{Keeper, MemKeeper};
 use bp_matter::{Call, Reply, State, Tables};
@@ -68,6 +68,9 @@ fn keeper(alloc: Global, failing: &[u64]) -> Result<MemKeeper, OutOfMemory> {
     rows.push(kept(alloc, 11, 0, &BATCH)?)?;
     rows.push(kept(alloc, 12, 1, &[1, 0, 0, 0, 0])?)?;
     let failing = NumberList::from_vec(Vec::from_slice(alloc, failing)?);
+    if !ascends(&rows) {
+        return Ok(MemKeeper::over(ListOf::new(alloc), failing));
+    }
     Ok(MemKeeper::over(ListOf::from_vec(rows), failing))
 }
 

@@ -68,7 +68,8 @@ BurnsBytes area bytes (Err stops.KeeperFault) = ⊥
 abbrev pub PutsPage : List ℕ → List ℕ → FolderView → Ending → FolderView → Type 0
 PutsPage to bytes folder (Ok line) after =
     (line ≡ counted_line (length bytes)) × (after ≡ with_file folder to bytes false)
-PutsPage to bytes folder (Err stops.FolderFault) after = PutsPart (failed_folder folder) to bytes after
+PutsPage to bytes folder (Err stops.FolderFault) after =
+    PutsPart (failed_folder folder) to bytes after
 PutsPage to bytes folder (Err stops.OutOfMemory) after = PutsPart folder to bytes after
 PutsPage to bytes folder (Err (stops.Broken rule)) after = ⊥
 PutsPage to bytes folder (Err stops.WordsRefused) after = ⊥

@@ -66,8 +66,8 @@ IsOutcome (init digest) world outcome = InitOutcome digest world.keeper.rows out
 IsOutcome (import name) world outcome =
     ImportOutcome name world.source.files world.keeper.rows outcome
 
--- what `import` makes of the kept rows is settled: they are those of a valid matter, or of none. No
--- other command reads what rows hold
+-- the rows that `import` reads come to a matter, or to a rule: they are those of a valid matter, or
+-- there is none that has them. No other command reads what rows hold
 abbrev pub AreKnown : CommandLine → Matter → Type 0
 AreKnown (burn b) matter = Unit {0}
 AreKnown (init digest) matter = Unit {0}

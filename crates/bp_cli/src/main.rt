@@ -29,6 +29,7 @@ fn main(rt: HostRuntime) -> ExitCode {
     let mut folder = FileFolder::below(&rt, "out");
     let mut out = StdOut::of(&rt);
     let alloc = rt.alloc();
+    // What a command keeps lasts as long as the program.
     let keeper = MemKeeper::over(RowList::new(alloc), NumberList::new(alloc));
     let answer = env::args(&rt);
     let ended = run::run_arguments(alloc, answer, &mut source, keeper, &mut folder, &mut out);

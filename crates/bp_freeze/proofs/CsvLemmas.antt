@@ -1,11 +1,11 @@
 -- What csv writes of a record whose values have no end of a line is the line of its values.
-use Rattle.std.proofs.Common.{◌≡◌, ◌≤◌, ◌==◌, ◌||◌, ◌&&◌, ℕ, zero, suc, Bool, true, false, not, List, [], ◌∷◌, ◌++◌, length, map, refl, ap, ap₂, ◌∙◌, sym, arith, if◌then◌else◌, append-nil, Option, Some, None, ◌≢◌, Vec, unwrap_or}
+use Rattle.std.proofs.Common.{◌≡◌, ◌≤◌, ◌==◌, ◌||◌, ℕ, Bool, true, false, not, List, [], ◌∷◌, ◌++◌, length, map, refl, ap, ap₂, ◌∙◌, sym, arith, if◌then◌else◌, append-nil, Option, Some, None, ◌≢◌, Vec, unwrap_or}
 use Rattle.std.specs.List.{join_with_byte, list_all, list_any}
 use Rattle.std.proofs.lemmas.Bool.{and_parts}
 use Rattle.csv.specs.Writing.{default_writer, escaped, field_text, fields_text, is_blank, needs_byte, needs_quotes, row_text}
 use Rattle.bp_core.specs.Characters.{carriage_return, comma, newline}
 use Rattle.bp_freeze.specs.Csv.{csv_line, csv_value, doubled, is_special, quotation_mark}
-use Rattle.std.specs.Io.KnownBytes.{Appends, Keeps}
+use Rattle.std.specs.Io.KnownBytes.{Appends}
 use Rattle.std.specs.declared.alloc.Global.{Global}
 use Rattle.csv.specs.Writing.{fields_written, has_written, writer_setup}
 use Rattle.csv.specs.declared.writer.QuoteStyle.TheVariants as style

@@ -1,5 +1,5 @@
 -- What a freeze answers, by what is kept under the id.
-use Rattle.std.proofs.Common.{◌≡◌, Option, Some, None, Result, Ok, Err, List, subst, if◌then◌else◌}
+use Rattle.std.proofs.Common.{◌≡◌, Option, Some, None, Result, Ok, Err, subst, if◌then◌else◌}
 use Rattle.bp_core.specs.Answers.{Answers}
 use Rattle.bp_core.specs.Rules.{bare_rule}
 use Rattle.bp_core.specs.declared.refusals.Refusal.{Refusal}

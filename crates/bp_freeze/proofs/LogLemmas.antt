@@ -1,6 +1,6 @@
 -- The values of a line of the log have no end of a line in them, and lines follow one another.
-use Rattle.std.proofs.Common.{◌≡◌, ◌≤◌, ◌<◌, ◌==◌, ◌||◌, ◌&&◌, ◌+◌, ◌/◌, ◌%◌, ◌⊎◌, ℕ, zero, suc, Bool, true, false, not, leb, ltb, List, [], ◌∷◌, ◌++◌, length, map, refl, ap, ap₂, subst, ◌∙◌, sym, arith, if◌then◌else◌, inl, inr, append_assoc, append-nil, Option, Some, None, flat_map, cond, codes}
-use Rattle.std.specs.Prelude.{encode_utf8_all, nat_le}
+use Rattle.std.proofs.Common.{◌≡◌, ◌≤◌, ◌==◌, ◌||◌, ◌+◌, ◌/◌, ◌%◌, ℕ, zero, suc, Bool, true, false, not, leb, ltb, List, [], ◌∷◌, ◌++◌, length, refl, ap, subst, ◌∙◌, sym, arith, if◌then◌else◌, inl, inr, append_assoc, append-nil, Option, Some, None, flat_map, codes}
+use Rattle.std.specs.Prelude.{encode_utf8_all}
 use Rattle.std.specs.List.{join_with_byte, list_all, list_any}
 use Rattle.std.proofs.lemmas.Bool.{and_parts, and_from, cases_Bool, eqb-true, le-leb, leb-true, or_from}
 use Rattle.std.proofs.lemmas.List.Folds.{list_any-append}
@@ -12,12 +12,11 @@ use Rattle.bp_bates.specs.Prefixes.{is_allowed, is_good_prefix, is_good_text}
 use Rattle.bp_bates.specs.declared.prefixes.Prefix.{Prefix}
 use Rattle.bp_matter.specs.Texts.{is_text, is_text_character}
 use Rattle.bp_matter.specs.Treatments.{is_withheld}
-use Rattle.bp_matter.specs.ValidEntries.{entry_fits}
 use Rattle.bp_matter.specs.ValidItems.{is_logged, optional_fits}
 use Rattle.bp_matter.specs.declared.rows.Entry.{Entry}
 use Rattle.bp_matter.specs.declared.rows.Item.{Item}
 use Rattle.bp_freeze.specs.Csv.{csv_line}
-use Rattle.bp_freeze.specs.Log.{claims, code_if, entry_stands, entry_values, log_line, log_row, occurs, outcome, semicolon}
+use Rattle.bp_freeze.specs.Log.{code_if, entry_stands, entry_values, log_line, log_row, occurs, semicolon}
 use Rattle.bp_freeze.specs.Writing.{is_one_line}
 
 abbrev breaks : ℕ → Bool

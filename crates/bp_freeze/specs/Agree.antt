@@ -1,5 +1,5 @@
 -- Two matters that show the same of a production: what is boxed, held or withheld may differ.
-use Rattle.std.specs.Prelude.{◌≡◌, ℕ, ◌-◌, ◌≤◌, false, List, [], All, Option, Some, None, filter, map, unwrap_or, ◌==◌, slice_index_or}
+use Rattle.std.specs.Prelude.{◌≡◌, ℕ, ◌-◌, ◌≤◌, false, List, [], All, Option, Some, None, filter, map, ◌==◌, slice_index_or}
 use Rattle.std.specs.List.{find}
 use Rattle.bp_core.specs.declared.rectangle.Rect.{Rect}
 use Rattle.bp_rows.specs.Burned.{AgreeOutside}

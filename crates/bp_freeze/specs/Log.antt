@@ -1,6 +1,6 @@
 -- The privilege log of a production (FRCP 26(b)(5)(A)): what is withheld as privileged is claimed,
 -- and described so that the claim can be assessed. It is a function of the production alone.
-use Rattle.std.specs.Prelude.{ℕ, Bool, true, false, List, [], ◌∷◌, ◌++◌, map, filter, codes, ◌&&◌, ◌||◌, not, is_none, nat_le, if◌then◌else◌, Option, Some, None, encode_utf8_all, IsTrue}
+use Rattle.std.specs.Prelude.{ℕ, Bool, true, false, List, [], ◌∷◌, ◌++◌, codes, ◌&&◌, ◌||◌, not, is_none, nat_le, if◌then◌else◌, Option, Some, None, encode_utf8_all, IsTrue}
 use Rattle.std.specs.List.{list_all, list_any, flat_map, join_with_byte}
 use Rattle.bp_core.specs.declared.review.Basis.{Basis}
 use Rattle.bp_core.specs.declared.review.Basis.TheVariants.{Ac, Pi, Ts, Wp}

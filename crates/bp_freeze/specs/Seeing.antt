@@ -17,7 +17,6 @@ use Rattle.bp_matter.specs.declared.rows.DocEntry.{DocEntry}
 use Rattle.bp_matter.specs.declared.rows.DocHeld.{DocHeld}
 use Rattle.bp_matter.specs.declared.rows.Entry.{Entry}
 use Rattle.bp_matter.specs.declared.rows.HeldRow.{HeldRow}
-use Rattle.bp_matter.specs.declared.rows.Item.{Item}
 use Rattle.bp_matter.specs.declared.rows.PrefixRow.{PrefixRow}
 use Rattle.bp_matter.specs.declared.rows.ProductionRow.{ProductionRow}
 use Rattle.bp_matter.specs.declared.rows.Request.{Request}

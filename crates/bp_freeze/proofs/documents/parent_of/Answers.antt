@@ -1,4 +1,4 @@
-use Rattle.std.proofs.Common.{◌≤◌, ◌≡◌, length, subst, sym, arith}
+use Rattle.std.proofs.Common.{arith}
 use Rattle.bp_freeze.proofs.FamilyLemmas.{parent-small}
 use Rattle.bp_freeze.proofs.documents.parent_of.Goals as goal
 

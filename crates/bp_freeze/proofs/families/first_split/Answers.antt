@@ -1,8 +1,8 @@
-use Rattle.std.proofs.Common.{◌≡◌, ◌+◌, ◌∙◌, Bool, sym, ap, arith}
+use Rattle.std.proofs.Common.{◌+◌, ◌∙◌, sym, ap, arith}
 use Rattle.bp_freeze.specs.Families.{is_across, reaches_outside}
 use Rattle.bp_freeze.specs.Seeing.{decisions_of}
 use Rattle.bp_freeze.proofs.FamilyLemmas.{neighbours-tell}
-use Rattle.bp_freeze.proofs.RangeLemmas.{finds-here, finds-later, finds-none}
+use Rattle.bp_freeze.proofs.RangeLemmas.{finds-here, finds-later}
 use Rattle.bp_freeze.proofs.families.first_split.Goals as goal
 
 pub returns-then-is_across : goal.returns-then-is_across

@@ -1,4 +1,4 @@
-use Rattle.std.proofs.Common.{◌≡◌, ◌∙◌, ◌==◌, ◌||◌, ◌&&◌, ap, ap₂, arith}
+use Rattle.std.proofs.Common.{◌∙◌, ◌==◌, ◌||◌, ◌&&◌, ap, ap₂, arith}
 use Rattle.bp_freeze.specs.Marks.{is_marked}
 use Rattle.bp_freeze.specs.Selecting.{is_responsive}
 use Rattle.bp_freeze.proofs.RangeLemmas.{marks-next}

@@ -1,4 +1,4 @@
-use Rattle.std.proofs.Common.{◌≡◌, ◌∙◌, Ok, sym, ap, arith}
+use Rattle.std.proofs.Common.{◌∙◌, Ok, sym, ap, arith}
 use Rattle.bp_freeze.specs.Freezing.{frozen_unless, new_production}
 use Rattle.bp_freeze.specs.Refusals.{taking_rules}
 use Rattle.bp_freeze.specs.Seeing.{decisions_of, seen_of}

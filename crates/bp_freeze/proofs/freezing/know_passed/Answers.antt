@@ -1,7 +1,7 @@
-use Rattle.std.proofs.Common.{◌≡◌, length, arith}
+use Rattle.std.proofs.Common.{arith}
 use Rattle.bp_freeze.specs.Seeing.{decisions_of}
 use Rattle.bp_freeze.proofs.FamilyLemmas.{many_parents}
-use Rattle.bp_freeze.proofs.RuleLemmas.{InRange, in-range, range-passed}
+use Rattle.bp_freeze.proofs.RuleLemmas.{in-range, range-passed}
 use Rattle.bp_freeze.proofs.freezing.know_passed.Goals as goal
 
 pub returns-clause-from : goal.returns-clause-from

@@ -1,8 +1,8 @@
-use Rattle.std.proofs.Common.{◌≡◌, ◌∙◌, ◌+◌, ◌-◌, ◌*◌, ◌≤◌, ◌<◌, ◌^◌, ◌++◌, ◌∷◌, [], length, sym, ap, arith}
+use Rattle.std.proofs.Common.{◌≡◌, ◌∙◌, ◌+◌, ◌-◌, ◌≤◌, ◌<◌, ◌^◌, ◌++◌, ◌∷◌, [], length, sym, ap, arith}
 use Rattle.std.proofs.lemmas.Bool.{leb-true}
 use Rattle.bp_freeze.specs.Seeing.{seen_from, seen_in}
 use Rattle.bp_freeze.specs.Selecting.{all_numbers, is_selected, item_of, items_from}
-use Rattle.bp_freeze.proofs.RangeLemmas.{after-none, items-done, items-more, numbers-done, numbers-more, selects}
+use Rattle.bp_freeze.proofs.RangeLemmas.{after-none, items-more, numbers-more, selects}
 use Rattle.bp_freeze.proofs.FamilyLemmas.{parent-small}
 use Rattle.bp_freeze.proofs.items.take_items.Goals as goal
 use Rattle.bp_freeze.proofs.items.take_items.Goals.{then-is_selected+in_ok-item_of+in_ok-push, else-is_selected}

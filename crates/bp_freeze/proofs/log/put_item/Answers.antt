@@ -1,4 +1,4 @@
-use Rattle.std.proofs.Common.{◌≡◌, ◌++◌, true, sym, ap, ◌∙◌}
+use Rattle.std.proofs.Common.{◌++◌, ap, ◌∙◌}
 use Rattle.std.specs.List.{list_all}
 use Rattle.bp_freeze.specs.Log.{entry_values}
 use Rattle.bp_freeze.specs.Writing.{is_one_line}

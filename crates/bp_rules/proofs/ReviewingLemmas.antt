@@ -4,9 +4,12 @@ use Rattle.std.specs.Prelude.{is_some, Result, Ok, Err}
 use Rattle.std.specs.Str.{all_scalars, bytes_eq}
 use Rattle.std.proofs.lemmas.Bool.{and_cases, and_parts, and_from, cases_Bool, eqb-true, eqb-false, eq-eqb, leb-true, le-leb, lt-ltb, not-false, or_parts}
 use Rattle.bp_core.specs.Sorted.{find_key, put, two_keys, without}
+use Rattle.bp_core.specs.declared.kept.Put.{Put}
+use Rattle.bp_core.specs.declared.numbers.DocNo.{DocNo}
 use Rattle.bp_core.specs.declared.numbers.StaffNo.{StaffNo}
 use Rattle.bp_core.specs.declared.rules.Rule.{Rule}
 use Rattle.bp_core.specs.declared.rules.RuleKind.{RuleKind}
+use Rattle.std.proofs.lemmas.List.{length-append}
 use Rattle.bp_core.proofs.SortedLemmas.{find-put}
 use Rattle.bp_matter.specs.Confirming.{boxes_on, confirm_rule, held_on, is_entered, may_hold}
 use Rattle.bp_matter.specs.Fields.{editor_of}
@@ -34,7 +37,7 @@ use Rattle.bp_matter.specs.declared.rows.StaffRow.{StaffRow}
 use Rattle.bp_matter.specs.declared.rows.State.{State}
 use Rattle.bp_matter.specs.declared.rows.State.TheVariants.{Confirmed, First, Uncalled}
 use Rattle.bp_rules.specs.Calling.{box_with, calls_edited, confirmed_by, confirmed_state, edited, first_by, held_with, next_staff, with_box, with_call, with_entry, with_held, with_staff, without_box, without_call, without_held}
-use Rattle.bp_rules.specs.Changes.{CanBeMade, after}
+use Rattle.bp_rules.specs.Changes.{CanBeMade, after, call_puts, mark_puts, puts_of}
 use Rattle.bp_rules.specs.Deciding.{CanBeReviewed, DecidedAs, EntryScalars, IsCaller, call_there, mark_there, stepped_of}
 use Rattle.bp_rules.specs.Refusing.{has_marks, is_box, is_called_redact, is_staff_name}
 use Rattle.bp_rules.specs.Stepping.{Stepped, done}
@@ -48,7 +51,7 @@ use Rattle.bp_rules.specs.declared.deciding.Decided.{Decided}
 use Rattle.bp_rules.proofs.CallLemmas.{RowFits, call-valid, confirmed-fits, edited-open, edited-valid, set-fits, uncalled-valid}
 use Rattle.bp_rules.proofs.EditLemmas.{Orders, staff-made}
 use Rattle.bp_rules.proofs.StaffLemmas.{staff-valid}
-use Rattle.bp_rules.proofs.FoundLemmas.{found-key, numbered-found, put-again, without-none}
+use Rattle.bp_rules.proofs.FoundLemmas.{find-without, found-key, numbered-found, put-again, without-none}
 use Rattle.bp_rules.proofs.ListLemmas.{numbered-within}
 use Rattle.bp_rules.proofs.MarkLemmas.{box-gone-valid, box-valid, entry-valid, held-gone-valid, held-valid}
 
@@ -66,18 +69,56 @@ again-held m old row v found same = ap (λ (l : List DocHeld). record m { held =
 pub again-entry : (m : Matter) (old row : DocEntry) → IsValid m → entry_with row.doc.0 m ≡ Some old → old ≡ row → m ≡ with_entry row m
 again-entry m old row v found same = ap (λ (l : List DocEntry). record m { entries = l }) (sym (put-again entry_key 0 row m.entries v.entries.ascend (found ∙ ap Some same)))
 
+-- what is put and changes nothing stands, and what goes and changes nothing isn't there
+put-there : {T : Type 0} (key : T → ℕ) (row : T) (rows : List T) → put key row rows ≡ rows → find_key key (key row) rows ≡ Some row
+put-there {T} key row rows same =
+    ap (find_key key (key row)) (sym same) ∙ find-put key row rows (key row) ∙ ap (λ (b : Bool). cond b (Some row) (find_key key (key row) rows)) (eq-eqb (key row) (key row) refl)
+
+gone-there : {T : Type 0} (key : T → ℕ) (k : ℕ) (rows : List T) → without key k rows ≡ rows → find_key key k rows ≡ None
+gone-there {T} key k rows same = ap (find_key key k) (sym same) ∙ find-without key k k rows ∙ ap (λ (b : Bool). cond b None (find_key key k rows)) (eq-eqb k k refl)
+
+pub call-stands : (m : Matter) (row : CallRow) → with_call row m ≡ m → call_with row.doc.0 m ≡ Some row
+call-stands m row same = put-there call_key row m.calls (ap (λ (n : Matter). n.calls) same)
+
+pub box-stands : (m : Matter) (row : DocBox) → with_box row m ≡ m → box_with row.doc.0 row.row.num m ≡ Some row
+box-stands m row same = put-there box_key row m.boxes (ap (λ (n : Matter). n.boxes) same)
+
+pub held-stands : (m : Matter) (row : DocHeld) → with_held row m ≡ m → held_with row.doc.0 row.row.field m ≡ Some row
+held-stands m row same = put-there held_key row m.held (ap (λ (n : Matter). n.held) same)
+
+pub entry-stands : (m : Matter) (row : DocEntry) → with_entry row m ≡ m → entry_with row.doc.0 m ≡ Some row
+entry-stands m row same = put-there entry_key row m.entries (ap (λ (n : Matter). n.entries) same)
+
+pub call-absent : (m : Matter) (doc : ℕ) → without_call doc m ≡ m → call_with doc m ≡ None
+call-absent m doc same = gone-there call_key doc m.calls (ap (λ (n : Matter). n.calls) same)
+
+pub box-dropped : (m : Matter) (doc : DocNo) (num : ℕ) → is_some (box_with doc.0 num m) ≡ true → without_box doc.0 num m ≡ m → mark_puts (mark_edits.DropBox doc num) ≡ []
+box-dropped m doc num there same = absurd (let none : is_some (box_with doc.0 num m) ≡ false = ap is_some (gone-there box_key (two_keys doc.0 num) m.boxes (ap (λ (n : Matter). n.boxes) same)) in cc)
+
+pub held-dropped : (m : Matter) (doc : DocNo) (field : ℕ) → is_some (held_with doc.0 field m) ≡ true → without_held doc.0 field m ≡ m → mark_puts (mark_edits.DropHeld doc field) ≡ []
+held-dropped m doc field there same = absurd (let none : is_some (held_with doc.0 field m) ≡ false = ap is_some (gone-there held_key (two_keys doc.0 field) m.held (ap (λ (n : Matter). n.held) same)) in cc)
+
 pub still-uncalled : (m : Matter) (doc : ℕ) → call_with doc m ≡ None → m ≡ without_call doc m
 still-uncalled m doc none = ap (λ (l : List CallRow). record m { calls = l }) (sym (without-none call_key doc m.calls none))
 
 -- ---- the change that was decided
 
-pub review-decided : (m : Matter) (call : CallEdit) (mark : MarkEdit) (edit : Edit) (reply : Reply) → edit ≡ Review call mark → reply ≡ replies.Done → CanBeMade m (Review call mark)
+-- where nothing changes nothing is put
+review-quiet : (m : Matter) (call : CallEdit) (mark : MarkEdit) → CanBeReviewed m call mark → after m (Review call mark) ≡ m → puts_of (Review call mark) ≡ []
+review-quiet m call mark can same =
+    let one : after m (Review call mark_edits.Stays) ≡ m = ap (λ (n : Matter). record m { calls = n.calls }) same in
+    let other : after m (Review call_edits.Stays mark) ≡ m = ap (λ (n : Matter). record m { boxes = n.boxes; held = n.held; entries = n.entries }) same in
+    ap (λ (puts : List Put). puts ++ mark_puts mark) (can.call_new one) ∙ can.mark_new other
+
+pub review-decided : (m : Matter) (call : CallEdit) (mark : MarkEdit) (edit : Edit) (reply : Reply) → edit ≡ Review call mark → reply ≡ replies.Done → CanBeMade m (Review call mark) → CanBeReviewed m call mark
     → DecidedAs m (done (after m (Review call mark))) (record { change = edit; reply = reply })
-review-decided m call mark edit reply is it made =
-    let matter : ◌≡◌ {A = Result Stepped Rule} (Ok (record { reply = replies.Done; matter = after m (Review call mark) })) (Ok (record { reply = replies.Done; matter = after m edit })) = ap (λ (e : Edit). Ok (record { reply = replies.Done; matter = after m e })) (sym is) in
+review-decided m call mark edit reply is it made can =
+    let matter : ◌≡◌ {A = Result Stepped Rule} (Ok (record { reply = replies.Done; matter = after m (Review call mark) })) (Ok (record { reply = replies.Done; matter = after m edit })) =
+    ap (λ (e : Edit). Ok (record { reply = replies.Done; matter = after m e })) (sym is) in
     record {
       answer = matter ∙ ap (λ (r : Reply). Ok (record { reply = r; matter = after m edit })) (sym it);
       made = subst (λ (e : Edit). CanBeMade m e) (sym is) made;
+      quiet = λ same. ap puts_of is ∙ review-quiet m call mark can (ap (after m) (sym is) ∙ same);
     }
 
 -- ---- a member who comes
@@ -89,6 +130,7 @@ staff-decided m row edit is order v number few name scalars digest new =
     record {
       answer = ap (λ (e : Edit). Ok (record { reply = replies.Staff row.staff; matter = after m e })) (sym is);
       made = subst (λ (e : Edit). CanBeMade m e) (sym is) (staff-made m row order valid);
+      quiet = λ same. absurd (let more : length (m.staff ++ row ∷ []) ≡ length m.staff = ap (λ (n : Matter). length n.staff) (ap (after m) (sym is) ∙ same) in omega (arith, more, length-append m.staff (row ∷ [])));
     }
 
 -- ---- who calls
@@ -126,24 +168,26 @@ field-named m name row v found =
 -- ---- changes of a document
 
 -- of its call alone
-pub can-call : (m n : Matter) (call : CallEdit) → after m (Review call mark_edits.Stays) ≡ n → call_there m call ≡ true → IsValid n → CanBeReviewed m call mark_edits.Stays
-can-call m n call is there v =
+pub can-call : (m n : Matter) (call : CallEdit) → after m (Review call mark_edits.Stays) ≡ n → call_there m call ≡ true → (after m (Review call mark_edits.Stays) ≡ m → call_puts call ≡ []) → IsValid n → CanBeReviewed m call mark_edits.Stays
+can-call m n call is there new v =
     let valid = subst (λ (x : Matter). IsValid x) (sym is) v in
-    record { first = valid; whole = valid; call_stands = there; mark_stands = refl }
+    record { first = valid; whole = valid; call_stands = there; mark_stands = refl; call_new = new; mark_new = λ same. refl }
 
 -- the calls of one matter, and the marks of another
 abbrev joined : Matter → Matter → Matter → Matter
 joined m a b = record m { calls = a.calls; boxes = b.boxes; held = b.held; entries = b.entries }
 
-pub can-mark : (m a b : Matter) (call : CallEdit) (mark : MarkEdit) → after m (Review call mark_edits.Stays) ≡ a → after m (Review call_edits.Stays mark) ≡ b → call_there m call ≡ true → mark_there m mark ≡ true → IsValid a → IsValid (joined m a b)
-    → CanBeReviewed m call mark
-can-mark m a b call mark one other there stands first whole =
+pub can-mark : (m a b : Matter) (call : CallEdit) (mark : MarkEdit) → after m (Review call mark_edits.Stays) ≡ a → after m (Review call_edits.Stays mark) ≡ b → call_there m call ≡ true → mark_there m mark ≡ true
+    → (after m (Review call mark_edits.Stays) ≡ m → call_puts call ≡ []) → (after m (Review call_edits.Stays mark) ≡ m → mark_puts mark ≡ []) → IsValid a → IsValid (joined m a b) → CanBeReviewed m call mark
+can-mark m a b call mark one other there stands new fresh first whole =
     let both : after m (Review call mark) ≡ joined m a b = ap (λ (x : Matter). joined m x (after m (Review call_edits.Stays mark))) one ∙ ap (joined m a) other in
     record {
       first = subst (λ (x : Matter). IsValid x) (sym one) first;
       whole = subst (λ (x : Matter). IsValid x) (sym both) whole;
       call_stands = there;
       mark_stands = stands;
+      call_new = new;
+      mark_new = fresh;
     }
 
 -- a document that is called Redact is so when it is edited
@@ -229,11 +273,11 @@ no_rule (Some kind) h = absurd (h kind refl)
 pub confirm-made : (m : Matter) (caller : StaffNo) (doc editor : ℕ) (row new : CallRow) (edit : CallEdit) (boxes : List DocBox) (held : List DocHeld) (entered : Bool) (rule : Option RuleKind) (s : State)
     → IsValid m → names (length m.staff) caller.0 ≡ true → checker_there (find_key staff_key caller.0 m.staff) ≡ true → call_with doc m ≡ Some row → editor ≡ editor_of row.state → boxes ≡ boxes_on doc m.boxes → held ≡ held_on doc m.held → entered ≡ is_entered doc m.entries
     → rule ≡ confirm_rule row editor boxes held entered caller.0 → ((kind : RuleKind) → rule ≡ Some kind → ⊥) → s ≡ confirmed_state caller row.state → new ≡ record row { state = s } → after m (Review edit mark_edits.Stays) ≡ with_call new m → call_there m edit ≡ true
-    → CanBeReviewed m edit mark_edits.Stays
-confirm-made m caller doc editor row new edit boxes held entered rule s v named checker found ed eb eh ee er none es en after_is there =
+    → (after m (Review edit mark_edits.Stays) ≡ m → call_puts edit ≡ []) → CanBeReviewed m edit mark_edits.Stays
+confirm-made m caller doc editor row new edit boxes held entered rule s v named checker found ed eb eh ee er none es en after_is there fresh =
     let here : row.doc.0 ≡ doc = found-key call_key doc m.calls row found in
     let again : call_with row.doc.0 m ≡ Some row = ap (λ (d : ℕ). call_with d m) here ∙ found in
     let rule_is : confirm_rule row editor (boxes_on row.doc.0 m.boxes) (held_on row.doc.0 m.held) (is_entered row.doc.0 m.entries) caller.0 ≡ None =
     rw (here, ← eb, ← eh, ← ee) (sym er ∙ no_rule rule none) in
     let new_is : new ≡ confirmed_by caller row = en ∙ ap (λ (t : State). record row { state = t }) es in
-    can-call m (with_call (confirmed_by caller row) m) edit (after_is ∙ ap (λ (r : CallRow). with_call r m) new_is) there (confirm-can m caller editor row v named checker again (first-editor row editor ed) rule_is)
+    can-call m (with_call (confirmed_by caller row) m) edit (after_is ∙ ap (λ (r : CallRow). with_call r m) new_is) there fresh (confirm-can m caller editor row v named checker again (first-editor row editor ed) rule_is)

@@ -1,5 +1,5 @@
 -- What deciding a call gives.
-use Rattle.std.specs.Prelude.{◌≡◌, ℕ, Bool, false, true, IsTrue, is_some, length, List, Result, Ok, Err}
+use Rattle.std.specs.Prelude.{◌≡◌, ℕ, [], Bool, false, true, IsTrue, is_some, length, List, Result, Ok, Err}
 use Rattle.std.specs.Str.{all_scalars}
 use Rattle.bp_core.specs.Sorted.{find_key}
 use Rattle.bp_core.specs.declared.refusals.Refusal.{Refusal}
@@ -15,7 +15,7 @@ use Rattle.bp_matter.specs.declared.calls.Call.TheVariants.{Freeze, GetProductio
 use Rattle.bp_matter.specs.declared.rows.Entry.{Entry}
 use Rattle.bp_matter.specs.declared.rows.StaffRow.{StaffRow}
 use Rattle.bp_rules.specs.Calling.{box_with, held_with}
-use Rattle.bp_rules.specs.Changes.{CanBeMade, after}
+use Rattle.bp_rules.specs.Changes.{CanBeMade, after, call_puts, mark_puts, puts_of}
 use Rattle.bp_rules.specs.Stepping.{Stepped}
 use Rattle.bp_rules.specs.declared.changes.CallEdit.{CallEdit}
 use Rattle.bp_rules.specs.declared.changes.CallEdit.TheVariants as call_edits
@@ -34,10 +34,11 @@ is_review _ = true
 abbrev pub stepped_of : Matter → Decided → Stepped
 stepped_of m decided = record { reply = decided.reply; matter = after m decided.change }
 
--- the step of a call was decided so
+-- the step of a call was decided so; what changes nothing has no puts
 pub record DecidedAs (m : Matter) (step : Result Stepped Rule) (decided : Decided) : Type 0 where
   pub answer : step ≡ Ok (stepped_of m decided)
   pub made : CanBeMade m decided.change
+  pub quiet : after m decided.change ≡ m → puts_of decided.change ≡ []
 
 -- what deciding a call of this step gives: the change to the matter after it, and its reply; or the
 -- rule that it breaks
@@ -62,6 +63,8 @@ pub record CanBeReviewed (m : Matter) (call : CallEdit) (mark : MarkEdit) : Type
   pub whole : IsValid (after m (Review call mark))
   pub call_stands : IsTrue (call_there m call)
   pub mark_stands : IsTrue (mark_there m mark)
+  pub call_new : after m (Review call mark_edits.Stays) ≡ m → call_puts call ≡ []
+  pub mark_new : after m (Review call_edits.Stays mark) ≡ m → mark_puts mark ≡ []
 
 -- a member of the staff of a matter, by number
 pub record IsCaller (m : Matter) (row : StaffRow) : Type 0 where

@@ -81,13 +81,13 @@ StepsImport m b keeper (Err stops.KeeperFault) m' keeper' =
     IsOk (import_of m b) × Stays m keeper (risen keeper.faults) m' keeper'
 StepsImport m b keeper (Err stops.OutOfMemory) m' keeper' = Stays m keeper keeper.faults m' keeper'
 
--- a call was made, and its reply told; the keeper is asked for nothing where there are no puts
+-- a call was made, and its reply told; the keeper is asked for nothing where the matter stays
 pub record CallMade (m : Matter) (key : List ℕ) (call : Call) (keeper : KeeperView) (reply : Reply)
     (m' : Matter) (keeper' : KeeperView) : Type 0 where
   pub edit : Edit
   pub answer : step_of m key call ≡ Ok (record { reply = reply; matter = after m edit })
   pub made : Made m keeper edit m' keeper'
-  pub quiet : puts_of edit ≡ [] → keeper' ≡ keeper
+  pub quiet : after m edit ≡ m → keeper' ≡ keeper
 
 -- what a step gives: the call made and kept; or a rule, a fault of the keeper or want of memory,
 -- which leave all

@@ -1,5 +1,5 @@
 // Calls that decide what becomes of a document, and those of the second review.
-ghost use Rattle.std.specs.Prelude.{◌≡◌, ◌&&◌, IfOk, IsTrue, Some, is_some, length, not};
+ghost use Rattle.std.specs.Prelude.{[], ◌≡◌, ◌&&◌, IfOk, IsTrue, Some, is_some, length, not};
 ghost use Rattle.bp_core.specs.Sorted.{find_key};
 ghost use Rattle.bp_matter.specs.Confirming.{is_entered};
 ghost use Rattle.bp_matter.specs.Fields.{editor_of};
@@ -9,7 +9,7 @@ ghost use Rattle.bp_matter.specs.Treatments.{is_redact};
 ghost use Rattle.bp_matter.specs.ValidRows.{names};
 ghost use Rattle.bp_matter.specs.ValidStaff.{checker_there};
 ghost use Rattle.bp_rules.specs.Calling.{confirmed_state, edited, with_call, without_call};
-ghost use Rattle.bp_rules.specs.Changes.{after};
+ghost use Rattle.bp_rules.specs.Changes.{after, call_puts};
 ghost use Rattle.bp_rules.specs.Deciding.{Decides, call_there};
 ghost use Rattle.bp_rules.specs.Refusing.{has_marks};
 ghost use Rattle.bp_rules.specs.Stepping.{confirm, set_call, step_by};
@@ -21,7 +21,7 @@ use crate::confirming::{confirm_rule, is_ground, is_redact};
 use crate::copies::copy_text;
 use crate::deciding::{Decided, reviewed};
 use crate::refusing::{has_marks, no_document};
-use crate::texts::{is_designation, same_text};
+use crate::texts::is_designation;
 use bp_core::{DocNo, OutOfMemory, Refusal, Rule, RuleKind, StaffNo, Text, Treatment};
 use bp_matter::{Call, CallRow, State, Tables};
 use std::alloc::Global;
@@ -93,40 +93,36 @@ fn call_put(tables: &Tables, row: CallRow) -> CallEdit
     ensures after { after tables.now.matter (Review result mark_edits.Stays)
         ≡ with_call row tables.now.matter }
     ensures there { IsTrue (call_there tables.now.matter result) }
+    ensures new { after tables.now.matter (Review result mark_edits.Stays) ≡ tables.now.matter →
+        call_puts result ≡ [] }
 {
     tables.know_valid();
+    if stands(tables, &row) {
+        return CallEdit::Stays;
+    }
+    CallEdit::Put(row)
+}
+
+// Whether the document is called so.
+fn stands(tables: &Tables, row: &CallRow) -> bool
+    ensures fact { IsTrue result → call_with row.now.doc.0 tables.now.matter ≡ Some row.now }
+    ensures back { call_with row.now.doc.0 tables.now.matter ≡ Some row.now → IsTrue result }
+{
     match tables.call_with(row.doc) {
-        Some(old) if same_call(old, &row) => CallEdit::Stays,
-        _ => CallEdit::Put(row),
+        None => false,
+        Some(old) => same_call(old, row),
     }
 }
 
 fn same_call(old: &CallRow, row: &CallRow) -> bool
-    ensures { IsTrue result → old.now ≡ row.now }
+    ensures fact { IsTrue result → old.now ≡ row.now }
+    ensures back { old.now ≡ row.now → IsTrue result }
 {
-    same_doc(old.doc, row.doc)
-        && same_state(old.state, row.state)
+    old.doc == row.doc
+        && old.state == row.state
         && old.responsive == row.responsive
-        && same_treatment(old.treatment, row.treatment)
-        && same_text(&old.designation, &row.designation)
-}
-
-fn same_doc(old: DocNo, doc: DocNo) -> bool
-    ensures { IsTrue result → old ≡ doc }
-{
-    old.0 == doc.0
-}
-
-fn same_state(old: State, state: State) -> bool
-    ensures { IsTrue result → old ≡ state }
-{
-    old == state
-}
-
-fn same_treatment(old: Treatment, treatment: Treatment) -> bool
-    ensures { IsTrue result → old ≡ treatment }
-{
-    old == treatment
+        && old.treatment == row.treatment
+        && old.designation == row.designation
 }
 
 // An edit of a document by this person: a called one becomes First by them, an uncalled one stays.
@@ -134,6 +130,9 @@ pub(crate) fn edited(tables: &Tables, caller: StaffNo, doc: DocNo) -> Result<Cal
     ensures after { IfOk result (λ edit. after tables.now.matter (Review edit mark_edits.Stays)
         ≡ edited caller doc.0 tables.now.matter) }
     ensures there { IfOk result (λ edit. IsTrue (call_there tables.now.matter edit)) }
+    ensures new { IfOk result (λ edit.
+        after tables.now.matter (Review edit mark_edits.Stays) ≡ tables.now.matter →
+        call_puts edit ≡ []) }
 {
     match tables.call_with(doc) {
         None => Ok(CallEdit::Stays),
@@ -255,6 +254,8 @@ fn uncalled(tables: &Tables, doc: DocNo) -> CallEdit
     ensures after { after tables.now.matter (Review result mark_edits.Stays)
         ≡ without_call doc.0 tables.now.matter }
     ensures there { IsTrue (call_there tables.now.matter result) }
+    ensures new { after tables.now.matter (Review result mark_edits.Stays) ≡ tables.now.matter →
+        call_puts result ≡ [] }
 {
     match tables.call_with(doc) {
         Some(_) => CallEdit::Gone(doc),

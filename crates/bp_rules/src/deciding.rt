@@ -119,6 +119,7 @@ fn decide_by(
         ),
         Call::Confirm { doc } => confirm(alloc, tables, by, *doc),
         Call::SendBack { doc } => send_back(alloc, tables, by, *doc),
+        // None of these comes here: `decide` asks for it.
         Call::Freeze { .. } | Call::GetProduction { .. } => told(alloc, tables, Reply::Done),
     }
 }

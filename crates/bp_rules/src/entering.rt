@@ -1,9 +1,9 @@
 // The call that sets what the privilege log says of a document.
-ghost use Rattle.std.specs.Prelude.{◌≡◌, IsTrue, length, is_some};
-ghost use Rattle.bp_matter.specs.LookUps.{doc_with};
+ghost use Rattle.std.specs.Prelude.{[], ◌≡◌, IsTrue, Some, length, is_some};
+ghost use Rattle.bp_matter.specs.LookUps.{doc_with, entry_with};
 ghost use Rattle.bp_matter.specs.ValidRows.{names};
 ghost use Rattle.bp_rules.specs.Calling.{with_entry};
-ghost use Rattle.bp_rules.specs.Changes.{after};
+ghost use Rattle.bp_rules.specs.Changes.{after, mark_puts};
 ghost use Rattle.bp_rules.specs.Deciding.{Decides, EntryScalars, mark_there};
 ghost use Rattle.bp_rules.specs.Stepping.{put_entry, step_by};
 ghost use Rattle.bp_rules.specs.declared.changes.CallEdit.TheVariants as call_edits;
@@ -14,7 +14,7 @@ use crate::changes::MarkEdit;
 use crate::copies::copy_text;
 use crate::deciding::{Decided, reviewed};
 use crate::refusing::no_document;
-use crate::texts::{entry_fits, same_text};
+use crate::texts::entry_fits;
 use bp_core::{DocNo, Refusal, Rule, RuleKind, StaffNo, Text};
 use bp_matter::{Call, DocEntry, Entry, Tables};
 use std::alloc::Global;
@@ -82,20 +82,29 @@ fn entry_put(tables: &Tables, row: DocEntry) -> MarkEdit
     ensures after { after tables.now.matter (Review call_edits.Stays result)
         ≡ with_entry row tables.now.matter }
     ensures there { IsTrue (mark_there tables.now.matter result) }
+    ensures new { after tables.now.matter (Review call_edits.Stays result) ≡ tables.now.matter →
+        mark_puts result ≡ [] }
 {
     tables.know_valid();
+    if stands(tables, &row) {
+        return MarkEdit::Stays;
+    }
+    MarkEdit::PutEntry(row)
+}
+
+fn stands(tables: &Tables, row: &DocEntry) -> bool
+    ensures fact { IsTrue result → entry_with row.now.doc.0 tables.now.matter ≡ Some row.now }
+    ensures back { entry_with row.now.doc.0 tables.now.matter ≡ Some row.now → IsTrue result }
+{
     match tables.entry_with(row.doc) {
-        Some(old) if same_entry(old, &row) => MarkEdit::Stays,
-        _ => MarkEdit::PutEntry(row),
+        None => false,
+        Some(old) => same_entry(old, row),
     }
 }
 
 fn same_entry(old: &DocEntry, row: &DocEntry) -> bool
-    ensures { IsTrue result → old.now ≡ row.now }
+    ensures fact { IsTrue result → old.now ≡ row.now }
+    ensures back { old.now ≡ row.now → IsTrue result }
 {
-    old.doc.0 == row.doc.0
-        && same_text(&old.entry.date, &row.entry.date)
-        && same_text(&old.entry.author, &row.entry.author)
-        && same_text(&old.entry.recipients, &row.entry.recipients)
-        && same_text(&old.entry.description, &row.entry.description)
+    old.doc == row.doc && old.entry == row.entry
 }

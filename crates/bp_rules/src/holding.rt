@@ -1,11 +1,11 @@
 // Calls that hold the value of a field back, and free it.
-ghost use Rattle.std.specs.Prelude.{◌≡◌, IsTrue, Some, length, is_some};
+ghost use Rattle.std.specs.Prelude.{[], ◌≡◌, IsTrue, Some, length, is_some};
 ghost use Rattle.std.specs.Option.{option_copied};
 ghost use Rattle.bp_matter.specs.LookUps.{doc_with, field_with};
 ghost use Rattle.bp_matter.specs.ValidRows.{names};
 ghost use Rattle.bp_matter.specs.Written.{held_written};
 ghost use Rattle.bp_rules.specs.Calling.{held_with, with_held};
-ghost use Rattle.bp_rules.specs.Changes.{after};
+ghost use Rattle.bp_rules.specs.Changes.{after, mark_puts};
 ghost use Rattle.bp_rules.specs.Deciding.{Decides, mark_there};
 ghost use Rattle.bp_rules.specs.Stepping.{free_held, hold_field, step_by};
 ghost use Rattle.bp_rules.specs.declared.changes.CallEdit.TheVariants as call_edits;
@@ -91,18 +91,24 @@ fn held_put(tables: &Tables, row: DocHeld) -> MarkEdit
     ensures after { after tables.now.matter (Review call_edits.Stays result)
         ≡ with_held row tables.now.matter }
     ensures there { IsTrue (mark_there tables.now.matter result) }
+    ensures new { after tables.now.matter (Review call_edits.Stays result) ≡ tables.now.matter →
+        mark_puts result ≡ [] }
 {
     tables.know_valid();
-    match held_with(tables, row.doc, row.row.field) {
-        Some(old) if same_held(old, row) => MarkEdit::Stays,
-        _ => MarkEdit::PutHeld(row),
+    if stands(tables, row) {
+        return MarkEdit::Stays;
     }
+    MarkEdit::PutHeld(row)
 }
 
-fn same_held(old: &DocHeld, row: DocHeld) -> bool
-    ensures { IsTrue result → old.now ≡ row }
+fn stands(tables: &Tables, row: DocHeld) -> bool
+    ensures fact { IsTrue result → held_with row.doc.0 row.row.field tables.now.matter ≡ Some row }
+    ensures back { held_with row.doc.0 row.row.field tables.now.matter ≡ Some row → IsTrue result }
 {
-    *old == row
+    match held_with(tables, row.doc, row.row.field) {
+        None => false,
+        Some(old) => *old == row,
+    }
 }
 
 // What a field of a document is held for.

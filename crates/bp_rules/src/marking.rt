@@ -1,12 +1,12 @@
 // Calls that put a box on a page of a document, and take one away.
-ghost use Rattle.std.specs.Prelude.{◌≡◌, IsTrue, Some, is_some, length};
+ghost use Rattle.std.specs.Prelude.{[], ◌≡◌, IsTrue, Some, is_some, length};
 ghost use Rattle.std.specs.Option.{option_copied};
 ghost use Rattle.bp_matter.specs.LookUps.{page_with};
 ghost use Rattle.bp_matter.specs.ValidPages.{inside_page};
 ghost use Rattle.bp_matter.specs.ValidRows.{names};
 ghost use Rattle.bp_matter.specs.Written.{box_written};
 ghost use Rattle.bp_rules.specs.Calling.{box_with, with_box, without_box};
-ghost use Rattle.bp_rules.specs.Changes.{after};
+ghost use Rattle.bp_rules.specs.Changes.{after, mark_puts};
 ghost use Rattle.bp_rules.specs.Deciding.{Decides, mark_there};
 ghost use Rattle.bp_rules.specs.Stepping.{drop_box, put_box, step_by};
 ghost use Rattle.bp_rules.specs.declared.changes.CallEdit.TheVariants as call_edits;
@@ -87,18 +87,24 @@ fn box_put(tables: &Tables, row: DocBox) -> MarkEdit
     ensures after { after tables.now.matter (Review call_edits.Stays result)
         ≡ with_box row tables.now.matter }
     ensures there { IsTrue (mark_there tables.now.matter result) }
+    ensures new { after tables.now.matter (Review call_edits.Stays result) ≡ tables.now.matter →
+        mark_puts result ≡ [] }
 {
     tables.know_valid();
-    match box_with(tables, row.doc, row.row.num) {
-        Some(old) if same_box(old, row) => MarkEdit::Stays,
-        _ => MarkEdit::PutBox(row),
+    if stands(tables, row) {
+        return MarkEdit::Stays;
     }
+    MarkEdit::PutBox(row)
 }
 
-fn same_box(old: &DocBox, row: DocBox) -> bool
-    ensures { IsTrue result → old.now ≡ row }
+fn stands(tables: &Tables, row: DocBox) -> bool
+    ensures fact { IsTrue result → box_with row.doc.0 row.row.num tables.now.matter ≡ Some row }
+    ensures back { box_with row.doc.0 row.row.num tables.now.matter ≡ Some row → IsTrue result }
 {
-    *old == row
+    match box_with(tables, row.doc, row.row.num) {
+        None => false,
+        Some(old) => *old == row,
+    }
 }
 
 // The box of a document's number.

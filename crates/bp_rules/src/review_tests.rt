@@ -167,7 +167,8 @@ fn number(reply: Result<Reply, StepRefusal>) -> u16 {
 #[test]
 fn a_box_is_put_once(rt: HostRuntime) -> Result<(), Fail> {
     let alloc = rt.alloc();
-    let mut keeper = keeper(alloc, &[])?;
+    // The keeper's fourth call would fail, and isn't made.
+    let mut keeper = keeper(alloc, &[3])?;
     let mut tables = load_tables(alloc, &mut keeper)?;
     let (t, k) = (&mut tables, &mut keeper);
     assert!(rt; is_done(set_call(alloc, t, k, 2, Treatment::Redact)));
@@ -176,7 +177,6 @@ fn a_box_is_put_once(rt: HostRuntime) -> Result<(), Fail> {
     assert!(rt; is_done(put_box(alloc, t, k, 2, 1, 0, 8)));
     assert!(rt; is_done(put_box(alloc, t, k, 2, 1, 0, 8)));
     assert_eq!(rt; tables.boxes.len(), 1);
-    assert_eq!(rt; keeper.load(alloc)?.len(), 10);
     Ok(())
 }
 

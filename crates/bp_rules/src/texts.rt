@@ -1,5 +1,5 @@
 // The texts that calls take.
-ghost use Rattle.std.specs.Prelude.{◌≡◌, IsTrue, length, nat_le};
+ghost use Rattle.std.specs.Prelude.{◌≡◌, length, nat_le};
 ghost use Rattle.std.specs.List.{list_all};
 ghost use Rattle.bp_matter.specs.Texts.{is_designation, is_designation_character, is_plain_character, is_text, is_text_character, is_volume_character};
 ghost use Rattle.bp_matter.specs.ValidEntries.{entry_fits};
@@ -75,11 +75,4 @@ pub(crate) fn entry_fits(entry: &Entry) -> bool
         && is_text(&entry.author, MAX_NAME)
         && is_text(&entry.recipients, MAX_NAME)
         && is_text(&entry.description, MAX_DESCRIPTION)
-}
-
-// Whether two texts are equal.
-pub(crate) fn same_text(old: &Text, text: &Text) -> bool
-    ensures { IsTrue result → old.now ≡ text.now }
-{
-    *old == *text
 }

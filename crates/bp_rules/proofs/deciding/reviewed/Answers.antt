@@ -11,4 +11,4 @@ new-requires c =
 pub returns : goal.returns
 returns c =
     let m = c.args.tables.now.matter in
-    review-decided m c.args.call c.args.mark c.in_ok-change.change _ c.in_ok-change.ensures refl (review-made m c.args.call c.args.mark c.order_law.ensures c.know_valid.ensures c.requires)
+    review-decided m c.args.call c.args.mark c.in_ok-change.change _ c.in_ok-change.ensures refl (review-made m c.args.call c.args.mark c.order_law.ensures c.know_valid.ensures c.requires) c.requires

@@ -2,7 +2,7 @@ use Rattle.std.proofs.Common.{◌<◌, ◌^◌, refl, arith}
 use Rattle.bp_rules.specs.Calling.{edited, without_held}
 use Rattle.bp_rules.specs.declared.changes.MarkEdit.TheVariants as mark_edits
 use Rattle.bp_rules.proofs.CallLemmas.{edited-valid}
-use Rattle.bp_rules.proofs.ReviewingLemmas.{can-mark, held-gone-can}
+use Rattle.bp_rules.proofs.ReviewingLemmas.{can-mark, held-dropped, held-gone-can}
 use Rattle.bp_rules.proofs.holding.free_if_held.Goals as goal
 
 pub reviewed-requires : goal.reviewed-requires
@@ -13,5 +13,5 @@ reviewed-requires c =
     let field = c.args.field in
     let v = c.know_valid.ensures in
     let small : field < 2 ^ 32 = omega (arith, c.ranges.field.fits) in
-    can-mark m (edited caller doc.0 m) (without_held doc.0 field m) c.in_ok-call.call (mark_edits.DropHeld doc field) c.in_ok-call.ensures.after refl c.in_ok-call.ensures.there (cc)
+    can-mark m (edited caller doc.0 m) (without_held doc.0 field m) c.in_ok-call.call (mark_edits.DropHeld doc field) c.in_ok-call.ensures.after refl c.in_ok-call.ensures.there (cc) c.in_ok-call.ensures.new (held-dropped m doc field (cc))
     (edited-valid m caller doc.0 v c.requires) (held-gone-can m caller doc.0 field v c.requires small)

@@ -2,7 +2,7 @@ use Rattle.std.proofs.Common.{◌<◌, ◌^◌, refl, arith}
 use Rattle.bp_rules.specs.Calling.{edited, without_box}
 use Rattle.bp_rules.specs.declared.changes.MarkEdit.TheVariants as mark_edits
 use Rattle.bp_rules.proofs.CallLemmas.{edited-valid}
-use Rattle.bp_rules.proofs.ReviewingLemmas.{box-gone-can, can-mark}
+use Rattle.bp_rules.proofs.ReviewingLemmas.{box-dropped, box-gone-can, can-mark}
 use Rattle.bp_rules.proofs.marking.drop_if_there.Goals as goal
 
 pub reviewed-requires : goal.reviewed-requires
@@ -13,5 +13,5 @@ reviewed-requires c =
     let num = c.args.num in
     let v = c.know_valid.ensures in
     let small : num < 2 ^ 32 = omega (arith, c.ranges.num.fits) in
-    can-mark m (edited caller doc.0 m) (without_box doc.0 num m) c.in_ok-call.call (mark_edits.DropBox doc num) c.in_ok-call.ensures.after refl c.in_ok-call.ensures.there (cc)
+    can-mark m (edited caller doc.0 m) (without_box doc.0 num m) c.in_ok-call.call (mark_edits.DropBox doc num) c.in_ok-call.ensures.after refl c.in_ok-call.ensures.there (cc) c.in_ok-call.ensures.new (box-dropped m doc num (cc))
     (edited-valid m caller doc.0 v c.requires) (box-gone-can m caller doc.0 num v c.requires small)

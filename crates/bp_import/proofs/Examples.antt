@@ -12,15 +12,18 @@ use Rattle.bp_rows.specs.declared.resolution.Unit.TheVariants as units
 use Rattle.bp_text.specs.declared.words.Word.{Word}
 use Rattle.bp_text.specs.declared.words.WordRow.{WordRow}
 use Rattle.csv.proofs.OnLiterals.{csv_on_literals}
+use Rattle.bp_matter.specs.declared.batches.BatchDoc.{BatchDoc}
+use Rattle.bp_matter.specs.declared.batches.BatchPage.{BatchPage}
 use Rattle.bp_outside.specs.Source.{FileMap}
-use Rattle.bp_import.specs.Batch.{Plan, batch_with, plan_by}
+use Rattle.bp_import.specs.Batch.{Plan, batch_with, docs_of, pages_of, plan_by}
 use Rattle.bp_import.specs.Breaks.{breaks_of, cut, page_counts}
 use Rattle.bp_import.specs.Columns.{are_columns, is_column, table_of}
 use Rattle.bp_import.specs.Digest.{framed}
+use Rattle.bp_import.specs.Documents.{with_words, words_of_lines}
 use Rattle.bp_import.specs.Families.{parents_of}
 use Rattle.bp_import.specs.Files.{dat_path, file_read, file_rule}
 use Rattle.bp_import.specs.Records.{fields_of, record_of}
-use Rattle.bp_import.specs.Scans.{LinesAnswer, scan_of, scan_read}
+use Rattle.bp_import.specs.Scans.{LinesAnswer, Scan, scan_of, scan_read}
 use Rattle.bp_import.specs.WordPages.{places_of, words_inside, words_on}
 use Rattle.bp_import.specs.declared.files.TheConstants.{DAT, FILE_LIMIT, IMAGE, OPT, WORDS}
 use Rattle.bp_import.specs.declared.records.Record.{Record}
@@ -226,6 +229,41 @@ all_inside = refl
 
 third_outside : words_inside three_lines (page 4 2 ∷ page 8 2 ∷ page 1 1 ∷ []) three_words ≡ Err (rule_at_line kinds.WordOutside 3)
 third_outside = refl
+
+-- ---- pages and documents
+
+abbrev scan : ℕ → Scan
+scan width = record { bytes = []; page = page width 2 }
+
+abbrev three_scans : List Scan
+three_scans = scan 4 ∷ scan 9 ∷ scan 1 ∷ []
+
+abbrev first_page : BatchPage
+first_page = record { page = page 4 2; words = word (codes "a") 0 4 ∷ [] }
+
+abbrev second_page : BatchPage
+second_page = record { page = page 9 2; words = word (codes "b") 0 4 ∷ word (codes "c") 4 5 ∷ [] }
+
+abbrev third_page : BatchPage
+third_page = record { page = page 1 2; words = [] }
+
+-- the words of a page keep their order
+three_pages : pages_of three_words three_lines three_scans ≡ first_page ∷ second_page ∷ third_page ∷ []
+three_pages = refl
+
+abbrev batch_doc : List ℕ → List BatchPage → BatchDoc
+batch_doc id own = record { id = id; parent = 1; values = []; pages = own }
+
+-- the second document is of the first's family
+two_batch_docs : docs_of two_docs (1 ∷ 1 ∷ []) (cut (page_counts three_lines) (pages_of three_words three_lines three_scans)) ≡ batch_doc (codes "A1") (first_page ∷ second_page ∷ []) ∷ batch_doc (codes "A3") (third_page ∷ []) ∷ []
+two_batch_docs = refl
+
+-- the same as the import puts them together
+words_by_lines : words_of_lines three_lines three_words ≡ first_page.words ∷ second_page.words ∷ [] ∷ []
+words_by_lines = refl
+
+pages_put_together : with_words (page 4 2 ∷ page 9 2 ∷ page 1 2 ∷ []) (words_of_lines three_lines three_words) ≡ pages_of three_words three_lines three_scans
+pages_put_together = refl
 
 -- ---- files and images
 

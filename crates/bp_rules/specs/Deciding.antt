@@ -69,7 +69,8 @@ pub record CanBeReviewed (m : Matter) (call : CallEdit) (mark : MarkEdit) : Type
 -- a member of the staff of a matter, by number
 pub record IsCaller (m : Matter) (row : StaffRow) : Type 0 where
   pub named : IsTrue (names (length m.staff) row.staff.0)
-  pub checker : IsTrue (is_checker row.role) → IsTrue (checker_there (find_key staff_key row.staff.0 m.staff))
+  pub checker : IsTrue (is_checker row.role)
+      → IsTrue (checker_there (find_key staff_key row.staff.0 m.staff))
 
 -- the texts of a log entry are of Unicode characters
 pub record EntryScalars (e : Entry) : Type 0 where

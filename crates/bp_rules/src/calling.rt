@@ -163,7 +163,8 @@ pub(crate) fn confirm(
     doc: DocNo,
 ) -> Result<Decided, Refusal>
     requires named { IsTrue (names (length tables.now.matter.staff) caller.0) }
-    requires checker { IsTrue (checker_there (find_key staff_key caller.0 tables.now.matter.staff)) }
+    requires checker { IsTrue (checker_there
+        (find_key staff_key caller.0 tables.now.matter.staff)) }
     ensures { Decides tables.now.matter
         (step_by tables.now.matter caller (Call.Confirm doc)) result }
 {
@@ -185,7 +186,8 @@ fn confirm_row(
     row: &CallRow,
 ) -> Result<Decided, Refusal>
     requires named { IsTrue (names (length tables.now.matter.staff) caller.0) }
-    requires checker { IsTrue (checker_there (find_key staff_key caller.0 tables.now.matter.staff)) }
+    requires checker { IsTrue (checker_there
+        (find_key staff_key caller.0 tables.now.matter.staff)) }
     requires found { call_with doc.0 tables.now.matter ≡ Some row.now }
     ensures { Decides tables.now.matter
         (confirm tables.now.matter caller doc.0 (Some row.now)) result }

@@ -1,8 +1,8 @@
 //! The rules of a matter: how it begins, how it is loaded from its keeper, and how it changes.
 //!
-//! A change is decided on tables (`decide`, `decide_import`), room is made for it (`make_room`), its
-//! puts are committed to the keeper, and it is made (`apply`), which can't fail; `step` and
-//! `step_import` do all of it. What a call does to a matter is `step_of` of specs/Stepping.antt, and
+//! A change is decided on tables (`decide`, `decide_import`), room is made for it (`make_room`),
+//! its puts are committed to the keeper, and it is made (`apply`), which can't fail; `step` and
+//! `step_import` do all of it. What a call does to a matter is `step_of` of specs/Stepping.antt,
 //! what an import does `import_of` of specs/Importing.antt. `may` says who may make a call.
 #![tactic(auto)]
 

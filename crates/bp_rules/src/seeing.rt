@@ -24,7 +24,8 @@ pub(crate) fn see_doc(
     caller: StaffNo,
     doc: DocNo,
 ) -> Result<Decided, Refusal>
-    ensures { Decides tables.now.matter (step_by tables.now.matter caller (Call.SeeDoc doc)) result }
+    ensures { Decides tables.now.matter
+        (step_by tables.now.matter caller (Call.SeeDoc doc)) result }
 {
     let Some(row) = tables.doc_with(doc) else {
         return Err(Refusal::Rule(no_document(doc)));
@@ -158,7 +159,8 @@ fn shown_held(alloc: Global, held: &[DocHeld]) -> Result<HeldList, OutOfMemory>
 }
 
 fn shown_entry(row: Option<&DocEntry>) -> Result<Option<Entry>, OutOfMemory>
-    ensures { IfOk result (λ shown. shown ≡ of_row (λ entered. entered.entry) (option_copied row.entry)) }
+    ensures { IfOk result (λ shown.
+        shown ≡ of_row (λ entered. entered.entry) (option_copied row.entry)) }
 {
     match row {
         None => Ok(None),

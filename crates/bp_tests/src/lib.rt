@@ -3,6 +3,8 @@
 #![tactic(auto)]
 
 #[cfg(test)]
+mod batches;
+#[cfg(test)]
 mod kept_rows;
 #[cfg(test)]
 mod limits;
@@ -10,5 +12,7 @@ mod limits;
 mod matters;
 #[cfg(test)]
 mod productions;
+#[cfg(test)]
+mod reading_batches;
 #[cfg(test)]
 mod validity;

@@ -1,6 +1,9 @@
 // The limits of a matter: each number is reached, and then passed by one.
+use crate::batches::{HEADER, NEVER, batch_in};
 use crate::matters::{INVALID, PAGE, STAFF, bad, kept, matter, refusal};
-use bp_core::{Bytes, OutOfMemory, Refusal, Row};
+use bp_core::{Bytes, ListOf, OutOfMemory, Refusal, Row, Rule, RuleKind};
+use bp_matter::read_tables;
+use bp_rules::decide_import;
 use std::alloc::Global;
 use std::test::Fail;
 
@@ -49,14 +52,14 @@ fn numbered(
     Ok(Row { kind, k1, k2, body })
 }
 
-// What the matter comes to that has so many rows of a kind, all but the first of this body.
-fn of_many(
+// The rows of the matter that has so many rows of a kind, all but the first of this body.
+fn many(
     alloc: Global,
     kind: u8,
     count: u32,
     body: &[u8],
     place: usize,
-) -> Result<Option<Refusal>, OutOfMemory> {
+) -> Result<Vec<Row>, OutOfMemory> {
     let mut rows = Vec::new(alloc);
     let mut behind = Vec::new(alloc);
     for row in unproduced(alloc)? {
@@ -70,7 +73,37 @@ fn of_many(
         rows.push(numbered(alloc, kind, number, body, place)?)?;
     }
     rows.append(&mut behind)?;
-    Ok(refusal(alloc, rows))
+    Ok(rows)
+}
+
+// What such a matter comes to.
+fn of_many(
+    alloc: Global,
+    kind: u8,
+    count: u32,
+    body: &[u8],
+    place: usize,
+) -> Result<Option<Refusal>, OutOfMemory> {
+    Ok(refusal(alloc, many(alloc, kind, count, body, place)?))
+}
+
+// A matter with 1,000 batches takes no further one, and tells the number that would be reached.
+#[test]
+fn the_1_001st_batch_is_refused(rt: HostRuntime) -> Result<(), Fail> {
+    let alloc = rt.alloc();
+    let rows = many(alloc, 11, 1000, &EMPTY_BATCH, 45)?;
+    let tables = read_tables(alloc, &ListOf::from_vec(rows))?;
+    let Ok(batch) = batch_in(alloc, "B1", HEADER.as_bytes(), "", "", NEVER)? else {
+        panic!(rt; "refused");
+    };
+    let found = decide_import(alloc, &tables, &batch).map(|imported| imported.pages);
+    let rule = Rule {
+        a: 6,
+        b: 1001,
+        ..Rule::bare(RuleKind::MatterFull)
+    };
+    assert_eq!(rt; found, Err(Refusal::Rule(rule)));
+    Ok(())
 }
 
 #[test]

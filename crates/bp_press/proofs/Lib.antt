@@ -1,6 +1,10 @@
+pub mod ContentLemmas
 mod Examples
 pub mod GrowLemmas
 pub mod KeptPageLemmas
+pub mod NameLemmas
+pub mod PageLemmas
 pub mod ReadLemmas
 pub mod SameLemmas
 mod TwelveExamples
+pub mod WritingLemmas

@@ -6,3 +6,4 @@ pub mod Manifest
 pub mod Paths
 pub mod ReadBack
 pub mod Volume
+pub mod Writing

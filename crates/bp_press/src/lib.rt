@@ -5,7 +5,12 @@
 //! is to come.
 #![tactic(auto)]
 
+mod adding;
+mod contents;
 mod laws;
+mod manifest;
+mod names;
+mod pages;
 pub mod paths;
 
 pub use laws::{images_are_read, same_product, same_volume, volume_stays};

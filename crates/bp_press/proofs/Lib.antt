@@ -1,6 +1,7 @@
 pub mod ContentLemmas
 mod Examples
 pub mod GrowLemmas
+pub mod ItemLemmas
 pub mod KeptPageLemmas
 pub mod NameLemmas
 pub mod PageLemmas

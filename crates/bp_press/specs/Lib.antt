@@ -4,6 +4,7 @@ pub mod Keeping
 pub mod LoadFiles
 pub mod Manifest
 pub mod Paths
+pub mod Pressing
 pub mod ReadBack
 pub mod Volume
 pub mod Writing

@@ -7,6 +7,7 @@
 
 mod adding;
 mod contents;
+mod items;
 mod laws;
 mod manifest;
 mod names;

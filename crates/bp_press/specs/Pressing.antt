@@ -1,0 +1,66 @@
+-- The files of an item, one by one, and what writing them needs.
+use Rattle.std.specs.Prelude.{ℕ, ◌+◌, ◌-◌, ◌≤◌, ◌<◌, IsTrue, List, ◌∷◌, length, map, encode_utf8_all, Option, Some, None}
+use Rattle.std.specs.List.{range_with_len}
+use Rattle.bp_core.specs.Characters.{solidus}
+use Rattle.bp_core.specs.declared.review.Basis.{Basis}
+use Rattle.bp_rows.specs.Limits.{sides_are_imported}
+use Rattle.bp_bates.specs.Prefixes.{is_good_prefix}
+use Rattle.bp_bates.specs.Spans.{largest_of}
+use Rattle.bp_burn.specs.Drawn.{has_glyphs}
+use Rattle.bp_tiff.specs.Tiff.{tiff_of}
+use Rattle.bp_tiff.specs.declared.form.Form.TheVariants.{G4}
+use Rattle.bp_outside.specs.Folder.{file}
+use Rattle.bp_outside.specs.declared.files.FileRow.{FileRow}
+use Rattle.bp_matter.specs.Matter.{Matter}
+use Rattle.bp_matter.specs.declared.rows.Item.{Item}
+use Rattle.bp_matter.specs.declared.rows.Request.{Request}
+use Rattle.bp_freeze.specs.Log.{label_in}
+use Rattle.bp_freeze.specs.Seeing.{page_count}
+use Rattle.bp_press.specs.Contents.{ground_of, image_in, part_of, produced_page}
+use Rattle.bp_press.specs.Files.{Placed, image_files}
+use Rattle.bp_press.specs.Paths.{image_path}
+
+-- the file of an image of an item that isn't withheld, counted from 0
+abbrev pub image_at : Request → Matter → Item → ℕ → ℕ → FileRow
+image_at q m i place k =
+    file (image_path solidus q (place + k) (i.span.first + k))
+    (tiff_of G4 (produced_page q m i (k + 1)))
+
+-- the files of its images but the first so many
+abbrev pub images_after : Request → Matter → Item → ℕ → ℕ → List FileRow
+images_after q m i place k =
+    image_files q (place + k) (i.span.first + k)
+    (map (produced_page q m i) (range_with_len (k + 1) (page_count m i.doc.0 - k)))
+
+-- an item at a place of the volume, with what a matter shows of it
+abbrev pub placed_at : Request → Matter → Item → ℕ → Placed
+placed_at q m i place =
+    let part = part_of q m i in
+    record { place = place; item = part.item; content = part.content }
+
+-- so many labels from a number on are of the width, and drawn with the glyphs that there are
+pub record AreLabels (q : Request) (first count : ℕ) : Type 0 where
+  pub prefix : IsTrue (is_good_prefix q.prefix.text q.prefix.width)
+  pub from : 1 ≤ first
+  pub to : first + count ≤ largest_of q.prefix.width + 1
+  pub drawn : (k : ℕ) → k < count → IsTrue (has_glyphs (label_in q.prefix (first + k)))
+
+-- the pages of a document came in
+abbrev pub AreScans : Matter → ℕ → Type 0
+AreScans m doc =
+    (page : ℕ) → 1 ≤ page → page ≤ page_count m doc
+    → IsTrue (sides_are_imported (image_in m doc page).width (image_in m doc page).height)
+
+-- how many images an item has
+abbrev pub count_by : Matter → Item → Option Basis → ℕ
+count_by m i None = page_count m i.doc.0
+count_by m i (Some basis) = 1
+
+-- what the files of an item need
+pub record CanBePlaced (q : Request) (m : Matter) (i : Item) : Type 0 where
+  pub doc : 1 ≤ i.doc.0
+  pub there : i.doc.0 ≤ length m.docs
+  pub labels : AreLabels q i.span.first (count_by m i (ground_of i.treatment))
+  pub some : 1 ≤ count_by m i (ground_of i.treatment)
+  pub designation : IsTrue (has_glyphs i.designation)
+  pub scans : AreScans m i.doc.0

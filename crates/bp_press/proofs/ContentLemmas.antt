@@ -4,6 +4,7 @@ use Rattle.std.specs.List.{flat_map, range_with_len}
 use Rattle.std.specs.Prelude.{codes, encode_utf8_all}
 use Rattle.std.specs.Str.{chars}
 use Rattle.std.proofs.lemmas.Str.{encodes-append}
+use Rattle.bp_press.specs.Contents.{withheld_text}
 use Rattle.bp_core.specs.Review.{basis_code}
 use Rattle.bp_core.specs.declared.review.Basis.{Basis}
 use Rattle.bp_core.specs.declared.review.Basis.TheVariants.{Ac, Wp, Pi, Ts}
@@ -33,3 +34,10 @@ chars_code Ac = refl
 chars_code Wp = refl
 chars_code Pi = refl
 chars_code Ts = refl
+
+pub chars_sheet : (basis : Basis) → chars (withheld_text basis) ≡ withheld_text basis
+unfolding chars
+chars_sheet Ac = refl
+chars_sheet Wp = refl
+chars_sheet Pi = refl
+chars_sheet Ts = refl

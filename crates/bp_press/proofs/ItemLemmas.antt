@@ -1,5 +1,6 @@
 -- The images of an item that are still to be written.
 use Rattle.std.proofs.Common.{◌≡◌, ℕ, suc, ◌+◌, ◌-◌, ◌<◌, ◌≤◌, List, [], ◌∷◌, ◌++◌, map, flat_map, Result, Ok, Err, refl, sym, ap, subst, ◌∙◌, arith, append_assoc, append-nil}
+use Rattle.std.proofs.lemmas.List.Concat.{flat_map-append}
 use Rattle.std.specs.List.{range_with_len}
 use Rattle.std.specs.Result.{OnOk, IfErr}
 use Rattle.bp_rows.specs.Image.{Image}
@@ -10,16 +11,19 @@ use Rattle.bp_matter.specs.Matter.{Matter}
 use Rattle.bp_matter.specs.declared.rows.Request.{Request}
 use Rattle.bp_matter.specs.declared.rows.Item.{Item}
 use Rattle.bp_freeze.specs.Seeing.{page_count}
-use Rattle.bp_press.specs.Contents.{pages_of, produced_page}
-use Rattle.bp_press.specs.Files.{image_files}
+use Rattle.bp_press.specs.Contents.{content_by, ground_of, pages_of, produced_page, slip_sheet}
+use Rattle.bp_core.specs.declared.review.Basis.{Basis}
+use Rattle.bp_core.specs.declared.review.Treatment.{Treatment}
+use Rattle.bp_core.specs.declared.review.Treatment.TheVariants.{Withhold}
+use Rattle.bp_press.specs.Files.{Placed, image_files, item_files, text_file}
 use Rattle.bp_press.specs.Manifest.{manifest_line}
 use Rattle.bp_press.specs.Paths.{image_path}
 use Rattle.bp_core.specs.Characters.{solidus}
 use Rattle.bp_tiff.specs.Tiff.{tiff_of}
 use Rattle.bp_tiff.specs.declared.form.Form.TheVariants.{G4}
-use Rattle.bp_press.specs.Pressing.{image_at, images_after}
+use Rattle.bp_press.specs.Pressing.{image_at, images_after, images_in, placed_at}
 use Rattle.bp_press.specs.Writing.{ToCome, AddsAll, LeavesCut}
-use Rattle.bp_press.proofs.WritingLemmas.{come_all, come_next, come_end, come_cut}
+use Rattle.bp_press.proofs.WritingLemmas.{come_all, come_next, come_end, come_cut, pair_first, pair_second, pair_end}
 
 abbrev images_of : Request → Matter → Item → List Image
 images_of q m item = map (produced_page q m item) (pages_of m item.doc.0)
@@ -126,3 +130,32 @@ image_row q m item place page at by path bytes lent a b named same made =
     row_same path (image_path solidus q (place + page) (item.span.first + page)) lent (tiff_of G4 (produced_page q m item (page + 1)))
     (named ∙ ap (λ n. image_path solidus q (place + n) (item.span.first + by)) a ∙ ap (λ n. image_path solidus q (place + page) (item.span.first + n)) b)
     (same ∙ made)
+
+-- ---- an item: its images, and then its text
+
+pub item_end : (q : Request) (p : Placed) (before folder after : FolderView) → AddsAll before (images_in q p) folder → AddsAll folder (text_file q p ∷ []) after
+    → AddsAll before (item_files q p) after
+item_end q p before folder after e h = pair_end before folder after (images_in q p) (text_file q p ∷ []) e h
+
+pub item_lines : (q : Request) (p : Placed) (old new newer : List ℕ) → new ≡ old ++ flat_map manifest_line (images_in q p) → newer ≡ new ++ manifest_line (text_file q p)
+    → newer ≡ old ++ flat_map manifest_line (item_files q p)
+item_lines q p old new newer e h =
+    let line : FileRow → List ℕ = manifest_line in
+    h ∙ ap (λ x. x ++ line (text_file q p)) e ∙ append_assoc old (flat_map line (images_in q p)) (line (text_file q p))
+    ∙ ap (λ x. old ++ (flat_map line (images_in q p) ++ x)) (sym (append-nil (line (text_file q p))))
+    ∙ ap (λ x. old ++ x) (sym (flat_map-append line (images_in q p) (text_file q p ∷ [])))
+
+pub item_cut_images : (q : Request) (p : Placed) (before : FolderView) (r : FolderRefusal) (after : FolderView) → LeavesCut before (images_in q p) r after → LeavesCut before (item_files q p) r after
+item_cut_images q p before r after h = pair_first before (images_in q p) (text_file q p ∷ []) r after h
+
+pub item_cut_text : (q : Request) (p : Placed) (before folder : FolderView) (r : FolderRefusal) (after : FolderView) → AddsAll before (images_in q p) folder → LeavesCut folder (text_file q p ∷ []) r after
+    → LeavesCut before (item_files q p) r after
+item_cut_text q p before folder r after e h = pair_second before folder (images_in q p) (text_file q p ∷ []) r after e h
+
+pub cut_files : {X : Type 0} (r : Result X FolderRefusal) (before after : FolderView) (xs ys : List FileRow) → xs ≡ ys → IfErr r (λ refusal. LeavesCut before xs refusal after) → IfErr r (λ refusal. LeavesCut before ys refusal after)
+cut_files r before after xs ys is h = subst (λ (files : List FileRow). IfErr r (λ refusal. LeavesCut before files refusal after)) is h
+
+-- the images of an item that is withheld are its sheet
+pub sheet_alone : (q : Request) (m : Matter) (item : Item) (place : ℕ) (basis : Basis) → item.treatment ≡ Withhold basis
+    → image_files q place item.span.first (slip_sheet q item basis ∷ []) ≡ images_in q (placed_at q m item place)
+sheet_alone q m item place basis is = ap (λ (t : Treatment). image_files q place item.span.first (content_by q m item (ground_of t)).images) (sym is)

@@ -64,3 +64,7 @@ pub record CanBePlaced (q : Request) (m : Matter) (i : Item) : Type 0 where
   pub some : 1 ≤ count_by m i (ground_of i.treatment)
   pub designation : IsTrue (has_glyphs i.designation)
   pub scans : AreScans m i.doc.0
+
+-- the files of the images of an item
+abbrev pub images_in : Request → Placed → List FileRow
+images_in q p = image_files q p.place p.item.span.first p.content.images

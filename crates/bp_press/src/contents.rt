@@ -5,12 +5,12 @@ ghost use Rattle.std.specs.Option.{option_copied};
 ghost use Rattle.std.specs.Str.{chars};
 ghost use Rattle.bp_freeze.specs.Agree.{held_for, value_in};
 ghost use Rattle.bp_freeze.specs.Seeing.{page_count};
-ghost use Rattle.bp_press.specs.Contents.{ground_of, held_text, kept_text, pages_of, value_by, value_shown};
+ghost use Rattle.bp_press.specs.Contents.{ground_of, held_text, kept_text, pages_of, part_of, value_by, value_shown, withheld_text};
 
 use crate::names::add;
 use crate::pages::rects_on;
 use bp_core::{Basis, Bytes, DocNo, ListOf, OutOfMemory, PageNo, Text, Treatment};
-use bp_matter::{HeldList, HeldRow, Item, Tables};
+use bp_matter::{HeldList, HeldRow, Item, Request, Tables};
 use bp_text::{kept, page_text};
 use std::alloc::Global;
 
@@ -129,4 +129,52 @@ fn empty_text(alloc: Global) -> Text
     ensures { result ≡ [] }
 {
     Text::from_string(String::new(alloc))
+}
+
+// The text of the sheet of an item that is withheld on a ground.
+fn sheet_text(alloc: Global, basis: Basis) -> Result<Text, OutOfMemory>
+    ensures { IfOk result (λ text. text ≡ withheld_text basis) }
+{
+    let mut text = String::new(alloc);
+    add(&mut text, sheet_words(basis))?;
+    Ok(Text::from_string(text))
+}
+
+fn sheet_words(basis: Basis) -> &'static str
+    ensures { result.now ≡ withheld_text basis }
+{
+    match basis {
+        Basis::Ac => "DOCUMENT WITHHELD - AC\r\n\u{c}",
+        Basis::Wp => "DOCUMENT WITHHELD - WP\r\n\u{c}",
+        Basis::Pi => "DOCUMENT WITHHELD - PI\r\n\u{c}",
+        Basis::Ts => "DOCUMENT WITHHELD - TS\r\n\u{c}",
+    }
+}
+
+// The text of that sheet, in UTF-8.
+fn sheet_bytes(alloc: Global, basis: Basis) -> Result<Bytes, OutOfMemory>
+    ensures { IfOk result (λ bytes. bytes ≡ encode_utf8_all (withheld_text basis)) }
+{
+    let text = sheet_text(alloc, basis)?;
+    Ok(Bytes::from_vec(text.into_string().into_bytes()))
+}
+
+// The text of an item of so many pages, in UTF-8.
+pub(crate) fn text_bytes(
+    alloc: Global,
+    tables: &Tables,
+    request: &Request,
+    item: &Item,
+    pages: u32,
+) -> Result<Bytes, OutOfMemory>
+    requires { pages ≡ page_count tables.now.matter item.now.doc.0 }
+    ensures { let part = part_of request.now tables.now.matter item.now in
+        IfOk result (λ bytes. bytes ≡ encode_utf8_all part.content.text) }
+{
+    let _request = request;
+    match item.treatment {
+        Treatment::Produce => pages_text(alloc, tables, item, pages),
+        Treatment::Redact => pages_text(alloc, tables, item, pages),
+        Treatment::Withhold(basis) => sheet_bytes(alloc, basis),
+    }
 }

@@ -8,4 +8,5 @@ pub mod PageLemmas
 pub mod ReadLemmas
 pub mod SameLemmas
 mod TwelveExamples
+pub mod VolumeLemmas
 pub mod WritingLemmas

@@ -1,6 +1,6 @@
 -- The files of an item, one by one, and what writing them needs.
-use Rattle.std.specs.Prelude.{ℕ, ◌+◌, ◌-◌, ◌≤◌, ◌<◌, IsTrue, List, ◌∷◌, length, map, encode_utf8_all, Option, Some, None}
-use Rattle.std.specs.List.{range_with_len}
+use Rattle.std.specs.Prelude.{ℕ, ◌+◌, ◌-◌, ◌^◌, ◌≤◌, ◌<◌, IsTrue, List, [], ◌∷◌, length, map, encode_utf8_all, Option, Some, None}
+use Rattle.std.specs.List.{flat_map, range_with_len}
 use Rattle.bp_core.specs.Characters.{solidus}
 use Rattle.bp_core.specs.declared.review.Basis.{Basis}
 use Rattle.bp_rows.specs.Limits.{sides_are_imported}
@@ -17,7 +17,7 @@ use Rattle.bp_matter.specs.declared.rows.Request.{Request}
 use Rattle.bp_freeze.specs.Log.{label_in}
 use Rattle.bp_freeze.specs.Seeing.{page_count}
 use Rattle.bp_press.specs.Contents.{ground_of, image_in, part_of, produced_page}
-use Rattle.bp_press.specs.Files.{Placed, image_files}
+use Rattle.bp_press.specs.Files.{Placed, image_files, item_files, placed}
 use Rattle.bp_press.specs.Paths.{image_path}
 
 -- the file of an image of an item that isn't withheld, counted from 0
@@ -68,3 +68,14 @@ pub record CanBePlaced (q : Request) (m : Matter) (i : Item) : Type 0 where
 -- the files of the images of an item
 abbrev pub images_in : Request → Placed → List FileRow
 images_in q p = image_files q p.place p.item.span.first p.content.images
+
+-- what the files of items need that follow one another from a place on
+abbrev pub CanAllBePlaced : Request → Matter → ℕ → List Item → Type 0
+CanAllBePlaced q m place [] = Unit {0}
+CanAllBePlaced q m place (i ∷ items) =
+    CanBePlaced q m i × ((place + 2 ^ 32 < 2 ^ 64)
+    × CanAllBePlaced q m (place + length (part_of q m i).content.images) items)
+
+-- the files of items that follow one another from a place on
+abbrev pub files_from : Request → Matter → ℕ → List Item → List FileRow
+files_from q m place items = flat_map (item_files q) (placed place (map (part_of q m) items))

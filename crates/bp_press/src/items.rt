@@ -20,7 +20,7 @@ use bp_outside::{Folder, FolderRefusal};
 use std::alloc::Global;
 
 // How many pages a document has.
-fn page_count(tables: &Tables, doc: DocNo) -> u32
+pub(crate) fn page_count(tables: &Tables, doc: DocNo) -> u32
     requires from { 1 ≤ doc.0 }
     requires to { doc.0 ≤ length tables.now.matter.docs }
     ensures { result ≡ page_count tables.now.matter doc.0 }

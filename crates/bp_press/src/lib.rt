@@ -13,5 +13,6 @@ mod manifest;
 mod names;
 mod pages;
 pub mod paths;
+mod volumes;
 
 pub use laws::{images_are_read, same_product, same_volume, volume_stays};

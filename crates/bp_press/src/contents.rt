@@ -125,7 +125,7 @@ fn value_of(alloc: Global, tables: &Tables, item: &Item, field: u32) -> Result<T
 }
 
 // The text without characters.
-fn empty_text(alloc: Global) -> Text
+pub(crate) fn empty_text(alloc: Global) -> Text
     ensures { result ≡ [] }
 {
     Text::from_string(String::new(alloc))

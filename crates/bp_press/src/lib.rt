@@ -9,6 +9,7 @@ mod adding;
 mod contents;
 mod items;
 mod laws;
+mod load_rows;
 mod manifest;
 mod names;
 mod pages;

@@ -14,5 +14,6 @@ pub mod MarkLemmas
 pub mod StaffLemmas
 pub mod EditLemmas
 pub mod ReviewingLemmas
+pub mod RunningLemmas
 pub mod Examples
 pub mod StepExamples

@@ -31,8 +31,9 @@ use Rattle.bp_matter.specs.declared.rows.State.TheVariants.{Confirmed, First, Un
 use Rattle.bp_rules.specs.Limits.{full_rule}
 use Rattle.bp_rules.specs.Refusing.{no_document, no_page, staff_there}
 use Rattle.bp_rules.specs.Roles.{may}
-use Rattle.bp_rules.specs.Running.{Asked, run_of}
+use Rattle.bp_rules.specs.Running.{run_of}
 use Rattle.bp_rules.specs.Stepping.{Stepped, done, step_of, told}
+use Rattle.bp_rules.specs.declared.running.Asked.{Asked}
 
 -- ---- a matter of one document of one page, 8 by 1 and white
 

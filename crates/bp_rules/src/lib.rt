@@ -2,7 +2,8 @@
 //!
 //! A change is decided on tables (`decide`, `decide_import`), room is made for it (`make_room`),
 //! its puts are committed to the keeper, and it is made (`apply`), which can't fail; `step` and
-//! `step_import` do all of it. What a call does to a matter is `step_of` of specs/Stepping.antt,
+//! `step_import` do all of it, and `step_all` of calls in turn. What a call does to a matter is
+//! `step_of` of specs/Stepping.antt, that of calls in turn `run_of` of specs/Running.antt, and
 //! what an import does `import_of` of specs/Importing.antt. `may` says who may make a call.
 #![tactic(auto)]
 
@@ -25,6 +26,7 @@ mod refusing;
 #[cfg(test)]
 mod review_tests;
 mod roles;
+mod running;
 mod seeing;
 mod stepping;
 #[cfg(test)]
@@ -38,4 +40,5 @@ pub use deciding::{Decided, decide};
 pub use importing::{Imported, decide_import};
 pub use loading::{LoadRefusal, load_tables};
 pub use roles::may;
+pub use running::{Asked, run_law, step_all};
 pub use stepping::{Counted, StepRefusal, step, step_import};

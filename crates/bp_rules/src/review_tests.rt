@@ -1,8 +1,8 @@
 // A review of one document of one page, over a keeper in memory, with ample memory.
-ghost use Rattle.std.specs.Prelude.{IfOk, IsTrue};
+ghost use Rattle.std.specs.Prelude.{◌≡◌, IfOk, IsTrue};
 ghost use Rattle.bp_rules.specs.Deciding.{is_review};
 
-use crate::{StepRefusal, load_tables, step};
+use crate::{Asked, StepRefusal, load_tables, step, step_all};
 use bp_core::{
     Basis, Bytes, DocNo, ListOf, NumberList, OutOfMemory, PageNo, Rect, Row, StaffNo, Text,
     Treatment, ascends,
@@ -152,6 +152,13 @@ fn entry(alloc: Global) -> Result<Call, OutOfMemory>
     })
 }
 
+fn asked(staff: u8, call: Call) -> Asked
+    ensures { result.call ≡ call }
+{
+    let key = [staff; 32];
+    Asked { key, call }
+}
+
 fn is_done(reply: Result<Reply, StepRefusal>) -> bool {
     matches!(reply, Ok(Reply::Done))
 }
@@ -229,5 +236,25 @@ fn a_fault_leaves_the_call(rt: HostRuntime) -> Result<(), Fail> {
     assert!(rt; t.calls.is_empty());
     assert!(rt; is_done(set_call(alloc, t, k, 2, Treatment::Redact)));
     assert_eq!(rt; k.load(alloc)?.len(), 9);
+    Ok(())
+}
+
+#[test]
+fn a_run_goes_on_past_a_refused_call(rt: HostRuntime) -> Result<(), Fail> {
+    let alloc = rt.alloc();
+    // The keeper's third call, the commit of the send-back, fails once.
+    let mut keeper = keeper(alloc, &[2])?;
+    let mut tables = load_tables(alloc, &mut keeper)?;
+    let (t, k) = (&mut tables, &mut keeper);
+    assert!(rt; is_done(set_call(alloc, t, k, 2, Treatment::Redact)));
+    let confirm = Call::Confirm { doc: DOCUMENT };
+    let back = Call::SendBack { doc: DOCUMENT };
+    let calls = [asked(2, confirm), asked(3, back)];
+    let stopped = step_all(alloc, t, k, &calls);
+    assert!(rt; matches!(stopped, Err(StepRefusal::KeeperFault)));
+    assert!(rt; t.state(DOCUMENT) == Some(State::First(StaffNo(2))));
+    assert!(rt; step_all(alloc, t, k, &calls).is_ok());
+    assert!(rt; t.state(DOCUMENT) == Some(State::Uncalled));
+    assert_eq!(rt; k.load(alloc)?.len(), 8);
     Ok(())
 }

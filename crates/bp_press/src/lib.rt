@@ -1,8 +1,9 @@
 //! The volume of a frozen production: the image and the text of each item, the load files, the
 //! privilege log and the manifest. Its definition is `volume_of` in specs/Volume.antt.
 //!
-//! So far the crate has the definitions and their laws; the call that writes a volume to a folder
-//! is to come.
+//! So far the crate has the definitions, their laws, and the files of all items, added to a folder
+//! one after another; the load files, the log, the manifest's own file and the call that writes the
+//! whole volume are to come.
 #![tactic(auto)]
 
 mod adding;

@@ -13,7 +13,7 @@ use Rattle.bp_matter.specs.KeptRows.{rows_of}
 use Rattle.bp_matter.specs.Matter.{Matter, Shown}
 use Rattle.bp_matter.specs.Valid.{IsValid}
 use Rattle.bp_matter.specs.declared.calls.Reply.{Reply}
-use Rattle.bp_rules.specs.Changes.{after, puts_of}
+use Rattle.bp_rules.specs.Changes.{puts_of}
 use Rattle.bp_rules.specs.Loading.{LoadedFrom}
 use Rattle.bp_rules.specs.Running.{Ran, RunLoads, Runs, Stopped, StopsAt, faults_stopped, goes_on, left_by, run_of}
 use Rattle.bp_rules.specs.Stepping.{Stepped, step_of}

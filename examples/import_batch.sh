@@ -8,7 +8,7 @@ here=$(CDPATH='' cd -- "$(dirname -- "$0")" && pwd)
 bench=$here/../crates/bp_bench
 log=$(mktemp)
 trap 'rm -f "$log"' EXIT
-(cd "$bench" && rt run) < /dev/null > "$log" 2>&1 || { cat "$log"; exit 1; }
+(cd "$bench" && rt run -- codes white index 1) < /dev/null > "$log" 2>&1 || { cat "$log"; exit 1; }
 
 pages=$("$bench/out/bp_bench" import "$here" CVI_001 1)
 [ "$pages" = 31 ] || { echo "import_batch.sh: $pages pages came in, and not 31" >&2; exit 1; }

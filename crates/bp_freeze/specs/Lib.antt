@@ -3,6 +3,7 @@ pub mod Alike
 pub mod Csv
 pub mod Families
 pub mod Freezing
+pub mod Keeping
 pub mod Log
 pub mod Marks
 pub mod Refusals

@@ -21,7 +21,7 @@ use Rattle.bp_matter.specs.declared.rows.PageRow.{PageRow}
 use Rattle.bp_matter.specs.declared.rows.PageWords.{PageWords}
 use Rattle.bp_matter.specs.declared.rows.Production.{Production}
 use Rattle.bp_freeze.specs.Agree.{Agree, ItemAgrees, PagesAgree, field_number, rects_on}
-use Rattle.bp_press.specs.Keeping.{GrowsTo, Keeps}
+use Rattle.bp_freeze.specs.Keeping.{GrowsTo, Keeps}
 use Rattle.bp_press.proofs.KeptPageLemmas.{counted, finds, item-doc, kept-fields, kept-items, page-there}
 
 -- ---- lists

@@ -22,7 +22,7 @@ use Rattle.bp_matter.specs.declared.rows.PageRow.{PageRow}
 use Rattle.bp_matter.specs.declared.rows.Production.{Production}
 use Rattle.bp_matter.specs.declared.rows.ProductionRow.{ProductionRow}
 use Rattle.bp_matter.proofs.ImageLemmas.{plain_page}
-use Rattle.bp_press.specs.Keeping.{Keeps}
+use Rattle.bp_freeze.specs.Keeping.{Keeps}
 use Rattle.bp_freeze.specs.Seeing.{page_count}
 use Rattle.bp_press.specs.Contents.{image_in}
 

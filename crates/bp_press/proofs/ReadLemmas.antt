@@ -25,7 +25,7 @@ use Rattle.bp_matter.specs.Valid.{IsValid}
 use Rattle.bp_matter.specs.declared.rows.Item.{Item}
 use Rattle.bp_matter.specs.declared.rows.Production.{Production}
 use Rattle.bp_matter.specs.declared.rows.Request.{Request}
-use Rattle.bp_press.specs.Keeping.{Keeps}
+use Rattle.bp_freeze.specs.Keeping.{Keeps}
 use Rattle.bp_freeze.specs.Log.{label_in}
 use Rattle.bp_freeze.specs.Agree.{rects_on}
 use Rattle.bp_freeze.specs.Seeing.{page_count}

@@ -1,6 +1,5 @@
 pub mod Contents
 pub mod Files
-pub mod Keeping
 pub mod LoadFiles
 pub mod Manifest
 pub mod Paths

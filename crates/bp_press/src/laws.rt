@@ -7,7 +7,7 @@ ghost use Rattle.bp_matter.specs.declared.rows.Request.{Request};
 ghost use Rattle.bp_freeze.specs.Agree.{Agree};
 ghost use Rattle.bp_freeze.specs.Alike.{Alike};
 ghost use Rattle.bp_freeze.specs.Freezing.{freeze_of};
-ghost use Rattle.bp_press.specs.Keeping.{GrowsTo, Keeps};
+ghost use Rattle.bp_freeze.specs.Keeping.{GrowsTo, Keeps};
 ghost use Rattle.bp_press.specs.ReadBack.{IsReadBack};
 ghost use Rattle.bp_press.specs.Volume.{volume_of};
 

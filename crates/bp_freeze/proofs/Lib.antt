@@ -3,7 +3,11 @@ pub mod AlikeLemmas
 pub mod CsvLemmas
 pub mod FamilyLemmas
 pub mod FreezeLemmas
+pub mod FrozenFamilyLemmas
 pub mod FrozenItemLemmas
+pub mod FrozenMarkLemmas
+pub mod FrozenOnceLemmas
+pub mod FrozenRangeLemmas
 pub mod LogLemmas
 pub mod RangeLemmas
 pub mod RuleLemmas

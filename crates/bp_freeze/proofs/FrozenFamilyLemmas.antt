@@ -163,9 +163,9 @@ after_taken m valid q passed takes n i low high taken family =
                 inr (record { none = none; own = λ within passes. own }))
           ])
       | inr over ↦ inr (record {
-          none = ap (λ o. due_after o i) (past-all 1 (n + 1) m.docs valid.docs.numbered (omega arith));
-          own = λ within passes. absurd (omega (arith, r.to));
-        })
+        none = ap (λ o. due_after o i) (past-all 1 (n + 1) m.docs valid.docs.numbered (omega arith));
+        own = λ within passes. absurd (omega (arith, r.to));
+      })
     ]
 
 -- behind one that was not
@@ -175,13 +175,13 @@ after_left m valid q passed takes n due low left state =
     elim state [
       | inl next ↦ absurd (let passes : takes (parent m n) ≡ true = next.taken in cc)
       | inr free ↦ record {
-          none = free.none;
-          own = λ within passes.
-              elim (neighbours m valid n (omega (arith, passed.range.from)) (omega (arith, passed.range.to))).is [
-                | inl begins ↦ begins
-                | inr same ↦ absurd (let fails : takes (parent m (n + 1)) ≡ false = ap takes same ∙ left in cc)
-              ];
-        }
+        none = free.none;
+        own = λ within passes.
+            elim (neighbours m valid n (omega (arith, passed.range.from)) (omega (arith, passed.range.to))).is [
+              | inl begins ↦ begins
+              | inr same ↦ absurd (let fails : takes (parent m (n + 1)) ≡ false = ap takes same ∙ left in cc)
+            ];
+      }
     ]
 
 -- behind the last nothing is due

@@ -14,12 +14,12 @@ use Rattle.bp_matter.specs.declared.rows.Item.{Item}
 use Rattle.bp_matter.specs.declared.rows.ProductionRow.{ProductionRow}
 use Rattle.bp_matter.specs.declared.rows.Request.{Request}
 use Rattle.bp_freeze.specs.Freezing.{production_of}
-use Rattle.bp_freeze.specs.Refusals.{first_refusal}
+use Rattle.bp_freeze.specs.Refusals.{first_refusal, next_number, prefix_row}
 use Rattle.bp_freeze.specs.Seeing.{Seen, decisions_of, is_produced, parent_of, seen_in, seen_of}
 use Rattle.bp_freeze.specs.Selecting.{all_numbers, first_number, has_responsive, is_selected, items_from, last_number, selected}
 use Rattle.bp_freeze.proofs.FrozenFamilyLemmas.{whole-range}
 use Rattle.bp_freeze.proofs.FrozenMarkLemmas.{item-fits}
-use Rattle.bp_freeze.proofs.FrozenNumberLemmas.{TakeNumbers, after-from, few-items, many-numbers, span-same}
+use Rattle.bp_freeze.proofs.FrozenNumberLemmas.{TakeNumbers, after-from, few-items, many-numbers, next-small, span-same}
 use Rattle.bp_freeze.proofs.FrozenOnceLemmas.{free-marked, once-more, unproduced-free}
 use Rattle.bp_freeze.proofs.FrozenRangeLemmas.{Called, Passed, all-items, all-passed, call-settled, some-passed, takes-number}
 use Rattle.bp_freeze.proofs.FrozenWritingLemmas.{item-written}
@@ -106,6 +106,13 @@ frozen-written m q next valid passed numbers =
     (all-items m (is_selected (seen_of m q)) item_written (2 ^ 64) q.from.0 (span q) next numbers
     (λ doc first low high is fit. let s = selected_is m q all doc low high is in item-written m valid doc first s.from s.to s.called fit))
     (lt-ltb (length items) (2 ^ 32) (omega (arith, few, docs, r.from, r.order, r.to)))
+
+-- from the next number of a prefix on they have, since the last is one of the prefix's width
+pub frozen-next : (m : Matter) (q : Request) → IsValid m → first_refusal (decisions_of m) (seen_of m q) q ≡ None
+    → IsTrue (are_few item_written (items_from (next_number (prefix_row m.prefixes q.prefix.text)) (selected (seen_of m q))))
+frozen-next m q valid passed =
+    let small = next-small (decisions_of m) (seen_of m q) q passed in
+    frozen-written m q (next_number (prefix_row m.prefixes q.prefix.text)) valid passed (omega (arith, small))
 
 -- the span of the production is that of its items
 pub frozen-span : (m : Matter) (q : Request) (next : ℕ) → first_refusal (decisions_of m) (seen_of m q) q ≡ None

@@ -1,16 +1,26 @@
 -- The label numbers that documents take carry over to the spans of their items: each begins with the number after the one before it.
-use Rattle.std.proofs.Common.{◌≡◌, ℕ, zero, suc, ◌+◌, ◌-◌, ◌<◌, ◌≤◌, Bool, true, false, cond, eqb, leb, ◌&&◌, List, [], ◌∷◌, length, Option, Some, None, refl, ap, ◌∙◌, inl, inr, arith}
+use Rattle.std.proofs.Common.{◌≡◌, ℕ, zero, suc, ◌+◌, ◌-◌, ◌^◌, ◌<◌, ◌≤◌, Bool, true, false, cond, eqb, leb, ltb, not, ◌&&◌, List, [], ◌∷◌, ◌++◌, length, Option, Some, None, refl, ap, ◌∙◌, inl, inr, arith}
 use Rattle.std.specs.List.{filter}
 use Rattle.std.specs.Prelude.{IsTrue}
-use Rattle.std.proofs.lemmas.Bool.{and_from, cases_Bool, eq-eqb, le-leb}
+use Rattle.std.proofs.lemmas.Bool.{and_parts, and_from, cases_Bool, eq-eqb, leb-true, le-leb}
+use Rattle.std.proofs.Math.Nat.{one-le-pow, pow-le-pow_right}
+use Rattle.bp_bates.specs.Prefixes.{is_good_prefix}
+use Rattle.bp_bates.specs.Spans.{largest_of}
+use Rattle.bp_core.specs.Rules.{bare_rule, bates_full_rule}
+use Rattle.bp_core.specs.declared.rules.Rule.{Rule}
+use Rattle.bp_core.specs.declared.rules.RuleKind.TheVariants as kinds
 use Rattle.bp_matter.specs.Matter.{Matter}
 use Rattle.bp_matter.specs.ValidPrefixes.{after_items}
 use Rattle.bp_matter.specs.Written.{first_number as first_written, last_number as last_written, same_span, span_of}
+use Rattle.bp_matter.specs.declared.limits.TheConstants.{MAX_PRODUCTIONS}
 use Rattle.bp_matter.specs.declared.rows.Item.{Item}
 use Rattle.bp_matter.specs.declared.rows.Request.{Request}
 use Rattle.bp_freeze.specs.Freezing.{production_of}
-use Rattle.bp_freeze.specs.Seeing.{Seen, seen_from, seen_in}
-use Rattle.bp_freeze.specs.Selecting.{all_numbers, first_number, item_of, items_from, last_number}
+use Rattle.bp_freeze.specs.Refusals.{family_rules, first_refusal, first_rule, last_taken, next_number, prefix_row, productions_full_rule, request_rules, taking_rules, unless}
+use Rattle.bp_freeze.specs.Seeing.{Decisions, Seen, seen_from, seen_in}
+use Rattle.bp_freeze.specs.Selecting.{all_numbers, first_number, item_of, items_from, last_number, selected}
+use Rattle.bp_freeze.proofs.FrozenRangeLemmas.{both-kept}
+use Rattle.bp_freeze.proofs.RuleLemmas.{good-passed}
 
 -- each document that a test takes from so many takes a number
 pub record TakeNumbers (m : Matter) (test : Seen → Bool) (n count : ℕ) : Type 0 where
@@ -82,3 +92,37 @@ pub span-same : (q : Request) (items : List Item) → IsTrue (same_span (product
 span-same q items =
     and_from (eqb (first_number items) (first_written items)) (eqb (last_number items) (last_written 0 items))
     (eq-eqb (first_number items) (first_written items) (same_first items)) (eq-eqb (last_number items) (last_written 0 items) (same_end items))
+
+-- ---- how far they go
+
+three_pass : (a b c : Bool) (x y z : Rule) → first_rule (unless a x ∷ unless b y ∷ unless c z ∷ []) ≡ None → b ≡ true
+three_pass true true c x y z e = refl
+three_pass true false c x y z e = absurd cc
+three_pass false b c x y z e = absurd cc
+
+-- the last number that is taken is one of the width
+pub last-fits : (d : Decisions) (docs : List Seen) (q : Request) → first_refusal d docs q ≡ None → last_taken d docs q ≤ largest_of q.prefix.width
+last-fits d docs q e =
+    let more = (both-kept (request_rules d q) (family_rules d docs q ++ taking_rules d docs q) e).1 in
+    let last : ℕ = last_taken d docs q in
+    let stand : ℕ = length d.productions in
+    leb-true last (largest_of q.prefix.width)
+    (three_pass (not (eqb (length (selected docs)) 0)) (leb last (largest_of q.prefix.width)) (ltb stand MAX_PRODUCTIONS)
+    (bare_rule kinds.NothingResponsive) (bates_full_rule (largest_of q.prefix.width)) (productions_full_rule (stand + 1)) (both-kept (family_rules d docs q) (taking_rules d docs q) more).1)
+
+-- a width that is taken is one of ten digits at most
+width_small : (text : List ℕ) (width : ℕ) → is_good_prefix text width ≡ true → width ≤ 10
+width_small text width good =
+    let two = and_parts _ _ good in
+    let one = and_parts (leb 4 width) (leb width 10) two.0 in
+    leb-true width 10 one.1
+
+-- so the number after it has a writing
+pub next-small : (d : Decisions) (docs : List Seen) (q : Request) → first_refusal d docs q ≡ None
+    → next_number (prefix_row d.prefixes q.prefix.text) + all_numbers (selected docs) ≤ 2 ^ 40
+next-small d docs q e =
+    let first = (both-kept (request_rules d q) (family_rules d docs q ++ taking_rules d docs q) e).0 in
+    let last : last_taken d docs q ≤ largest_of q.prefix.width = last-fits d docs q e in
+    let one : 1 ≤ 10 ^ q.prefix.width = one-le-pow q.prefix.width 10 (omega arith) in
+    let ten : 10 ^ q.prefix.width ≤ 10 ^ 10 = pow-le-pow_right {n = 10} (omega arith) (width_small q.prefix.text q.prefix.width (good-passed d q first)) in
+    omega (arith, last, one, ten)

@@ -47,11 +47,11 @@ find-passes p (row ∷ rows) x e =
 
 -- ---- rules that are not broken
 
--- where no rule is broken none of a part is
-none_of_two : (rules more : List (Option Rule)) → first_rule (rules ++ more) ≡ None → (first_rule rules ≡ None) × (first_rule more ≡ None)
-none_of_two [] more e = (refl, e)
-none_of_two (None ∷ rules) more e = none_of_two rules more e
-none_of_two (Some first ∷ rules) more e = absurd cc
+-- where no rule is broken none of either part is
+pub both-kept : (rules more : List (Option Rule)) → first_rule (rules ++ more) ≡ None → (first_rule rules ≡ None) × (first_rule more ≡ None)
+both-kept [] more e = (refl, e)
+both-kept (None ∷ rules) more e = both-kept rules more e
+both-kept (Some first ∷ rules) more e = absurd cc
 
 both_pass : (a b : Option Rule) → first_rule (a ∷ b ∷ []) ≡ None → (a ≡ None) × (b ≡ None)
 both_pass None None e = (refl, refl)
@@ -87,15 +87,15 @@ pub some-passed : (m : Matter) (q : Request) → first_refusal (decisions_of m) 
 some-passed m q e =
     let d = decisions_of m in
     let docs = seen_of m q in
-    let rest = (none_of_two (request_rules d q) (family_rules d docs q ++ taking_rules d docs q) e).1 in
-    some-taken (length (selected docs)) (last_taken d docs q) q.prefix.width (length d.productions) (sym (none_of_two (family_rules d docs q) (taking_rules d docs q) rest).1)
+    let rest = (both-kept (request_rules d q) (family_rules d docs q ++ taking_rules d docs q) e).1 in
+    some-taken (length (selected docs)) (last_taken d docs q) q.prefix.width (length d.productions) (sym (both-kept (family_rules d docs q) (taking_rules d docs q) rest).1)
 
 pub all-passed : (m : Matter) (q : Request) → first_refusal (decisions_of m) (seen_of m q) q ≡ None → Passed m q
 all-passed m q e =
     let d = decisions_of m in
     let docs = seen_of m q in
-    let first = none_of_two (request_rules d q) (family_rules d docs q ++ taking_rules d docs q) e in
-    let second = none_of_two (family_rules d docs q) (taking_rules d docs q) first.1 in
+    let first = both-kept (request_rules d q) (family_rules d docs q ++ taking_rules d docs q) e in
+    let second = both-kept (family_rules d docs q) (taking_rules d docs q) first.1 in
     let outside : Seen → Bool = λ s. reaches_outside q 1 d.parents s.parent in
     let families = both_pass (none_of kinds.SplitFamily (find outside docs)) (none_of kinds.Unsettled (find is_unsettled docs)) second.0 in
     let split : find outside docs ≡ None = not_found kinds.SplitFamily (find outside docs) families.0 in

@@ -14,7 +14,7 @@ use Rattle.bp_freeze.specs.Families.{are_parents, is_across, is_after, is_before
 use Rattle.bp_freeze.specs.Seeing.{Seen, decisions_of, parent_of, seen_from, seen_in}
 use Rattle.bp_freeze.specs.Selecting.{item_of, items_from}
 use Rattle.bp_freeze.proofs.FamilyLemmas.{many_parents, neighbours-tell, valid-parents}
-use Rattle.bp_freeze.proofs.FrozenRangeLemmas.{Passed, past-all, row-at}
+use Rattle.bp_freeze.proofs.FrozenRangeLemmas.{BreaksNone, past-all, row-at}
 
 -- ---- neighbours
 
@@ -22,6 +22,7 @@ use Rattle.bp_freeze.proofs.FrozenRangeLemmas.{Passed, past-all, row-at}
 record Begins (n parent before : ℕ) : Type 0 where
   pub is : (parent ≡ n) ⊎ (parent ≡ before)
 
+-- what the test of parents says of one
 begins : (n parent before : ℕ) → (eqb parent n || eqb parent before) ≡ true → Begins n parent before
 begins n parent before h = record {
   is = elim (or_cases (eqb parent n) (eqb parent before) h) [
@@ -30,6 +31,7 @@ begins n parent before h = record {
   ];
 }
 
+-- so does each but the first, at its place of the list
 begins_at : (n before : ℕ) (parents : List ℕ) → are_parents n before parents ≡ true → (i : ℕ) → suc i < length parents
     → Begins (n + suc i) (get_or parents (suc i) 0) (get_or parents i 0)
 begins_at n before [] h i l = absurd (omega arith)
@@ -66,11 +68,12 @@ first_own before (p ∷ parents) e h l =
 -- ---- the edges of the range
 
 -- its neighbours have the parent of no document within it
-not_across : (m : Matter) → IsValid m → (q : Request) → Passed m q → (doc : ℕ) → q.from.0 ≤ doc → doc ≤ q.to.0 → is_across q (decisions_of m).parents (parent m doc) ≡ false
+not_across : (m : Matter) → IsValid m → (q : Request) → BreaksNone m q → (doc : ℕ) → q.from.0 ≤ doc → doc ≤ q.to.0 → is_across q (decisions_of m).parents (parent m doc) ≡ false
 not_across m valid q passed doc low high =
     sym (neighbours-tell m valid q doc passed.range.from low high passed.range.to) ∙ passed.inside doc low high
 
-before_apart : (m : Matter) → IsValid m → (q : Request) → Passed m q → (doc : ℕ) → q.from.0 ≤ doc → doc ≤ q.to.0 → 1 < q.from.0 → parent m (q.from.0 - 1) ≡ parent m doc → ⊥
+-- not the one before it
+before_apart : (m : Matter) → IsValid m → (q : Request) → BreaksNone m q → (doc : ℕ) → q.from.0 ≤ doc → doc ≤ q.to.0 → 1 < q.from.0 → parent m (q.from.0 - 1) ≡ parent m doc → ⊥
 before_apart m valid q passed doc low high more same =
     let parents = (decisions_of m).parents in
     let none = (or_parts (is_before q parents (parent m doc)) (is_after q parents (parent m doc)) (not_across m valid q passed doc low high)).0 in
@@ -79,7 +82,8 @@ before_apart m valid q passed doc low high more same =
     and_from (ltb 1 q.from.0) (eqb (get_or parents (q.from.0 - 2) 0) (parent m doc)) (lt-ltb 1 q.from.0 more) (eq-eqb (get_or parents (q.from.0 - 2) 0) (parent m doc) (ap (λ k. get_or parents k 0) place ∙ same)) in
     cc
 
-after_apart : (m : Matter) → IsValid m → (q : Request) → Passed m q → (doc : ℕ) → q.from.0 ≤ doc → doc ≤ q.to.0 → q.to.0 < length m.docs → parent m (q.to.0 + 1) ≡ parent m doc → ⊥
+-- nor the one after it
+after_apart : (m : Matter) → IsValid m → (q : Request) → BreaksNone m q → (doc : ℕ) → q.from.0 ≤ doc → doc ≤ q.to.0 → q.to.0 < length m.docs → parent m (q.to.0 + 1) ≡ parent m doc → ⊥
 after_apart m valid q passed doc low high more same =
     let parents = (decisions_of m).parents in
     let many : length parents ≡ length m.docs = many_parents m in
@@ -90,7 +94,7 @@ after_apart m valid q passed doc low high more same =
     cc
 
 -- the first document of the range is the first of its family
-first_begins : (m : Matter) → IsValid m → (q : Request) → Passed m q → parent m q.from.0 ≡ q.from.0
+first_begins : (m : Matter) → IsValid m → (q : Request) → BreaksNone m q → parent m q.from.0 ≡ q.from.0
 first_begins m valid q passed =
     let r = passed.range in
     let many : length (decisions_of m).parents ≡ length m.docs = many_parents m in
@@ -133,7 +137,7 @@ due_now m q takes n due i from high taken number family state =
     ]
 
 -- behind a document that was taken
-after_taken : (m : Matter) → IsValid m → (q : Request) → Passed m q → (takes : ℕ → Bool) (n : ℕ) (i : Item) → q.from.0 ≤ n → n ≤ q.to.0 → takes (parent m n) ≡ true → i.parent.0 ≡ parent m n
+after_taken : (m : Matter) → IsValid m → (q : Request) → BreaksNone m q → (takes : ℕ → Bool) (n : ℕ) (i : Item) → q.from.0 ≤ n → n ≤ q.to.0 → takes (parent m n) ≡ true → i.parent.0 ≡ parent m n
     → IsNext m q takes (n + 1) (due_after (find_key doc_key (n + 1) m.docs) i) ⊎ IsFree m q takes (n + 1) (due_after (find_key doc_key (n + 1) m.docs) i)
 after_taken m valid q passed takes n i low high taken family =
     let r = passed.range in
@@ -169,7 +173,7 @@ after_taken m valid q passed takes n i low high taken family =
     ]
 
 -- behind one that was not
-after_left : (m : Matter) → IsValid m → (q : Request) → Passed m q → (takes : ℕ → Bool) (n due : ℕ) → q.from.0 ≤ n → takes (parent m n) ≡ false
+after_left : (m : Matter) → IsValid m → (q : Request) → BreaksNone m q → (takes : ℕ → Bool) (n due : ℕ) → q.from.0 ≤ n → takes (parent m n) ≡ false
     → IsNext m q takes n due ⊎ IsFree m q takes n due → IsFree m q takes (n + 1) due
 after_left m valid q passed takes n due low left state =
     elim state [
@@ -189,7 +193,7 @@ none_left : (m : Matter) (q : Request) (takes : ℕ → Bool) (n due : ℕ) → 
 none_left m q takes n due over state = elim state [ inl next ↦ absurd (omega (arith, next.within)) | inr free ↦ eq-eqb due 0 free.none ]
 
 -- the items of the documents from n on, where a test takes whole families
-pub whole-from : (m : Matter) → IsValid m → (q : Request) → Passed m q → (takes : ℕ → Bool) (test : Seen → Bool) → ((doc : ℕ) → test (seen_in m doc) ≡ takes (parent m doc))
+pub whole-from : (m : Matter) → IsValid m → (q : Request) → BreaksNone m q → (takes : ℕ → Bool) (test : Seen → Bool) → ((doc : ℕ) → test (seen_in m doc) ≡ takes (parent m doc))
     → (count n low due first : ℕ) → n + count ≡ q.to.0 + 1 → q.from.0 ≤ n → low ≤ n → IsNext m q takes n due ⊎ IsFree m q takes n due
     → are_whole m.docs due low (items_from first (filter test (seen_from m n count))) ≡ true
 whole-from m valid q passed takes test is zero n low due first end from le state = none_left m q takes n due (omega arith) state
@@ -209,7 +213,7 @@ whole-from m valid q passed takes test is (suc count) n low due first end from l
     ]
 
 -- those of the whole range
-pub whole-range : (m : Matter) → IsValid m → (q : Request) → Passed m q → (takes : ℕ → Bool) (test : Seen → Bool) → ((doc : ℕ) → test (seen_in m doc) ≡ takes (parent_of (decisions_of m) doc))
+pub whole-range : (m : Matter) → IsValid m → (q : Request) → BreaksNone m q → (takes : ℕ → Bool) (test : Seen → Bool) → ((doc : ℕ) → test (seen_in m doc) ≡ takes (parent_of (decisions_of m) doc))
     → (first : ℕ) → are_whole m.docs 0 1 (items_from first (filter test (seen_from m q.from.0 (q.to.0 + 1 - q.from.0)))) ≡ true
 whole-range m valid q passed takes test is first =
     whole-from m valid q passed takes test is (q.to.0 + 1 - q.from.0) q.from.0 1 0 first (omega (arith, passed.range.order)) (omega arith) passed.range.from

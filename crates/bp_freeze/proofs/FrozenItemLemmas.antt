@@ -21,7 +21,7 @@ use Rattle.bp_freeze.proofs.FrozenFamilyLemmas.{whole-range}
 use Rattle.bp_freeze.proofs.FrozenMarkLemmas.{item-fits}
 use Rattle.bp_freeze.proofs.FrozenNumberLemmas.{TakeNumbers, after-from, few-items, many-numbers, next-small, span-same}
 use Rattle.bp_freeze.proofs.FrozenOnceLemmas.{free-marked, once-more, unproduced-free}
-use Rattle.bp_freeze.proofs.FrozenRangeLemmas.{Called, Passed, all-items, all-passed, call-settled, some-passed, takes-number}
+use Rattle.bp_freeze.proofs.FrozenRangeLemmas.{Called, BreaksNone, all-items, breaks-none, call-settled, some-passed, takes-number}
 use Rattle.bp_freeze.proofs.FrozenWritingLemmas.{item-written}
 use Rattle.bp_freeze.proofs.RuleLemmas.{first-taken, last-taken, length-items}
 
@@ -38,7 +38,8 @@ record Selected (m : Matter) (doc : ℕ) : Type 0 where
 abbrev span : Request → ℕ
 span q = q.to.0 + 1 - q.from.0
 
-selected_is : (m : Matter) (q : Request) → Passed m q → (doc : ℕ) → q.from.0 ≤ doc → doc < q.from.0 + span q → is_selected (seen_of m q) (seen_in m doc) ≡ true → Selected m doc
+-- what the test that selects says of a document of the range
+selected_is : (m : Matter) (q : Request) → BreaksNone m q → (doc : ℕ) → q.from.0 ≤ doc → doc < q.from.0 + span q → is_selected (seen_of m q) (seen_in m doc) ≡ true → Selected m doc
 selected_is m q passed doc low high is =
     let r = passed.range in
     let within : doc ≤ q.to.0 = omega (arith, r.order) in
@@ -50,11 +51,13 @@ selected_is m q passed doc low high is =
       called = call-settled m doc (passed.settled doc low within) free;
     }
 
-take_numbers : (m : Matter) → IsValid m → (q : Request) → Passed m q → TakeNumbers m (is_selected (seen_of m q)) q.from.0 (span q)
+-- each of them takes a number
+take_numbers : (m : Matter) → IsValid m → (q : Request) → BreaksNone m q → TakeNumbers m (is_selected (seen_of m q)) q.from.0 (span q)
 take_numbers m valid q passed = record {
   each = λ doc low high is. let s = selected_is m q passed doc low high is in takes-number m valid doc s.from s.to;
 }
 
+-- a number that is not 0 is at least 1
 some_length : (n : ℕ) → n ≢ 0 → 1 ≤ n
 some_length zero some = absurd (some refl)
 some_length (suc n) some = omega arith
@@ -65,7 +68,7 @@ some_length (suc n) some = omega arith
 pub frozen-fit : (m : Matter) (q : Request) (next : ℕ) → IsValid m → first_refusal (decisions_of m) (seen_of m q) q ≡ None
     → IsTrue (list_all (item_fits (length m.fields) m.docs m.pages) (items_from next (selected (seen_of m q))))
 frozen-fit m q next valid passed =
-    let all = all-passed m q passed in
+    let all = breaks-none m q passed in
     all-items m (is_selected (seen_of m q)) (item_fits (length m.fields) m.docs m.pages) (next + all_numbers (selected (seen_of m q))) q.from.0 (span q) next (omega arith)
     (λ doc first low high is fit. let s = selected_is m q all doc low high is in item-fits m valid doc first s.from s.to s.called)
 
@@ -73,7 +76,7 @@ frozen-fit m q next valid passed =
 pub frozen-whole : (m : Matter) (q : Request) (next : ℕ) → IsValid m → first_refusal (decisions_of m) (seen_of m q) q ≡ None
     → IsTrue (are_whole m.docs 0 1 (items_from next (selected (seen_of m q))))
 frozen-whole m q next valid passed =
-    whole-range m valid q (all-passed m q passed) (λ parent. has_responsive (seen_of m q) parent && not (is_produced m.productions parent)) (is_selected (seen_of m q)) (λ doc. refl) next
+    whole-range m valid q (breaks-none m q passed) (λ parent. has_responsive (seen_of m q) parent && not (is_produced m.productions parent)) (is_selected (seen_of m q)) (λ doc. refl) next
 
 -- there are some
 pub frozen-some : (m : Matter) (q : Request) (next : ℕ) → first_refusal (decisions_of m) (seen_of m q) q ≡ None
@@ -86,7 +89,7 @@ frozen-some m q next passed =
 pub frozen-once : (m : Matter) (q : Request) (next : ℕ) (row : ProductionRow) → IsValid m → first_refusal (decisions_of m) (seen_of m q) q ≡ None
     → row.production.items ≡ items_from next (selected (seen_of m q)) → IsTrue (stand_once (length m.docs) (m.productions ++ row ∷ []))
 frozen-once m q next row valid passed items =
-    let all = all-passed m q passed in
+    let all = breaks-none m q passed in
     once-more m valid row (items_from next (selected (seen_of m q))) items
     (λ now e. free-marked m (is_selected (seen_of m q)) (span q) q.from.0 next now
     (λ doc low high is. let s = selected_is m q all doc low high is in unproduced-free m valid doc now s.from s.to e s.free))
@@ -97,7 +100,7 @@ frozen-once m q next row valid passed items =
 pub frozen-written : (m : Matter) (q : Request) (next : ℕ) → IsValid m → first_refusal (decisions_of m) (seen_of m q) q ≡ None
     → next + all_numbers (selected (seen_of m q)) ≤ 2 ^ 64 → IsTrue (are_few item_written (items_from next (selected (seen_of m q))))
 frozen-written m q next valid passed numbers =
-    let all = all-passed m q passed in
+    let all = breaks-none m q passed in
     let r = all.range in
     let items : List Item = items_from next (selected (seen_of m q)) in
     let docs : length m.docs ≤ MAX_DOCUMENTS = leb-true (length m.docs) MAX_DOCUMENTS valid.docs.few in
@@ -122,15 +125,17 @@ frozen-span m q next passed =
 
 -- ---- their numbers
 
+-- they begin with that number
 pub frozen-first : (m : Matter) (q : Request) (next : ℕ) → first_refusal (decisions_of m) (seen_of m q) q ≡ None
     → first_number (items_from next (selected (seen_of m q))) ≡ next
 frozen-first m q next passed =
     sym (first-taken next (selected (seen_of m q)) (some-passed m q passed))
 
+-- and end with the last of as many as they take
 pub frozen-last : (m : Matter) (q : Request) (next : ℕ) → IsValid m → first_refusal (decisions_of m) (seen_of m q) q ≡ None
     → last_number (items_from next (selected (seen_of m q))) + 1 ≡ next + all_numbers (selected (seen_of m q))
 frozen-last m q next valid passed =
-    let all = all-passed m q passed in
+    let all = breaks-none m q passed in
     let docs : List Seen = selected (seen_of m q) in
     let many : length docs ≤ all_numbers docs = many-numbers m (is_selected (seen_of m q)) (span q) q.from.0 (take_numbers m valid q all) in
     let some : 1 ≤ length docs = some_length (length docs) (some-passed m q passed) in
@@ -141,4 +146,4 @@ frozen-last m q next valid passed =
 pub frozen-after : (m : Matter) (q : Request) (next : ℕ) → IsValid m → first_refusal (decisions_of m) (seen_of m q) q ≡ None
     → after_items next (items_from next (selected (seen_of m q))) ≡ Some (next + all_numbers (selected (seen_of m q)))
 frozen-after m q next valid passed =
-    after-from m (is_selected (seen_of m q)) (span q) q.from.0 next (take_numbers m valid q (all-passed m q passed))
+    after-from m (is_selected (seen_of m q)) (span q) q.from.0 next (take_numbers m valid q (breaks-none m q passed))

@@ -66,6 +66,7 @@ marks-pass doc_of row_of doc of_all p (x ∷ rows) each all =
       | inr there ↦ rw there (marks-pass doc_of row_of doc of_all p rows each parts.1)
     ]
 
+-- a test that nothing passes leaves no rows
 none_pass : {R : Type 0} (rows : List R) → list_all (λ (r : R). false) rows ≡ true → rows ≡ []
 none_pass [] all = refl
 none_pass (r ∷ rows) all = absurd cc
@@ -101,6 +102,7 @@ no-boxes m valid doc fails =
     marks-none (λ (box : DocBox). box.doc.0) (λ (box : DocBox). box.row) doc (λ (box : DocBox). may_hold (find_key call_key box.doc.0 m.calls)) m.boxes
     (λ box same passes. (let here : may_hold (find_key call_key doc m.calls) ≡ true = subst (λ k. may_hold (find_key call_key k m.calls) ≡ true) same passes in cc)) valid.review.boxes_held
 
+-- the same of held fields
 pub no-held : (m : Matter) → IsValid m → (doc : ℕ) → may_hold (find_key call_key doc m.calls) ≡ false → map (λ (row : DocHeld). row.row) (held_on doc m.held) ≡ []
 no-held m valid doc fails =
     marks-none (λ (row : DocHeld). row.doc.0) (λ (row : DocHeld). row.row) doc (λ (row : DocHeld). may_hold (find_key call_key row.doc.0 m.calls)) m.held
@@ -122,6 +124,7 @@ allowed row editor boxes held false confirmer none needs =
           ]
     ]
 
+-- so has a document whose call is confirmed
 confirmed_has : (staff : List StaffRow) (boxes : List DocBox) (held : List DocHeld) (entries : List DocEntry) (row : CallRow) (state : State)
     → state_holds staff boxes held entries row state ≡ true → is_confirmed state ≡ true
     → needs_entry row.treatment (boxes_on row.doc.0 boxes) (held_on row.doc.0 held) ≡ true → is_entered row.doc.0 entries ≡ true
@@ -131,10 +134,12 @@ confirmed_has staff boxes held entries row (Confirmed editor confirmer) holds pa
     let parts = and_parts _ (is_none (confirm_rule row editor.0 (boxes_on row.doc.0 boxes) (held_on row.doc.0 held) (is_entered row.doc.0 entries) confirmer.0)) holds in
     allowed row editor.0 (boxes_on row.doc.0 boxes) (held_on row.doc.0 held) (is_entered row.doc.0 entries) confirmer.0 parts.1 needs
 
+-- an entry is there where its row is
 no_entry : (o : Option DocEntry) → is_none (of_row (λ (row : DocEntry). row.entry) o) ≡ is_none o
 no_entry None = refl
 no_entry (Some row) = refl
 
+-- an entry that is there fits
 entry_found : (m : Matter) (doc : ℕ) (o : Option DocEntry) → list_all (doc_entry_fits (length m.docs)) m.entries ≡ true → find_key entry_key doc m.entries ≡ o → optional_fits (of_row (λ (row : DocEntry). row.entry) o) ≡ true
 entry_found m doc None all found = refl
 entry_found m doc (Some row) all found =
@@ -149,18 +154,22 @@ produced_whole Produce h = (refl, refl)
 produced_whole Redact h = absurd cc
 produced_whole (Withhold basis) h = absurd cc
 
+-- without boxes and held fields it has no marks
 no_marks : (i : Item) → i.boxes ≡ [] → i.held ≡ [] → has_marks i ≡ false
 no_marks i boxes held =
     or_from (not (eqb (length i.boxes) 0)) (not (eqb (length i.held) 0)) (ap (λ (l : List BoxRow). not (eqb (length l) 0)) boxes) (ap (λ (l : List HeldRow). not (eqb (length l) 0)) held)
 
+-- marks only where it is Redact
 marks_or : (redact marks : Bool) → (redact ≡ false → marks ≡ false) → (redact || not marks) ≡ true
 marks_or true marks none = refl
 marks_or false marks none = not_from_false marks (none refl)
 
+-- an entry where it is listed
 logged_or : (logged missing : Bool) → (logged ≡ true → missing ≡ false) → (not logged || not missing) ≡ true
 logged_or true missing has = not_from_false missing (has refl)
 logged_or false missing has = refl
 
+-- what the marks, the listing and the entry of an item have to be
 pub texts-fit : (i : Item) → (is_redact i.treatment ≡ false → (i.boxes ≡ []) × (i.held ≡ [])) → (is_logged i ≡ true → is_none i.entry ≡ false) → optional_fits i.entry ≡ true → item_texts_fit i ≡ true
 texts-fit i bare has fits =
     and_from _ (optional_fits i.entry)
@@ -177,6 +186,7 @@ pub record CallHolds (m : Matter) (doc : ℕ) (row : CallRow) : Type 0 where
   pub designated : is_designation row.designation ≡ true
   pub holds : state_holds m.staff m.boxes m.held m.entries row row.state ≡ true
 
+-- a call that is found is one of a valid matter
 pub call-holds : (m : Matter) → IsValid m → (doc : ℕ) (row : CallRow) → find_key call_key doc m.calls ≡ Some row → CallHolds m doc row
 call-holds m valid doc row found =
     let at : CallRow → Bool = λ (r : CallRow). eqb (call_key r) doc in
@@ -240,6 +250,7 @@ listed_has m valid doc next c listed =
 as_many : (next n due : ℕ) → 1 ≤ n → n ≡ due → eqb (next + n - 1 + 1) (next + due) ≡ true
 as_many next n due some e = eq-eqb (next + n - 1 + 1) (next + due) (omega arith)
 
+-- it has the parent and the pages of its document
 item_placed : (m : Matter) → IsValid m → (doc next : ℕ) → 1 ≤ doc → doc ≤ length m.docs
     → is_item_of (find_key doc_key doc m.docs) (item_of next (seen_in m doc)) ≡ true
 item_placed m valid doc next from to =

@@ -26,6 +26,7 @@ use Rattle.bp_freeze.proofs.RuleLemmas.{good-passed}
 pub record TakeNumbers (m : Matter) (test : Seen → Bool) (n count : ℕ) : Type 0 where
   pub each : (doc : ℕ) → n ≤ doc → doc < n + count → test (seen_in m doc) ≡ true → 1 ≤ (seen_in m doc).numbers
 
+-- so does each after the first
 take_later : (m : Matter) (test : Seen → Bool) (n count : ℕ) → TakeNumbers m test n (suc count) → TakeNumbers m test (n + 1) count
 take_later m test n count takes = record { each = λ doc low high passes. takes.each doc (omega arith) (omega arith) passes }
 
@@ -37,6 +38,7 @@ one_after next numbers item items first last some =
     let behind : item.span.last + 1 ≡ next + numbers = omega arith in
     ap (λ (b : Bool). cond b (after_items (item.span.last + 1) items) None) follows ∙ ap (λ k. after_items k items) behind
 
+-- the number after the items is reached from the first on
 pub after-from : (m : Matter) (test : Seen → Bool) (count n next : ℕ) → TakeNumbers m test n count
     → after_items next (items_from next (filter test (seen_from m n count))) ≡ Some (next + all_numbers (filter test (seen_from m n count)))
 after-from m test zero n next takes = let same : next ≡ next + 0 = omega arith in ap (λ k. Some k) same
@@ -75,14 +77,17 @@ few-items m test (suc count) n next =
 
 -- ---- the span of a production
 
+-- the first number of a production is that which is written
 same_first : (items : List Item) → first_number items ≡ first_written items
 same_first [] = refl
 same_first (i ∷ items) = refl
 
+-- the last one of some items, whatever stood before them
 same_last : (last : ℕ) (i : Item) (items : List Item) → last_number (i ∷ items) ≡ last_written last (i ∷ items)
 same_last last i [] = refl
 same_last last i (next ∷ items) = same_last i.span.last next items
 
+-- the last one of a production
 same_end : (items : List Item) → last_number items ≡ last_written 0 items
 same_end [] = refl
 same_end (i ∷ items) = same_last 0 i items
@@ -95,6 +100,7 @@ span-same q items =
 
 -- ---- how far they go
 
+-- where none of three rules is broken the second test holds
 three_pass : (a b c : Bool) (x y z : Rule) → first_rule (unless a x ∷ unless b y ∷ unless c z ∷ []) ≡ None → b ≡ true
 three_pass true true c x y z e = refl
 three_pass true false c x y z e = absurd cc

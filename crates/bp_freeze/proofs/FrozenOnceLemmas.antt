@@ -28,6 +28,7 @@ mark_other zero (suc n) (x ∷ marks) other = refl
 mark_other (suc k) zero (x ∷ marks) other = refl
 mark_other (suc k) (suc n) (x ∷ marks) other = mark_other k n marks (λ e. other (ap (λ i. suc i) e))
 
+-- at first none is marked
 blank_none : (n k : ℕ) → is_marked k (blank n) ≡ false
 blank_none zero zero = refl
 blank_none zero (suc k) = refl
@@ -42,6 +43,7 @@ is_of doc i = eqb i.doc.0 doc
 abbrev has_doc : ℕ → ProductionRow → Bool
 has_doc doc row = list_any (is_of doc) row.production.items
 
+-- where a mark stood twice no marks come after
 unmarked_items : (items : List Item) → marked_on None items ≡ None
 unmarked_items [] = refl
 unmarked_items (i ∷ items) = refl
@@ -74,10 +76,12 @@ record After (o : Option (List Bool)) : Type 0 where
   pub marks : List Bool
   pub is : o ≡ Some marks
 
+-- where marks are there in the end they were there before
 some_after : (o : Option (List Bool)) (rows : List ProductionRow) (now : List Bool) → all_marked_on o rows ≡ Some now → After o
 some_after None rows now e = absurd (let stuck : None ≡ Some now = sym (marked_none rows) ∙ e in cc)
 some_after (Some marks) rows now e = record { marks = marks; is = refl }
 
+-- the same of the items of all productions
 mark_of_all : (doc : ℕ) (rows : List ProductionRow) (marks now : List Bool) → all_marked_on (Some marks) rows ≡ Some now → is_marked doc now ≡ true
     → (is_marked doc marks ≡ true) ⊎ (list_any (has_doc doc) rows ≡ true)
 mark_of_all doc [] marks now e h =
@@ -174,10 +178,12 @@ marked_more : (o : Option (List Bool)) (rows : List ProductionRow) (row : Produc
 marked_more o [] row = refl
 marked_more o (r ∷ rows) row = marked_more (marked_on o r.production.items) rows row
 
+-- the marks of productions whose documents stand once
 marks_there : (o : Option (List Bool)) → not (is_none o) ≡ true → After o
 marks_there None h = absurd cc
 marks_there (Some marks) h = record { marks = marks; is = refl }
 
+-- so one production more is as good, where its documents are not marked
 pub once-more : (m : Matter) → IsValid m → (row : ProductionRow) (items : List Item) → row.production.items ≡ items
     → ((now : List Bool) → all_marked_on (Some (blank (length m.docs))) m.productions ≡ Some now → is_none (marked_on (Some now) items) ≡ false)
     → stand_once (length m.docs) (m.productions ++ row ∷ []) ≡ true

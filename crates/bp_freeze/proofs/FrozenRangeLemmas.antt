@@ -27,7 +27,7 @@ use Rattle.bp_freeze.proofs.RuleLemmas.{InRange, in-range, range-passed, some-ta
 
 -- ---- rows that are found
 
--- what is found passes any test of all rows, and its own
+-- what is found passes any test of all rows
 pub find-all : {T : Type 0} (p q : T → Bool) (rows : List T) (x : T) → find p rows ≡ Some x → list_all q rows ≡ true → q x ≡ true
 find-all p q [] x e all = absurd cc
 find-all p q (row ∷ rows) x e all =
@@ -37,6 +37,7 @@ find-all p q (row ∷ rows) x e all =
       | inr there ↦ find-all p q rows x (rw there at e) parts.1
     ]
 
+-- and its own
 pub find-passes : {T : Type 0} (p : T → Bool) (rows : List T) (x : T) → find p rows ≡ Some x → p x ≡ true
 find-passes p [] x e = absurd cc
 find-passes p (row ∷ rows) x e =
@@ -53,11 +54,13 @@ both-kept [] more e = (refl, e)
 both-kept (None ∷ rules) more e = both-kept rules more e
 both-kept (Some first ∷ rules) more e = absurd cc
 
+-- neither of two
 both_pass : (a b : Option Rule) → first_rule (a ∷ b ∷ []) ≡ None → (a ≡ None) × (b ≡ None)
 both_pass None None e = (refl, refl)
 both_pass None (Some rule) e = absurd cc
 both_pass (Some rule) b e = absurd cc
 
+-- a rule that names what is found is not broken where nothing is
 not_found : (kind : RuleKind) (o : Option Seen) → none_of kind o ≡ None → o ≡ None
 not_found kind None e = refl
 not_found kind (Some s) e = absurd cc
@@ -77,12 +80,13 @@ none_within m test n (suc count) e doc low high =
     ]
 
 -- what holds of the documents of a range where no rule is broken
-pub record Passed (m : Matter) (q : Request) : Type 0 where
+pub record BreaksNone (m : Matter) (q : Request) : Type 0 where
   pub range : InRange q (length m.docs)
   pub inside : (doc : ℕ) → q.from.0 ≤ doc → doc ≤ q.to.0 → reaches_outside q 1 (decisions_of m).parents (parent_of (decisions_of m) doc) ≡ false
   pub settled : (doc : ℕ) → q.from.0 ≤ doc → doc ≤ q.to.0 → is_unsettled (seen_in m doc) ≡ false
   pub some : length (selected (seen_of m q)) ≢ 0
 
+-- some document is selected
 pub some-passed : (m : Matter) (q : Request) → first_refusal (decisions_of m) (seen_of m q) q ≡ None → length (selected (seen_of m q)) ≢ 0
 some-passed m q e =
     let d = decisions_of m in
@@ -90,8 +94,9 @@ some-passed m q e =
     let rest = (both-kept (request_rules d q) (family_rules d docs q ++ taking_rules d docs q) e).1 in
     some-taken (length (selected docs)) (last_taken d docs q) q.prefix.width (length d.productions) (sym (both-kept (family_rules d docs q) (taking_rules d docs q) rest).1)
 
-pub all-passed : (m : Matter) (q : Request) → first_refusal (decisions_of m) (seen_of m q) q ≡ None → Passed m q
-all-passed m q e =
+-- so it is where the first rule is none
+pub breaks-none : (m : Matter) (q : Request) → first_refusal (decisions_of m) (seen_of m q) q ≡ None → BreaksNone m q
+breaks-none m q e =
     let d = decisions_of m in
     let docs = seen_of m q in
     let first = both-kept (request_rules d q) (family_rules d docs q ++ taking_rules d docs q) e in
@@ -127,6 +132,7 @@ record Placed (docs : List DocRow) (doc place : ℕ) : Type 0 where
   pub parent : get_or (map (λ (r : DocRow). r.parent.0) docs) place 0 ≡ row.parent.0
   pub pages : get_or (map (λ (r : DocRow). r.pages) docs) place 0 ≡ row.pages
 
+-- numbered rows have one for each number
 placed : (n doc place : ℕ) (docs : List DocRow) → is_numbered doc_key n docs ≡ true → doc ≡ n + place → place < length docs → Placed docs doc place
 placed n doc place [] numbered e l = absurd (omega arith)
 placed n doc zero (row ∷ docs) numbered e l =
@@ -139,6 +145,7 @@ placed n doc (suc place) (row ∷ docs) numbered e l =
     let rest = placed (n + 1) doc place docs parts.1 (omega arith) (omega arith) in
     record { row = rest.row; found = rw (ne_eqb row.doc.0 doc (λ same. omega arith)) rest.found; number = rest.number; parent = rest.parent; pages = rest.pages }
 
+-- so have the documents of a valid matter
 pub row-at : (docs : List DocRow) (doc : ℕ) → is_numbered doc_key 1 docs ≡ true → 1 ≤ doc → doc ≤ length docs → RowAt docs doc
 row-at docs doc numbered from to =
     let it = placed 1 doc (doc - 1) docs numbered (omega arith) (omega arith) in
@@ -160,6 +167,7 @@ some_due treatment pages some =
       | inr shown ↦ rw shown some
     ]
 
+-- a document has a page
 has_page : (fields batches : ℕ) (row : DocRow) → doc_fits fields batches row ≡ true → 1 ≤ row.pages
 has_page fields batches row fits =
     let four = and_parts _ _ fits in
@@ -168,6 +176,7 @@ has_page fields batches row fits =
     let one = and_parts (leb 1 row.pages) _ two.0 in
     leb-true 1 row.pages one.0
 
+-- so each document of a valid matter takes a number
 pub takes-number : (m : Matter) → IsValid m → (doc : ℕ) → 1 ≤ doc → doc ≤ length m.docs → 1 ≤ numbers_of m doc
 takes-number m valid doc from to =
     let at = row-at m.docs doc valid.docs.numbered from to in
@@ -188,15 +197,18 @@ record Settled (o : Option CallRow) : Type 0 where
   pub is : o ≡ Some row
   pub settled : (is_produce row.treatment || is_confirmed row.state) ≡ true
 
+-- a settled document has a call
 settled_call : (o : Option CallRow) → is_settled o ≡ true → Settled o
 settled_call None h = absurd cc
 settled_call (Some row) h = record { row = row; is = refl; settled = h }
 
+-- a document that is not unsettled, and whose family is not produced, is settled
 settled_since : (produced settled : Bool) → (not produced && not settled) ≡ false → not produced ≡ true → settled ≡ true
 settled_since produced true h free = refl
 settled_since true false h free = absurd cc
 settled_since false false h free = absurd cc
 
+-- so its call is there
 pub call-settled : (m : Matter) (doc : ℕ) → is_unsettled (seen_in m doc) ≡ false → not (seen_in m doc).produced ≡ true → Called m.calls doc
 call-settled m doc h free =
     let o : Option CallRow = find_key call_key doc m.calls in

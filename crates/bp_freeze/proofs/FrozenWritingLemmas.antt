@@ -46,6 +46,7 @@ rows_written : {R : Type 0} (number : R → ℕ) (most : ℕ) (is_written : R �
 rows_written number most is_written rows small up all written =
     and_from (list_all is_written rows) (is_word (length rows)) written (lt-ltb (length rows) (2 ^ 32) (omega (arith, few_rows number 0 most rows up all (omega arith))))
 
+-- the boxes of a document
 boxes_written : (m : Matter) → IsValid m → (doc : ℕ) → are_few box_row_written (map (λ (box : DocBox). box.row) (boxes_on doc m.boxes)) ≡ true
 boxes_written m valid doc =
     let of : DocBox → ℕ = λ (box : DocBox). box.doc.0 in
@@ -57,6 +58,7 @@ boxes_written m valid doc =
     (marks-pass of row doc (doc_box_fits m.pages) (λ (box : BoxRow). leb box.num MAX_BOX) m.boxes at_most valid.boxes.fit)
     (marks-pass of row doc box_written box_row_written m.boxes (λ box same written. (and_parts (is_word box.doc.0) (box_row_written box.row) written).1) valid.boxes.written)
 
+-- its held fields
 fields_written : (m : Matter) → IsValid m → (doc : ℕ) → are_few held_row_written (map (λ (row : DocHeld). row.row) (held_on doc m.held)) ≡ true
 fields_written m valid doc =
     let of : DocHeld → ℕ = λ (row : DocHeld). row.doc.0 in
@@ -71,6 +73,7 @@ fields_written m valid doc =
 
 -- ---- the other parts of an item
 
+-- its log entry
 entry_there : (entries : List DocEntry) (doc : ℕ) (o : Option DocEntry) → list_all entry_written entries ≡ true → find_key entry_key doc entries ≡ o
     → if_there entry_fields_written (of_row (λ (row : DocEntry). row.entry) o) ≡ true
 entry_there entries doc None all found = refl
@@ -82,6 +85,7 @@ record CallWritten (row : CallRow) : Type 0 where
   pub treatment : treatment_written row.treatment ≡ true
   pub designation : is_short row.designation ≡ true
 
+-- a call that is found has a writing
 call_there : (m : Matter) → IsValid m → (doc : ℕ) (row : CallRow) → find_key call_key doc m.calls ≡ Some row → CallWritten row
 call_there m valid doc row found =
     let written = find-all (λ (r : CallRow). eqb (call_key r) doc) call_written m.calls row found valid.calls.written in
@@ -95,6 +99,7 @@ record NumberWritten (m : Matter) (doc : ℕ) : Type 0 where
   pub number : is_word doc ≡ true
   pub parent : is_word (parent_of (decisions_of m) doc) ≡ true
 
+-- so have the number and the parent of a document
 number_there : (m : Matter) → IsValid m → (doc : ℕ) → 1 ≤ doc → doc ≤ length m.docs → NumberWritten m doc
 number_there m valid doc from to =
     let at = row-at m.docs doc valid.docs.numbered from to in

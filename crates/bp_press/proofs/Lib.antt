@@ -1,12 +1,18 @@
+pub mod CharacterLemmas
 pub mod ContentLemmas
 mod Examples
 pub mod GrowLemmas
 pub mod ItemLemmas
+pub mod KeptItemLemmas
 pub mod KeptPageLemmas
+pub mod LoadLemmas
+pub mod LoadRowLemmas
 pub mod NameLemmas
 pub mod PageLemmas
+pub mod PlacedLemmas
 pub mod ReadLemmas
 pub mod SameLemmas
+pub mod SpanLemmas
 mod TwelveExamples
 pub mod VolumeLemmas
 pub mod WritingLemmas

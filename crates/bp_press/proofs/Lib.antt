@@ -1,6 +1,9 @@
 pub mod CharacterLemmas
 pub mod ContentLemmas
+pub mod DataLemmas
 mod Examples
+pub mod FamilyLemmas
+pub mod GatherLemmas
 pub mod GrowLemmas
 pub mod ItemLemmas
 pub mod KeptItemLemmas
@@ -10,6 +13,7 @@ pub mod LoadRowLemmas
 pub mod NameLemmas
 pub mod PageLemmas
 pub mod PlacedLemmas
+pub mod PressedLemmas
 pub mod ReadLemmas
 pub mod SameLemmas
 pub mod SpanLemmas

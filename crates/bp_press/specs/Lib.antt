@@ -2,7 +2,9 @@ pub mod Contents
 pub mod Files
 pub mod LoadFiles
 pub mod Manifest
+pub mod Needs
 pub mod Paths
+pub mod Pressed
 pub mod Pressing
 pub mod ReadBack
 pub mod Volume

@@ -8,13 +8,18 @@
 
 mod adding;
 mod contents;
+mod data_files;
+mod families;
 mod items;
 mod laws;
+mod load_files;
 mod load_rows;
 mod manifest;
 mod names;
 mod pages;
 pub mod paths;
+mod pressing;
 mod volumes;
 
 pub use laws::{images_are_read, same_product, same_volume, volume_stays};
+pub use pressing::{PressRefusal, Pressed, press};

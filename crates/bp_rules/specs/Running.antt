@@ -7,7 +7,6 @@ use Rattle.bp_keep.specs.Keeper.{KeeperView}
 use Rattle.bp_matter.specs.Matter.{Matter, Shown}
 use Rattle.bp_matter.specs.Valid.{IsValid}
 use Rattle.bp_matter.specs.declared.calls.Reply.{Reply}
-use Rattle.bp_rules.specs.Deciding.{is_review}
 use Rattle.bp_rules.specs.Loading.{LoadsTables}
 use Rattle.bp_rules.specs.Stepping.{Stepped, step_of}
 use Rattle.bp_rules.specs.Steps.{Keeps}
@@ -24,10 +23,6 @@ left_by m (Err rule) = m
 abbrev pub run_of : Matter → List Asked → Matter
 run_of m [] = m
 run_of m (asked ∷ more) = run_of (left_by m (step_of m asked.key asked.call)) more
-
--- what is asked is a call of review
-abbrev pub asks_review : Asked → Bool
-asks_review asked = is_review asked.call
 
 -- a run goes on past a broken rule
 abbrev pub goes_on : Result Reply StepRefusal → Result (Unit {0}) StepRefusal

@@ -15,6 +15,7 @@ mod confirming;
 mod copies;
 mod deciding;
 mod entering;
+mod freezing;
 mod holding;
 mod import_rows;
 mod importing;

@@ -1,6 +1,5 @@
 // A review of one document of one page, over a keeper in memory, with ample memory.
 ghost use Rattle.std.specs.Prelude.{◌≡◌, IfOk, IsTrue};
-ghost use Rattle.bp_rules.specs.Deciding.{is_review};
 
 use crate::{Asked, StepRefusal, load_tables, step, step_all};
 use bp_core::{
@@ -141,7 +140,6 @@ fn put_entry(
 }
 
 fn entry(alloc: Global) -> Result<Call, OutOfMemory>
-    ensures { IfOk result (λ call. IsTrue (is_review call)) }
 {
     Ok(Call::PutEntry {
         doc: DOCUMENT,

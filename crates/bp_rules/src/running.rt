@@ -1,7 +1,6 @@
 // Calls in turn.
-ghost use Rattle.std.specs.Prelude.{◌≡◌, [], ◌∷◌, IsTrue};
-ghost use Rattle.std.specs.List.{list_all};
-ghost use Rattle.bp_rules.specs.Running.{RunLoads, Runs, asks_review, goes_on};
+ghost use Rattle.std.specs.Prelude.{◌≡◌, [], ◌∷◌};
+ghost use Rattle.bp_rules.specs.Running.{RunLoads, Runs, goes_on};
 
 use crate::stepping::{StepRefusal, step};
 use bp_keep::Keeper;
@@ -23,7 +22,6 @@ pub fn step_all<K: Keeper>(
     keeper: &mut K,
     calls: &[Asked],
 ) -> Result<(), StepRefusal>
-    requires { IsTrue (list_all asks_review calls.now) }
     ensures { Runs tables.old.matter calls.now (K.shows keeper.old) result tables.new.matter
         (K.shows keeper.new) }
 {
@@ -43,7 +41,6 @@ fn make_call<K: Keeper>(
     keeper: &mut K,
     asked: &Asked,
 ) -> Result<(), StepRefusal>
-    requires { IsTrue (asks_review asked.now) }
     ensures { Runs tables.old.matter (asked.now ∷ []) (K.shows keeper.old) result
         tables.new.matter (K.shows keeper.new) }
 {

@@ -1,6 +1,5 @@
 // Steps: decided, kept and made.
-ghost use Rattle.std.specs.Prelude.{◌≡◌, IsTrue};
-ghost use Rattle.bp_rules.specs.Deciding.{is_review};
+ghost use Rattle.std.specs.Prelude.{◌≡◌};
 ghost use Rattle.bp_rules.specs.Changes.{CanBeMade};
 ghost use Rattle.bp_rules.specs.Steps.{Makes, StepsCall, StepsImport};
 
@@ -65,7 +64,6 @@ pub fn step_import<K: Keeper>(
 /// Makes a call with this key: the tables and the kept rows are those after it. Room is made before
 /// the rows are committed, so after the commit nothing can fail; where there are no puts nothing is
 /// committed. A refusal leaves tables and rows.
-// Freeze and GetProduction come later, and then nothing is asked of the caller.
 pub fn step<K: Keeper>(
     alloc: Global,
     tables: &mut Tables,
@@ -73,7 +71,6 @@ pub fn step<K: Keeper>(
     key: &[u8; 32],
     call: &Call,
 ) -> Result<Reply, StepRefusal>
-    requires { IsTrue (is_review call.now) }
     ensures { StepsCall tables.old.matter key.now call.now (K.shows keeper.old) result
         tables.new.matter (K.shows keeper.new) }
 {

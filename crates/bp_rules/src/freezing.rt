@@ -1,12 +1,8 @@
 // The calls about productions: a request to freeze one, and the question for one that is kept.
 ghost use Rattle.std.specs.Prelude.{◌≡◌, ◌+◌, ◌<◌, ◌^◌, IfOk, IsTrue, None, Ok, length};
-ghost use Rattle.bp_matter.specs.Matter.{Matter};
-ghost use Rattle.bp_matter.specs.Valid.{IsValid};
 ghost use Rattle.bp_matter.specs.Written.{prefix_written, production_written};
-ghost use Rattle.bp_matter.specs.declared.rows.Production.{Production};
-ghost use Rattle.bp_matter.specs.declared.rows.Request.{Request};
 ghost use Rattle.bp_freeze.specs.Freezing.{freeze_of, kept_production};
-ghost use Rattle.bp_freeze.specs.Keeping.{frozen_matter, prefix_after, prefix_number, production_after, with_production};
+ghost use Rattle.bp_freeze.specs.Keeping.{prefix_after, prefix_number, production_after, with_production};
 ghost use Rattle.bp_freeze.specs.Refusals.{prefix_row};
 ghost use Rattle.bp_rules.specs.Changes.{CanBeMade};
 ghost use Rattle.bp_rules.specs.Deciding.{Decides};
@@ -18,7 +14,7 @@ use crate::copies::copy_text;
 use crate::deciding::{Decided, told};
 use bp_bates::Prefix;
 use bp_core::{OutOfMemory, Refusal, Rule, RuleKind, Text};
-use bp_freeze::freeze;
+use bp_freeze::{freeze, frozen_is_valid};
 use bp_matter::laws::order_law;
 use bp_matter::{PrefixRow, Production, ProductionRow, Reply, Request, Tables};
 use std::alloc::Global;
@@ -148,9 +144,3 @@ fn production_after(tables: &Tables, production: Production) -> ProductionRow
         production,
     }
 }
-
-// The matter that a freeze leaves is valid.
-fn frozen_is_valid()
-    ensures { (m : Matter) (q : Request) (f : Production) → IsValid m → freeze_of m q ≡ Ok f
-        → IsValid (frozen_matter f m) }
-{}

@@ -1,4 +1,0 @@
-use Rattle.bp_rules.proofs.freezing.frozen_is_valid.Goals as goal
-
-pub returns : goal.returns
-returns c = ?

@@ -135,6 +135,15 @@ edit-keeps m (Staff row) = keeps-others m (with_staff row m) refl refl refl refl
 edit-keeps m (Produced prefix row) = keeps-behind m (with_produced prefix row m) (row ∷ []) refl refl refl refl refl
 edit-keeps m (Review call mark) = keeps-others m (after m (Review call mark)) refl refl refl refl refl
 
+-- of a matter that is still the same, or has this change
+pub keeps-same : (m n : Matter) → n ≡ m → StepKeeps m n
+keeps-same m n same = subst (λ (x : Matter). StepKeeps m x) (sym same) (keeps-itself m)
+
+pub keeps-changed : (m n o : Matter) (edit : Edit) → n ≡ m → o ≡ after n edit → StepKeeps m o
+keeps-changed m n o edit same changed =
+    let made : o ≡ after m edit = changed ∙ ap (λ (x : Matter). after x edit) same in
+    subst (λ (x : Matter). StepKeeps m x) (sym made) (edit-keeps m edit)
+
 -- ---- calls
 
 -- a step keeps so, where it breaks no rule

@@ -10,4 +10,4 @@ returns g c =
     let before = g.K.Keeper.shows c.args.keeper.now in
     let after = g.K.Keeper.shows c.step.new.keeper in
     subst (λ (r : Result (Unit {0}) StepRefusal). Runs c.args.tables.now.matter (c.args.asked.now ∷ []) before r c.step.new.tables.matter after) (sym c.go_on.ensures)
-    (one-runs c.args.tables.now.matter c.args.asked.now before c.step.result c.step.new.tables.matter after c.step.ensures)
+    (one-runs c.args.tables.now.matter c.args.asked.now before c.step.result c.step.new.tables.matter after c.step.ensures.made)

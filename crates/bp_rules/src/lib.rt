@@ -41,5 +41,5 @@ pub use deciding::{Decided, decide};
 pub use importing::{Imported, decide_import};
 pub use loading::{LoadRefusal, load_tables};
 pub use roles::may;
-pub use running::{Asked, run_law, step_all};
+pub use running::{Answer, Asked, run_law, step_all};
 pub use stepping::{Counted, StepRefusal, step, step_import};

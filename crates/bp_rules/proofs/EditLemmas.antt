@@ -21,7 +21,7 @@ use Rattle.bp_rules.specs.Written.{EditWritten, call_edit_written, mark_edit_wri
 use Rattle.bp_rules.specs.declared.changes.CallEdit.{CallEdit}
 use Rattle.bp_rules.specs.declared.changes.CallEdit.TheVariants as call_edits
 use Rattle.bp_rules.specs.declared.changes.Edit.{Edit}
-use Rattle.bp_rules.specs.declared.changes.Edit.TheVariants.{Import, Nothing, Review, Staff}
+use Rattle.bp_rules.specs.declared.changes.Edit.TheVariants.{Import, Nothing, Produced, Review, Staff}
 use Rattle.bp_rules.specs.declared.changes.MarkEdit.{MarkEdit}
 use Rattle.bp_rules.specs.declared.changes.MarkEdit.TheVariants as mark_edits
 use Rattle.bp_rules.proofs.PutLemmas.{Weaves, grow, keep, nothing, still, weaves-put}
@@ -86,7 +86,7 @@ staff-made m row order v =
 -- ---- writings
 
 -- what all rows pass passes a row that was put
-put-member : {T : Type 0} (key : T → ℕ) (p : T → Bool) (row : T) (rows : List T) → list_all p (put key row rows) ≡ true → p row ≡ true
+pub put-member : {T : Type 0} (key : T → ℕ) (p : T → Bool) (row : T) (rows : List T) → list_all p (put key row rows) ≡ true → p row ≡ true
 put-member key p row [] all = (and_parts (p row) true all).0
 put-member key p row (x ∷ rows) all =
     elim (cases_Bool (ltb (key row) (key x))) [
@@ -118,6 +118,7 @@ pub nothing-changed : (m : Matter) (edit : Edit) → length (puts_of edit) ≡ 0
 nothing-changed m Nothing none = refl
 nothing-changed m (Import rows) none = absurd (omega (arith, none, length-map (rows_kept rows) put_of, kept-count rows))
 nothing-changed m (Staff row) none = absurd (omega (arith, none))
+nothing-changed m (Produced prefix row) none = absurd (omega (arith, none))
 nothing-changed m (Review (call_edits.Put row) mark) none = absurd (omega (arith, none))
 nothing-changed m (Review (call_edits.Gone doc) mark) none = absurd (omega (arith, none))
 nothing-changed m (Review call_edits.Stays mark_edits.Stays) none = refl

@@ -34,6 +34,7 @@ use Rattle.bp_rules.specs.Roles.{may}
 use Rattle.bp_rules.specs.Running.{run_of}
 use Rattle.bp_rules.specs.Stepping.{Stepped, done, step_of, told}
 use Rattle.bp_rules.specs.declared.running.Asked.{Asked}
+use Rattle.bp_rules.specs.declared.running.Asked.TheVariants as asks
 
 -- ---- a matter of one document of one page, 8 by 1 and white
 
@@ -84,7 +85,7 @@ abbrev send_back : Call
 send_back = SendBack (record { 0 = 1 })
 
 abbrev by : ℕ → Call → Asked
-by n call = record { key = key n; call = call }
+by n call = asks.Call (key n) call
 
 -- the call of the document, as it stands
 abbrev call_row : Treatment → State → CallRow

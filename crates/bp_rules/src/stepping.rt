@@ -1,7 +1,7 @@
 // Steps: decided, kept and made.
-ghost use Rattle.std.specs.Prelude.{◌≡◌, IsTrue};
-ghost use Rattle.bp_rules.specs.Deciding.{is_review};
+ghost use Rattle.std.specs.Prelude.{◌≡◌};
 ghost use Rattle.bp_rules.specs.Changes.{CanBeMade};
+ghost use Rattle.bp_rules.specs.Keeping.{StepKeeps};
 ghost use Rattle.bp_rules.specs.Steps.{Makes, StepsCall, StepsImport};
 
 use crate::applying::{apply, make_room};
@@ -36,15 +36,18 @@ pub enum StepRefusal {
 }
 
 /// Imports a batch: the tables and the kept rows are those after it. Room is made before the rows
-/// are committed, so after the commit nothing can fail. A refusal leaves tables and rows.
+/// are committed, so after the commit nothing can fail. A refusal leaves tables and rows. Stored
+/// productions stay kept, and what comes stands behind the fields, documents, pages and words that
+/// were there.
 pub fn step_import<K: Keeper>(
     alloc: Global,
     tables: &mut Tables,
     keeper: &mut K,
     batch: &Batch,
 ) -> Result<Counted, StepRefusal>
-    ensures { StepsImport tables.old.matter batch.now (K.shows keeper.old) result
+    ensures made { StepsImport tables.old.matter batch.now (K.shows keeper.old) result
         tables.new.matter (K.shows keeper.new) }
+    ensures kept { StepKeeps tables.old.matter tables.new.matter }
 {
     let Imported {
         change,
@@ -64,8 +67,8 @@ pub fn step_import<K: Keeper>(
 
 /// Makes a call with this key: the tables and the kept rows are those after it. Room is made before
 /// the rows are committed, so after the commit nothing can fail; where there are no puts nothing is
-/// committed. A refusal leaves tables and rows.
-// Freeze and GetProduction come later, and then nothing is asked of the caller.
+/// committed. A refusal leaves tables and rows. Stored productions stay kept, and fields, documents,
+/// pages and words stay as they were.
 pub fn step<K: Keeper>(
     alloc: Global,
     tables: &mut Tables,
@@ -73,9 +76,9 @@ pub fn step<K: Keeper>(
     key: &[u8; 32],
     call: &Call,
 ) -> Result<Reply, StepRefusal>
-    requires { IsTrue (is_review call.now) }
-    ensures { StepsCall tables.old.matter key.now call.now (K.shows keeper.old) result
+    ensures made { StepsCall tables.old.matter key.now call.now (K.shows keeper.old) result
         tables.new.matter (K.shows keeper.new) }
+    ensures kept { StepKeeps tables.old.matter tables.new.matter }
 {
     let Decided { change, reply } = match decide(alloc, tables, key, call) {
         Ok(decided) => decided,
@@ -97,8 +100,9 @@ fn make<K: Keeper>(
     change: Change,
 ) -> Result<(), KeepRefusal>
     requires { CanBeMade tables.old.matter change }
-    ensures { Makes tables.old.matter (K.shows keeper.old) change result tables.new.matter
+    ensures made { Makes tables.old.matter (K.shows keeper.old) change result tables.new.matter
         (K.shows keeper.new) }
+    ensures kept { StepKeeps tables.old.matter tables.new.matter }
 {
     if change.puts().is_empty() {
         return Ok(());

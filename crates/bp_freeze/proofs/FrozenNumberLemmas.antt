@@ -1,5 +1,5 @@
 -- The numbers of a matter with one production more: what holds of the prefixes of a valid matter holds of those after a freeze.
-use Rattle.std.proofs.Common.{◌≡◌, ℕ, ◌+◌, ◌<◌, ◌≤◌, Bool, true, false, ◌&&◌, not, List, [], ◌∷◌, ◌++◌, length, Option, Some, None, refl, sym, ap, ap₂, ◌∙◌, ◌==◌, inl, inr, arith, subst}
+use Rattle.std.proofs.Common.{◌≡◌, ℕ, ◌+◌, ◌<◌, ◌≤◌, Bool, true, false, ◌&&◌, not, List, [], ◌∷◌, ◌++◌, length, Option, Some, None, refl, sym, ap, ap₂, ◌∙◌, ◌==◌, if◌then◌else◌, inl, inr, arith, subst}
 use Rattle.std.specs.List.{list_all, list_any}
 use Rattle.std.specs.Str.{bytes_eq}
 use Rattle.std.proofs.lemmas.Bool.{and_parts, and_from, or_parts, or_from, not-true, cases_Bool, eqb-true, eq-eqb, false_from_ne_true}
@@ -16,10 +16,10 @@ use Rattle.bp_freeze.proofs.PutRowLemmas.{Stands, all-at, all-behind, all-in-pla
 
 -- ---- the numbers that were reached
 
-pub reached-behind : (text : List ℕ) (start : Option ℕ) (rows : List ProductionRow) (row : ProductionRow) → after_productions text start (rows ++ row ∷ []) ≡ after_productions text (after_productions text start rows) (row ∷ [])
-reached-behind text start [] row = refl
-reached-behind text None (first ∷ rows) row = refl
-reached-behind text (Some n) (first ∷ rows) row = reached-behind text _ rows row
+pub reached-behind : (text : List ℕ) (rows : List ProductionRow) (start : Option ℕ) (row : ProductionRow) → after_productions text start (rows ++ row ∷ []) ≡ after_productions text (after_productions text start rows) (row ∷ [])
+reached-behind text [] start row = refl
+reached-behind text (first ∷ rows) None row = refl
+reached-behind text (first ∷ rows) (Some n) row = reached-behind text rows (if is_under text first then after_items n first.production.items else Some n) row
 
 -- a production of another prefix takes no number of this one
 reached-other : (text : List ℕ) (reached : Option ℕ) (row : ProductionRow) → is_under text row ≡ false → after_productions text reached (row ∷ []) ≡ reached
@@ -46,13 +46,13 @@ reach-taken : (rows : List ProductionRow) (p : ProductionRow) (row : PrefixRow) 
     → spans_reach (rows ++ p ∷ []) row ≡ true
 reach-taken rows p row from reached under after =
     ap (λ o. is_number o row.next)
-    (reached-behind row.prefix.text (Some 1) rows p ∙ ap (λ o. after_productions row.prefix.text o (p ∷ [])) reached ∙ reached-under row.prefix.text from p under ∙ after)
+    (reached-behind row.prefix.text rows (Some 1) p ∙ ap (λ o. after_productions row.prefix.text o (p ∷ [])) reached ∙ reached-under row.prefix.text from p under ∙ after)
     ∙ number-is row.next
 
 reach-other : (rows : List ProductionRow) (p : ProductionRow) (row : PrefixRow) → is_under row.prefix.text p ≡ false → spans_reach rows row ≡ true → spans_reach (rows ++ p ∷ []) row ≡ true
 reach-other rows p row other reach =
     ap (λ o. is_number o row.next)
-    (reached-behind row.prefix.text (Some 1) rows p ∙ reached-other row.prefix.text (after_productions row.prefix.text (Some 1) rows) p other)
+    (reached-behind row.prefix.text rows (Some 1) p ∙ reached-other row.prefix.text (after_productions row.prefix.text (Some 1) rows) p other)
     ∙ reach
 
 -- ---- the prefixes after a production of this prefix

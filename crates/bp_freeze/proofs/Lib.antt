@@ -3,8 +3,13 @@ pub mod AlikeLemmas
 pub mod CsvLemmas
 pub mod FamilyLemmas
 pub mod FreezeLemmas
+pub mod FrozenItemLemmas
+pub mod FrozenLemmas
 pub mod FrozenNumberLemmas
+pub mod FrozenRequestLemmas
+pub mod KeptLemmas
 pub mod LogLemmas
+pub mod NumberLemmas
 pub mod PigeonLemmas
 pub mod PutRowLemmas
 pub mod RangeLemmas

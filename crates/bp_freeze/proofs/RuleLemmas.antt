@@ -35,13 +35,13 @@ passed-first (Some first ∷ rules) more e = absurd cc
 -- ---- what passes
 
 -- none of the rules is broken
-none_at : (rules : List (Option Rule)) → first_rule rules ≡ None → (k : ℕ) → get_or rules k None ≡ None
+pub none_at : (rules : List (Option Rule)) → first_rule rules ≡ None → (k : ℕ) → get_or rules k None ≡ None
 none_at [] e k = refl
 none_at (None ∷ rules) e zero = refl
 none_at (None ∷ rules) e (suc k) = none_at rules e k
 none_at (Some rule ∷ rules) e k = absurd cc
 
-held : (test : Bool) (rule : Rule) → unless test rule ≡ None → test ≡ true
+pub held : (test : Bool) (rule : Rule) → unless test rule ≡ None → test ≡ true
 held true rule e = refl
 held false rule e = absurd cc
 

@@ -6,6 +6,7 @@ pub mod Freezing
 pub mod Keeping
 pub mod Log
 pub mod Marks
+pub mod Numbers
 pub mod Refusals
 pub mod Seeing
 pub mod Selecting

@@ -20,6 +20,8 @@ mod tests;
 mod texts;
 
 pub use freezing::freeze;
-pub use laws::same_freeze;
+pub use laws::{
+    a_freeze_keeps, a_repeat_is_stored, frozen_is_valid, numbers_are_taken_once, same_freeze,
+};
 pub use log::log_text;
 pub use loggable::can_be_logged;

@@ -77,7 +77,7 @@ names-from count n low high = and_from (leb 1 n) (leb n count) (le-leb 1 n low) 
 
 pub request-fits : (m : Matter) (docs : List Seen) (q : Request) → Passed (decisions_of m) docs q → request_fits m.fields (length m.docs) q ≡ true
 request-fits m docs q p =
-    let many : length (map (λ (row : DocRow). row.parent.0) m.docs) ≡ length m.docs = length-map m.docs in
+    let many : length (map (λ (row : DocRow). row.parent.0) m.docs) ≡ length m.docs = length-map m.docs (λ (row : DocRow). row.parent.0) in
     let from : 1 ≤ q.from.0 = p.range.from in
     let order : q.from.0 ≤ q.to.0 = p.range.order in
     let to : q.to.0 ≤ length m.docs = omega (arith, p.range.to, many) in
@@ -153,7 +153,7 @@ fields-few m docs q facts p =
 
 pub request-written : (m : Matter) (docs : List Seen) (q : Request) → FieldFacts m.fields → length m.docs < 2 ^ 32 → Passed (decisions_of m) docs q → request_written q ≡ true
 request-written m docs q facts few p =
-    let many : length (map (λ (row : DocRow). row.parent.0) m.docs) ≡ length m.docs = length-map m.docs in
+    let many : length (map (λ (row : DocRow). row.parent.0) m.docs) ≡ length m.docs = length-map m.docs (λ (row : DocRow). row.parent.0) in
     let order : q.from.0 ≤ q.to.0 = p.range.order in
     let to : q.to.0 ≤ length m.docs = omega (arith, p.range.to, many) in
     and_from _ _ (id-short q.id p.id)

@@ -15,12 +15,15 @@ use Rattle.bp_matter.specs.declared.rows.DocRow.{DocRow}
 use Rattle.bp_matter.specs.declared.rows.Entry.{Entry}
 use Rattle.bp_matter.specs.declared.rows.HeldRow.{HeldRow}
 use Rattle.bp_matter.specs.declared.rows.Item.{Item}
+use Rattle.bp_matter.specs.declared.rows.PrefixRow.{PrefixRow}
 use Rattle.bp_matter.specs.declared.rows.Production.{Production}
 use Rattle.bp_matter.specs.declared.rows.Request.{Request}
 use Rattle.bp_matter.specs.declared.rows.State.TheVariants.{First, Confirmed}
 use Rattle.bp_freeze.specs.Csv.{csv_value}
 use Rattle.bp_freeze.specs.Freezing.{freeze_of}
+use Rattle.bp_freeze.specs.Keeping.{frozen_matter}
 use Rattle.bp_freeze.specs.Log.{log_of}
+use Rattle.bp_freeze.specs.Numbers.{numbers_under}
 use Rattle.bp_freeze.specs.Refusals.{productions_full_rule, rule_with}
 
 -- ---- matters
@@ -65,21 +68,10 @@ matter docs calls = record {
   words = [];
 }
 
--- the matter that keeps what was frozen first
+-- the matter after an answer
 abbrev after : Result Production Rule → Matter → Matter
-after (Ok f) m = record m {
-  prefixes = record { num = 1; prefix = f.request.prefix; next = f.span.last + 1 } ∷ [];
-  productions = record { num = 1; production = f } ∷ [];
-}
+after (Ok f) m = frozen_matter f m
 after (Err rule) m = m
-
--- and what was frozen second, under the same prefix
-abbrev after_two : Result Production Rule → Matter → Matter
-after_two (Ok f) m = record m {
-  prefixes = record { num = 1; prefix = f.request.prefix; next = f.span.last + 1 } ∷ [];
-  productions = m.productions ++ record { num = 2; production = f } ∷ [];
-}
-after_two (Err rule) m = m
 
 -- ---- requests and answers
 
@@ -161,11 +153,74 @@ second_spans = refl
 
 abbrev two_kept : Matter
 unfolding freeze_of one_kept
-two_kept = after_two (freeze_of one_kept second) one_kept
+two_kept = after (freeze_of one_kept second) one_kept
 
 none_left : freeze_of two_kept (asked (codes "T") (codes "V3") 1 3) ≡ Err (bare_rule kinds.NothingResponsive)
 unfolding freeze_of one_kept two_kept
 none_left = refl
+
+-- ---- what a matter keeps of a freeze
+
+abbrev prefix : ℕ → List ℕ → ℕ → PrefixRow
+prefix n text next = record { num = n; prefix = record { text = text; width = 4 }; next = next }
+
+-- a new prefix comes behind the others, which are none
+first_prefixes : one_kept.prefixes ≡ (prefix 1 (codes "AB-") 2 ∷ [])
+unfolding freeze_of one_kept
+first_prefixes = refl
+
+-- the numbers of the rows of the productions, and their spans
+abbrev rows_in : Matter → List (List ℕ)
+rows_in m = map (λ row. row.num ∷ row.production.span.first ∷ row.production.span.last ∷ []) m.productions
+
+first_row : rows_in one_kept ≡ ((1 ∷ 1 ∷ 1 ∷ []) ∷ [])
+unfolding freeze_of one_kept
+first_row = refl
+
+-- a kept prefix goes on in its place
+second_prefixes : two_kept.prefixes ≡ (prefix 1 (codes "AB-") 4 ∷ [])
+unfolding freeze_of one_kept two_kept
+second_prefixes = refl
+
+second_rows : rows_in two_kept ≡ ((1 ∷ 1 ∷ 1 ∷ []) ∷ (2 ∷ 2 ∷ 3 ∷ []) ∷ [])
+unfolding freeze_of one_kept two_kept
+second_rows = refl
+
+-- another prefix comes behind, and begins with 1
+abbrev other_kept : Matter
+unfolding freeze_of one_kept
+other_kept = after (freeze_of one_kept (with_prefix (codes "CD-") 4 second)) one_kept
+
+other_prefixes : other_kept.prefixes ≡ (prefix 1 (codes "AB-") 2 ∷ prefix 2 (codes "CD-") 3 ∷ [])
+unfolding freeze_of one_kept other_kept
+other_prefixes = refl
+
+-- the first of two goes on in its place
+abbrev back_again : Matter
+unfolding freeze_of one_kept
+back_again = after (freeze_of (record one_kept { prefixes = one_kept.prefixes ++ prefix 2 (codes "CD-") 3 ∷ [] }) second) (record one_kept { prefixes = one_kept.prefixes ++ prefix 2 (codes "CD-") 3 ∷ [] })
+
+back_prefixes : back_again.prefixes ≡ (prefix 1 (codes "AB-") 4 ∷ prefix 2 (codes "CD-") 3 ∷ [])
+unfolding freeze_of one_kept back_again
+back_prefixes = refl
+
+-- a repeat changes nothing
+repeat_kept : after (freeze_of two_kept first) two_kept ≡ two_kept
+unfolding freeze_of one_kept two_kept
+repeat_kept = refl
+
+-- the numbers under a prefix, in order
+two_numbers : numbers_under (codes "AB-") two_kept.productions ≡ (1 ∷ 2 ∷ 3 ∷ [])
+unfolding freeze_of one_kept two_kept
+two_numbers = refl
+
+other_numbers : numbers_under (codes "CD-") other_kept.productions ≡ (1 ∷ 2 ∷ [])
+unfolding freeze_of one_kept other_kept
+other_numbers = refl
+
+no_numbers : numbers_under (codes "CD-") two_kept.productions ≡ []
+unfolding freeze_of one_kept two_kept
+no_numbers = refl
 
 -- the same request again is answered with the stored production, whatever was decided since
 repeated : freeze_of (record one_kept { calls = [] }) first ≡ freeze_of three first

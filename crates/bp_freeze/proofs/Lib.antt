@@ -3,6 +3,7 @@ pub mod AlikeLemmas
 pub mod CsvLemmas
 pub mod FamilyLemmas
 pub mod FreezeLemmas
+mod FrozenExamples
 pub mod FrozenItemLemmas
 pub mod FrozenLemmas
 pub mod FrozenNumberLemmas

@@ -171,9 +171,9 @@ none-under (r ∷ rows) kept text have none =
     let parts = and_parts (has_prefix kept r) (list_all (has_prefix kept) rows) have in
     or_from (is_under text r) (list_any (is_under text) rows)
     (false_from_ne_true (is_under text r) (λ under.
-        any-known (λ (k : PrefixRow). bytes_eq k.prefix.text r.production.request.prefix.text && (k.prefix.width == r.production.request.prefix.width)) (λ (o : PrefixRow). bytes_eq o.prefix.text text) kept parts.0 none
-        (λ k same. text-same k.prefix.text text (same-text k.prefix.text r.production.request.prefix.text (and_parts (bytes_eq k.prefix.text r.production.request.prefix.text) (k.prefix.width == r.production.request.prefix.width) same).0
-            ∙ same-text r.production.request.prefix.text text under))))
+    any-known (λ (k : PrefixRow). bytes_eq k.prefix.text r.production.request.prefix.text && (k.prefix.width == r.production.request.prefix.width)) (λ (o : PrefixRow). bytes_eq o.prefix.text text) kept parts.0 none
+    (λ k same. text-same k.prefix.text text (same-text k.prefix.text r.production.request.prefix.text (and_parts (bytes_eq k.prefix.text r.production.request.prefix.text) (k.prefix.width == r.production.request.prefix.width) same).0
+    ∙ same-text r.production.request.prefix.text text under))))
     (none-under rows kept text parts.1 none)
 
 -- a prefix of a text that none had

@@ -145,7 +145,7 @@ name-short (row ∷ fields) name all has =
 fields-few : (m : Matter) (docs : List Seen) (q : Request) → FieldFacts m.fields → Passed (decisions_of m) docs q → are_few is_short q.fields ≡ true
 fields-few m docs q facts p =
     let has : list_all (has_field m.fields) q.fields ≡ true =
-        all-weaker (among (map field_name m.fields)) (has_field m.fields) q.fields (λ name h. sym (any-map (λ other. bytes_eq other name) field_name m.fields) ∙ h) p.kept_names in
+    all-weaker (among (map field_name m.fields)) (has_field m.fields) q.fields (λ name h. sym (any-map (λ other. bytes_eq other name) field_name m.fields) ∙ h) p.kept_names in
     let short : list_all is_short q.fields ≡ true = all-weaker (has_field m.fields) is_short q.fields (λ name h. name-short m.fields name facts.written h) has in
     let many : length q.fields ≤ length m.fields = at-most itself field_name q.fields m.fields p.differ has in
     let most : length m.fields ≤ 64 = leb-true (length m.fields) 64 facts.few in

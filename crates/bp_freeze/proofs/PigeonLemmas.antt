@@ -43,8 +43,8 @@ still-among name text x (z ∷ xs) ys none all =
     (list_all (λ o. list_any (λ y. bytes_eq (text y) (name o)) (without_first (λ y. bytes_eq (text y) (name x)) ys)) xs)
     (still-any (λ y. bytes_eq (text y) (name x)) (λ y. bytes_eq (text y) (name z)) ys
     (λ y here. false_from_ne_true (bytes_eq (text y) (name z)) (λ same. (
-        let yes : bytes_eq (name z) (name x) ≡ true = text-same (name z) (name x) (sym (same-text (text y) (name z) same) ∙ same-text (text y) (name x) here) in
-        let no : bytes_eq (name z) (name x) ≡ false = other.0 in absurd cc))) parts.0)
+    let yes : bytes_eq (name z) (name x) ≡ true = text-same (name z) (name x) (sym (same-text (text y) (name z) same) ∙ same-text (text y) (name x) here) in
+    let no : bytes_eq (name z) (name x) ≡ false = other.0 in absurd cc))) parts.0)
     (still-among name text x xs ys other.1 parts.1)
 
 pub at-most : {S T : Type 0} (name : S → List ℕ) (text : T → List ℕ) (xs : List S) (ys : List T) → all_differ name xs ≡ true → list_all (λ x. list_any (λ y. bytes_eq (text y) (name x)) ys) xs ≡ true → length xs ≤ length ys

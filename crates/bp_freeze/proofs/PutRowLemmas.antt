@@ -196,7 +196,7 @@ apart text (first ∷ before) after row differ =
     let parts = and_parts (not (list_any (λ o. bytes_eq (text o) (text first)) (before ++ row ∷ after))) (all_differ text (before ++ row ∷ after)) differ in
     let rest = apart text before after row parts.1 in
     let apart_two : bytes_eq (text row) (text first) ≡ false =
-        false_from_ne_true _ (λ same. (let yes = any-at (λ o. bytes_eq (text o) (text first)) before after row same in let no = not-true _ parts.0 in absurd cc)) in
+    false_from_ne_true _ (λ same. (let yes = any-at (λ o. bytes_eq (text o) (text first)) before after row same in let no = not-true _ parts.0 in absurd cc)) in
     record {
       earlier = or_from (bytes_eq (text first) (text row)) (list_any (λ o. bytes_eq (text o) (text row)) before) (other-turned (text row) (text first) apart_two) rest.earlier;
       later = rest.later;

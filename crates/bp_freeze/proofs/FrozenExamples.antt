@@ -19,7 +19,7 @@ use Rattle.bp_matter.specs.declared.rows.Request.{Request}
 use Rattle.bp_matter.specs.declared.rows.State.TheVariants.{First, Confirmed}
 use Rattle.bp_freeze.specs.Freezing.{freeze_of}
 use Rattle.bp_freeze.specs.Keeping.{Keeps, frozen_matter}
-use Rattle.bp_freeze.specs.Numbers.{numbers_under}
+use Rattle.bp_freeze.specs.Numbers.{all_labels, numbers_under}
 
 -- ---- a matter of three documents of 2, 1 and 1 pages; the first two are a family, of which the second is withheld
 
@@ -158,3 +158,6 @@ second_kept = refl
 
 all_numbers : numbers_under (codes "AB-") twice.productions ≡ (1 ∷ 2 ∷ 3 ∷ 4 ∷ [])
 all_numbers = refl
+
+labels : all_labels twice.productions ≡ (codes "AB-0001" ∷ codes "AB-0002" ∷ codes "AB-0003" ∷ codes "AB-0004" ∷ [])
+labels = refl

@@ -9,6 +9,7 @@ pub mod FrozenLemmas
 pub mod FrozenNumberLemmas
 pub mod FrozenRequestLemmas
 pub mod KeptLemmas
+pub mod LabelLemmas
 pub mod LogLemmas
 pub mod NumberLemmas
 pub mod PigeonLemmas

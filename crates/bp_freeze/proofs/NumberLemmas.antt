@@ -58,7 +58,7 @@ items-from n end (i ∷ items) e =
       | inr bad ↦ (let none : None ≡ Some end = rw bad at e in absurd cc)
     ]
 
-nothing-after : (text : List ℕ) (rows : List ProductionRow) → after_productions text None rows ≡ None
+pub nothing-after : (text : List ℕ) (rows : List ProductionRow) → after_productions text None rows ≡ None
 nothing-after text [] = refl
 nothing-after text (row ∷ rows) = refl
 

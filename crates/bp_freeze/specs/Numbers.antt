@@ -1,6 +1,7 @@
 -- The label numbers (Bates numbers) that the productions of a matter have taken under each prefix.
-use Rattle.std.specs.Prelude.{◌≡◌, ℕ, ◌+◌, ◌-◌, IsTrue, List, None, not}
+use Rattle.std.specs.Prelude.{◌≡◌, ℕ, ◌+◌, ◌-◌, IsTrue, List, None, map, not}
 use Rattle.std.specs.List.{Contains, filter, flat_map, list_any, range_with_len}
+use Rattle.bp_bates.specs.Labels.{label_of}
 use Rattle.bp_matter.specs.Matter.{Matter}
 use Rattle.bp_matter.specs.ValidPrefixes.{is_under}
 use Rattle.bp_matter.specs.declared.rows.Item.{Item}
@@ -19,6 +20,16 @@ production_numbers row = flat_map item_numbers row.production.items
 -- those of all productions with a prefix of this text, in order
 abbrev pub numbers_under : List ℕ → List ProductionRow → List ℕ
 numbers_under text productions = flat_map production_numbers (filter (is_under text) productions)
+
+-- the labels of a production, in order
+abbrev pub production_labels : ProductionRow → List (List ℕ)
+production_labels row =
+    map (label_of row.production.request.prefix.text row.production.request.prefix.width)
+    (production_numbers row)
+
+-- those of all productions, in order
+abbrev pub all_labels : List ProductionRow → List (List ℕ)
+all_labels productions = flat_map production_labels productions
 
 -- under each prefix that is kept the numbers are 1 up to the next, none missing and none twice;
 -- no production has a prefix of another text

@@ -1,13 +1,15 @@
 //! The laws of the freeze. The functions do nothing: the contract of each is the law.
-ghost use Rattle.std.specs.Prelude.{◌≡◌, Ok};
+ghost use Rattle.std.specs.Prelude.{◌≡◌, IsTrue, Ok};
 ghost use Rattle.bp_matter.specs.Matter.{Matter};
 ghost use Rattle.bp_matter.specs.Valid.{IsValid};
+ghost use Rattle.bp_matter.specs.ValidProductions.{itself};
+ghost use Rattle.bp_matter.specs.ValidRows.{all_differ};
 ghost use Rattle.bp_matter.specs.declared.rows.Production.{Production};
 ghost use Rattle.bp_matter.specs.declared.rows.Request.{Request};
 ghost use Rattle.bp_freeze.specs.Alike.{DecidedAlike};
 ghost use Rattle.bp_freeze.specs.Freezing.{freeze_of};
 ghost use Rattle.bp_freeze.specs.Keeping.{Keeps, frozen_matter};
-ghost use Rattle.bp_freeze.specs.Numbers.{AreTakenOnce};
+ghost use Rattle.bp_freeze.specs.Numbers.{AreTakenOnce, all_labels};
 
 /// Two matters in which the same was decided, and whose documents of the range that aren't withheld
 /// have as many pages, answer a request alike, refusals included.
@@ -25,9 +27,13 @@ pub fn frozen_is_valid()
 {}
 
 /// In a valid matter the label numbers under each prefix are 1 up to the next, each taken once, in
-/// the order of the productions; no production has a prefix that isn't kept.
+/// the order of the productions; no production has a prefix that isn't kept, and no two labels are
+/// alike.
 pub fn numbers_are_taken_once()
-    ensures { (m : Matter) → IsValid m → AreTakenOnce m }
+    ensures numbers { (m : Matter) → IsValid m → AreTakenOnce m }
+    ensures labels { (m : Matter) →
+        IsValid m →
+        IsTrue (all_differ itself (all_labels m.productions)) }
 {}
 
 /// A repeated request gives the stored production, takes no new number and changes nothing; so does

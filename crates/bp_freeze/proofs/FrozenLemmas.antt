@@ -26,7 +26,7 @@ use Rattle.bp_freeze.specs.Refusals.{first_refusal, last_taken, next_number, pre
 use Rattle.bp_freeze.specs.Seeing.{decisions_of, seen_of}
 use Rattle.bp_freeze.specs.Selecting.{all_numbers, items_from, last_number, selected}
 use Rattle.bp_freeze.proofs.FrozenItemLemmas.{frozen-after, frozen-fit, frozen-last, frozen-once, frozen-some, frozen-span, frozen-whole, frozen-written}
-use Rattle.bp_freeze.proofs.FrozenNumberLemmas.{IsNew, IsNext, Prefixed, Takes, prefixed-kept, prefixed-new}
+use Rattle.bp_freeze.proofs.FrozenPrefixLemmas.{IsNew, IsNext, Prefixed, Takes, prefixed-kept, prefixed-new}
 use Rattle.bp_freeze.proofs.FrozenRequestLemmas.{Passed, passed-all, prefix-short, request-fits, request-written}
 use Rattle.bp_freeze.proofs.KeptLemmas.{IsFirst, IsRepeat, first-matter, frozen-cases, none-kept, repeat-matter}
 use Rattle.bp_freeze.proofs.PigeonLemmas.{at-most}

@@ -1,211 +1,134 @@
--- The numbers of a matter with one production more: what holds of the prefixes of a valid matter holds of those after a freeze.
-use Rattle.std.proofs.Common.{◌≡◌, ℕ, ◌+◌, ◌<◌, ◌≤◌, Bool, true, false, ◌&&◌, not, List, [], ◌∷◌, ◌++◌, length, Option, Some, None, refl, sym, ap, ap₂, ◌∙◌, ◌==◌, if◌then◌else◌, inl, inr, arith, subst}
-use Rattle.std.specs.List.{list_all, list_any}
-use Rattle.std.specs.Str.{bytes_eq}
-use Rattle.std.proofs.lemmas.Bool.{and_parts, and_from, or_parts, or_from, not-true, cases_Bool, eqb-true, eq-eqb, false_from_ne_true}
-use Rattle.std.proofs.lemmas.List.Folds.{list_all-append}
-use Rattle.bp_core.specs.Sorted.{put}
-use Rattle.bp_matter.specs.Matter.{prefix_key}
-use Rattle.bp_matter.specs.ValidPrefixes.{PrefixFacts, after_items, after_productions, is_number, is_under, is_used, prefix_fits, prefix_text, spans_reach}
-use Rattle.bp_matter.specs.ValidProductions.{has_prefix}
-use Rattle.bp_matter.specs.ValidRows.{all_differ, is_numbered}
-use Rattle.bp_matter.specs.Written.{prefix_written}
-use Rattle.bp_matter.specs.declared.rows.PrefixRow.{PrefixRow}
-use Rattle.bp_matter.specs.declared.rows.ProductionRow.{ProductionRow}
-use Rattle.bp_freeze.proofs.PutRowLemmas.{Stands, all-at, all-behind, all-in-place, all-weaker, any-at, any-behind, any-in-place, any-known, any-more, apart, differ-behind, differ-in-place, none-stands, numbered-behind, numbered-in-place, other-turned, put-behind, put-in-place, same-text, text-same}
+-- The label numbers that documents take carry over to the spans of their items: each begins with the number after the one before it.
+use Rattle.std.proofs.Common.{◌≡◌, ℕ, zero, suc, ◌+◌, ◌-◌, ◌^◌, ◌<◌, ◌≤◌, Bool, true, false, cond, eqb, leb, ltb, not, ◌&&◌, List, [], ◌∷◌, ◌++◌, length, Option, Some, None, refl, ap, ◌∙◌, inl, inr, arith}
+use Rattle.std.specs.List.{filter}
+use Rattle.std.specs.Prelude.{IsTrue}
+use Rattle.std.proofs.lemmas.Bool.{and_parts, and_from, cases_Bool, eq-eqb, leb-true, le-leb}
+use Rattle.std.proofs.Math.Nat.{one-le-pow, pow-le-pow_right}
+use Rattle.bp_bates.specs.Prefixes.{is_good_prefix}
+use Rattle.bp_bates.specs.Spans.{largest_of}
+use Rattle.bp_core.specs.Rules.{bare_rule, bates_full_rule}
+use Rattle.bp_core.specs.declared.rules.Rule.{Rule}
+use Rattle.bp_core.specs.declared.rules.RuleKind.TheVariants as kinds
+use Rattle.bp_matter.specs.Matter.{Matter}
+use Rattle.bp_matter.specs.ValidPrefixes.{after_items}
+use Rattle.bp_matter.specs.Written.{first_number as first_written, last_number as last_written, same_span, span_of}
+use Rattle.bp_matter.specs.declared.limits.TheConstants.{MAX_PRODUCTIONS}
+use Rattle.bp_matter.specs.declared.rows.Item.{Item}
+use Rattle.bp_matter.specs.declared.rows.Request.{Request}
+use Rattle.bp_freeze.specs.Freezing.{production_of}
+use Rattle.bp_freeze.specs.Refusals.{family_rules, first_refusal, first_rule, last_taken, next_number, prefix_row, productions_full_rule, request_rules, taking_rules, unless}
+use Rattle.bp_freeze.specs.Seeing.{Decisions, Seen, seen_from, seen_in}
+use Rattle.bp_freeze.specs.Selecting.{all_numbers, first_number, item_of, items_from, last_number, selected}
+use Rattle.bp_freeze.proofs.FrozenRangeLemmas.{both-kept}
+use Rattle.bp_freeze.proofs.RuleLemmas.{good-passed}
 
--- ---- the numbers that were reached
+-- each document that a test takes from so many takes a number
+pub record TakeNumbers (m : Matter) (test : Seen → Bool) (n count : ℕ) : Type 0 where
+  pub each : (doc : ℕ) → n ≤ doc → doc < n + count → test (seen_in m doc) ≡ true → 1 ≤ (seen_in m doc).numbers
 
-pub reached-behind : (text : List ℕ) (rows : List ProductionRow) (start : Option ℕ) (row : ProductionRow) → after_productions text start (rows ++ row ∷ []) ≡ after_productions text (after_productions text start rows) (row ∷ [])
-reached-behind text [] start row = refl
-reached-behind text (first ∷ rows) None row = refl
-reached-behind text (first ∷ rows) (Some n) row = reached-behind text rows (if is_under text first then after_items n first.production.items else Some n) row
+-- so does each after the first
+take_later : (m : Matter) (test : Seen → Bool) (n count : ℕ) → TakeNumbers m test n (suc count) → TakeNumbers m test (n + 1) count
+take_later m test n count takes = record { each = λ doc low high passes. takes.each doc (omega arith) (omega arith) passes }
 
--- a production of another prefix takes no number of this one
-reached-other : (text : List ℕ) (reached : Option ℕ) (row : ProductionRow) → is_under text row ≡ false → after_productions text reached (row ∷ []) ≡ reached
-reached-other text None row other = refl
-reached-other text (Some n) row other = rw other refl
+-- one item, and the number after it
+one_after : (next numbers : ℕ) (item : Item) (items : List Item) → item.span.first ≡ next → item.span.last ≡ next + numbers - 1 → 1 ≤ numbers
+    → after_items next (item ∷ items) ≡ after_items (next + numbers) items
+one_after next numbers item items first last some =
+    let follows : (eqb item.span.first next && leb next item.span.last) ≡ true = and_from (eqb item.span.first next) (leb next item.span.last) (eq-eqb item.span.first next first) (le-leb next item.span.last (omega arith)) in
+    let behind : item.span.last + 1 ≡ next + numbers = omega arith in
+    ap (λ (b : Bool). cond b (after_items (item.span.last + 1) items) None) follows ∙ ap (λ k. after_items k items) behind
 
-reached-under : (text : List ℕ) (n : ℕ) (row : ProductionRow) → is_under text row ≡ true → after_productions text (Some n) (row ∷ []) ≡ after_items n row.production.items
-reached-under text n row under = rw under refl
+-- the number after the items is reached from the first on
+pub after-from : (m : Matter) (test : Seen → Bool) (count n next : ℕ) → TakeNumbers m test n count
+    → after_items next (items_from next (filter test (seen_from m n count))) ≡ Some (next + all_numbers (filter test (seen_from m n count)))
+after-from m test zero n next takes = let same : next ≡ next + 0 = omega arith in ap (λ k. Some k) same
+after-from m test (suc count) n next takes =
+    let later = take_later m test n count takes in
+    let numbers : ℕ = (seen_in m n).numbers in
+    elim (cases_Bool (test (seen_in m n))) [
+      | inl passes ↦ (
+          let rest : List Seen = filter test (seen_from m (n + 1) count) in
+          let sum : next + numbers + all_numbers rest ≡ next + (numbers + all_numbers rest) = omega arith in
+          rw passes
+          (one_after next numbers (item_of next (seen_in m n)) (items_from (next + numbers) rest) refl refl (takes.each n (omega arith) (omega arith) passes)
+          ∙ after-from m test count (n + 1) (next + numbers) later ∙ ap (λ k. Some k) sum))
+      | inr fails ↦ rw fails (after-from m test count (n + 1) next later)
+    ]
 
-pub reached-none : (text : List ℕ) (n : ℕ) (rows : List ProductionRow) → list_any (is_under text) rows ≡ false → after_productions text (Some n) rows ≡ Some n
-reached-none text n [] none = refl
-reached-none text n (row ∷ rows) none =
-    let parts = or_parts (is_under text row) (list_any (is_under text) rows) none in rw parts.0 (reached-none text n rows parts.1)
+-- they take no fewer numbers than they are
+pub many-numbers : (m : Matter) (test : Seen → Bool) (count n : ℕ) → TakeNumbers m test n count
+    → length (filter test (seen_from m n count)) ≤ all_numbers (filter test (seen_from m n count))
+many-numbers m test zero n takes = omega arith
+many-numbers m test (suc count) n takes =
+    let rest = many-numbers m test count (n + 1) (take_later m test n count takes) in
+    elim (cases_Bool (test (seen_in m n))) [
+      | inl passes ↦ rw passes (omega (arith, rest, takes.each n (omega arith) (omega arith) passes))
+      | inr fails ↦ rw fails rest
+    ]
 
-pub is-number : (reached : Option ℕ) (n : ℕ) → is_number reached n ≡ true → reached ≡ Some n
-is-number None n is = absurd cc
-is-number (Some m) n is = ap (λ k. Some k) (eqb-true m n is)
+-- they are no more than the documents
+pub few-items : (m : Matter) (test : Seen → Bool) (count n next : ℕ) → length (items_from next (filter test (seen_from m n count))) ≤ count
+few-items m test zero n next = omega arith
+few-items m test (suc count) n next =
+    elim (cases_Bool (test (seen_in m n))) [
+      | inl passes ↦ rw passes (omega (arith, few-items m test count (n + 1) (next + (seen_in m n).numbers)))
+      | inr fails ↦ rw fails (omega (arith, few-items m test count (n + 1) next))
+    ]
 
-number-is : (n : ℕ) → is_number (Some n) n ≡ true
-number-is n = eq-eqb n n refl
+-- ---- the span of a production
 
--- the prefix under which the numbers were taken, and any other
-reach-taken : (rows : List ProductionRow) (p : ProductionRow) (row : PrefixRow) (from : ℕ) → after_productions row.prefix.text (Some 1) rows ≡ Some from → is_under row.prefix.text p ≡ true → after_items from p.production.items ≡ Some row.next
-    → spans_reach (rows ++ p ∷ []) row ≡ true
-reach-taken rows p row from reached under after =
-    ap (λ o. is_number o row.next)
-    (reached-behind row.prefix.text rows (Some 1) p ∙ ap (λ o. after_productions row.prefix.text o (p ∷ [])) reached ∙ reached-under row.prefix.text from p under ∙ after)
-    ∙ number-is row.next
+-- the first number of a production is that which is written
+same_first : (items : List Item) → first_number items ≡ first_written items
+same_first [] = refl
+same_first (i ∷ items) = refl
 
-reach-other : (rows : List ProductionRow) (p : ProductionRow) (row : PrefixRow) → is_under row.prefix.text p ≡ false → spans_reach rows row ≡ true → spans_reach (rows ++ p ∷ []) row ≡ true
-reach-other rows p row other reach =
-    ap (λ o. is_number o row.next)
-    (reached-behind row.prefix.text rows (Some 1) p ∙ reached-other row.prefix.text (after_productions row.prefix.text (Some 1) rows) p other)
-    ∙ reach
+-- the last one of some items, whatever stood before them
+same_last : (last : ℕ) (i : Item) (items : List Item) → last_number (i ∷ items) ≡ last_written last (i ∷ items)
+same_last last i [] = refl
+same_last last i (next ∷ items) = same_last i.span.last next items
 
--- ---- the prefixes after a production of this prefix
+-- the last one of a production
+same_end : (items : List Item) → last_number items ≡ last_written 0 items
+same_end [] = refl
+same_end (i ∷ items) = same_last 0 i items
 
--- a production, and the row of its prefix after it
-pub record Takes (p : ProductionRow) (row : PrefixRow) (from : ℕ) : Type 0 where
-  pub same : row.prefix ≡ p.production.request.prefix
-  pub fits : prefix_fits row ≡ true
-  pub written : prefix_written row ≡ true
-  pub taken : after_items from p.production.items ≡ Some row.next
+-- it is that of its items
+pub span-same : (q : Request) (items : List Item) → IsTrue (same_span (production_of q items).span (span_of items))
+span-same q items =
+    and_from (eqb (first_number items) (first_written items)) (eqb (last_number items) (last_written 0 items))
+    (eq-eqb (first_number items) (first_written items) (same_first items)) (eq-eqb (last_number items) (last_written 0 items) (same_end items))
 
-under-it : (p : ProductionRow) (row : PrefixRow) (from : ℕ) → Takes p row from → is_under row.prefix.text p ≡ true
-under-it p row from t = text-same p.production.request.prefix.text row.prefix.text (ap (λ x. x.text) (sym t.same))
+-- ---- how far they go
 
--- no row has the text of the production's prefix
-others-reach : (rows : List ProductionRow) (p : ProductionRow) (kept : List PrefixRow) (text : List ℕ) → p.production.request.prefix.text ≡ text → list_any (λ (o : PrefixRow). bytes_eq o.prefix.text text) kept ≡ false
-    → list_all (spans_reach rows) kept ≡ true → list_all (spans_reach (rows ++ p ∷ [])) kept ≡ true
-others-reach rows p [] text e none all = refl
-others-reach rows p (row ∷ kept) text e none all =
-    let other = or_parts (bytes_eq row.prefix.text text) (list_any (λ (o : PrefixRow). bytes_eq o.prefix.text text) kept) none in
-    let parts = and_parts (spans_reach rows row) (list_all (spans_reach rows) kept) all in
-    let apart : is_under row.prefix.text p ≡ false = ap (λ t. bytes_eq t row.prefix.text) e ∙ other-turned row.prefix.text text other.0 in
-    and_from (spans_reach (rows ++ p ∷ []) row) (list_all (spans_reach (rows ++ p ∷ [])) kept) (reach-other rows p row apart parts.0) (others-reach rows p kept text e other.1 parts.1)
+-- where none of three rules is broken the second test holds
+three_pass : (a b c : Bool) (x y z : Rule) → first_rule (unless a x ∷ unless b y ∷ unless c z ∷ []) ≡ None → b ≡ true
+three_pass true true c x y z e = refl
+three_pass true false c x y z e = absurd cc
+three_pass false b c x y z e = absurd cc
 
-uses-more : (rows : List ProductionRow) (p : ProductionRow) (kept : List PrefixRow) → list_all (is_used rows) kept ≡ true → list_all (is_used (rows ++ p ∷ [])) kept ≡ true
-uses-more rows p kept all = all-weaker (is_used rows) (is_used (rows ++ p ∷ [])) kept (λ row used. any-more (is_under row.prefix.text) rows (p ∷ []) used) all
+-- the last number that is taken is one of the width
+pub last-fits : (d : Decisions) (docs : List Seen) (q : Request) → first_refusal d docs q ≡ None → last_taken d docs q ≤ largest_of q.prefix.width
+last-fits d docs q e =
+    let more = (both-kept (request_rules d q) (family_rules d docs q ++ taking_rules d docs q) e).1 in
+    let last : ℕ = last_taken d docs q in
+    let stand : ℕ = length d.productions in
+    leb-true last (largest_of q.prefix.width)
+    (three_pass (not (eqb (length (selected docs)) 0)) (leb last (largest_of q.prefix.width)) (ltb stand MAX_PRODUCTIONS)
+    (bare_rule kinds.NothingResponsive) (bates_full_rule (largest_of q.prefix.width)) (productions_full_rule (stand + 1)) (both-kept (family_rules d docs q) (taking_rules d docs q) more).1)
 
-uses-it : (rows : List ProductionRow) (p : ProductionRow) (row : PrefixRow) (from : ℕ) → Takes p row from → is_used (rows ++ p ∷ []) row ≡ true
-uses-it rows p row from t = any-behind (is_under row.prefix.text) rows p (under-it p row from t)
+-- a width that is taken is one of ten digits at most
+width_small : (text : List ℕ) (width : ℕ) → is_good_prefix text width ≡ true → width ≤ 10
+width_small text width good =
+    let two = and_parts _ _ good in
+    let one = and_parts (leb 4 width) (leb width 10) two.0 in
+    leb-true width 10 one.1
 
--- what holds of the prefixes, and that each production has one of them
-pub record Prefixed (rows : List ProductionRow) (kept : List PrefixRow) : Type 0 where
-  pub facts : PrefixFacts rows kept
-  pub have : list_all (has_prefix kept) rows ≡ true
-
--- ---- a prefix that was kept
-
--- the row of the prefix before and after
-pub record IsNext (row now : PrefixRow) : Type 0 where
-  pub num : now.num ≡ row.num
-  pub text : now.prefix.text ≡ row.prefix.text
-  pub width : now.prefix.width ≡ row.prefix.width
-
-all-around : {T : Type 0} (p : T → Bool) (before after : List T) (row : T) → list_all p before ≡ true → p row ≡ true → list_all p after ≡ true → list_all p (before ++ row ∷ after) ≡ true
-all-around p before after row first one last =
-    list_all-append p before (row ∷ after) ∙ and_from (list_all p before) (p row && list_all p after) first (and_from (p row) (list_all p after) one last)
-
--- the tests of those before a row and behind it
-pub record Around {T : Type 0} (p : T → Bool) (before after : List T) : Type 0 where
-  pub earlier : list_all p before ≡ true
-  pub later : list_all p after ≡ true
-
-around : {T : Type 0} (p : T → Bool) (before after : List T) (row : T) → list_all p (before ++ row ∷ after) ≡ true → Around p before after
-around p before after row all =
-    let parts = and_parts (list_all p before) (p row && list_all p after) (sym (list_all-append p before (row ∷ after)) ∙ all) in
-    record { earlier = parts.0; later = (and_parts (p row) (list_all p after) parts.1).1 }
-
-reaches-in-place : (rows : List ProductionRow) (before after : List PrefixRow) (p : ProductionRow) (row now : PrefixRow) → PrefixFacts rows (before ++ row ∷ after) → IsNext row now → Takes p now row.next
-    → list_all (spans_reach (rows ++ p ∷ [])) (before ++ now ∷ after) ≡ true
-reaches-in-place rows before after p row now old next t =
-    let others = apart prefix_text before after row old.texts_differ in
-    let reach = around (spans_reach rows) before after row old.spans_reach in
-    let text : p.production.request.prefix.text ≡ row.prefix.text = ap (λ x. x.text) (sym t.same) ∙ next.text in
-    let here : after_productions now.prefix.text (Some 1) rows ≡ Some row.next =
-    ap (λ x. after_productions x (Some 1) rows) next.text ∙ is-number _ row.next (all-at (spans_reach rows) before after row old.spans_reach) in
-    all-around (spans_reach (rows ++ p ∷ [])) before after now
-    (others-reach rows p before row.prefix.text text others.earlier reach.earlier)
-    (reach-taken rows p now row.next here (under-it p now row.next t) t.taken)
-    (others-reach rows p after row.prefix.text text others.later reach.later)
-
-facts-in-place : (rows : List ProductionRow) (before after : List PrefixRow) (p : ProductionRow) (row now : PrefixRow) → PrefixFacts rows (before ++ row ∷ after) → IsNext row now → Takes p now row.next
-    → PrefixFacts (rows ++ p ∷ []) (before ++ now ∷ after)
-facts-in-place rows before after p row now old next t = record {
-  numbered = numbered-in-place prefix_key 1 before after row now old.numbered next.num;
-  fit = all-in-place prefix_fits before after row now old.fit t.fits;
-  used = all-in-place (is_used (rows ++ p ∷ [])) before after row now (uses-more rows p (before ++ row ∷ after) old.used) (uses-it rows p now row.next t);
-  texts_differ = sym (differ-in-place prefix_text before after row now next.text) ∙ old.texts_differ;
-  spans_reach = reaches-in-place rows before after p row now old next t;
-  written = all-in-place prefix_written before after row now old.written t.written;
-}
-
-has-in-place : (before after : List PrefixRow) (row now : PrefixRow) (r : ProductionRow) → IsNext row now → has_prefix (before ++ row ∷ after) r ≡ has_prefix (before ++ now ∷ after) r
-has-in-place before after row now r next =
-    any-in-place (λ (k : PrefixRow). bytes_eq k.prefix.text r.production.request.prefix.text && (k.prefix.width == r.production.request.prefix.width)) before after row now
-    (ap₂ (λ t w. bytes_eq t r.production.request.prefix.text && (w == r.production.request.prefix.width)) (sym next.text) (sym next.width))
-
-has-it : (before after : List PrefixRow) (p : ProductionRow) (now : PrefixRow) (from : ℕ) → Takes p now from → has_prefix (before ++ now ∷ after) p ≡ true
-has-it before after p now from t =
-    any-at (λ (k : PrefixRow). bytes_eq k.prefix.text p.production.request.prefix.text && (k.prefix.width == p.production.request.prefix.width)) before after now
-    (and_from (bytes_eq now.prefix.text p.production.request.prefix.text) (now.prefix.width == p.production.request.prefix.width)
-    (text-same now.prefix.text p.production.request.prefix.text (ap (λ x. x.text) t.same)) (eq-eqb now.prefix.width p.production.request.prefix.width (ap (λ x. x.width) t.same)))
-
-prefixed-in-place : (rows : List ProductionRow) (before after : List PrefixRow) (p : ProductionRow) (row now : PrefixRow) → Prefixed rows (before ++ row ∷ after) → IsNext row now → Takes p now row.next
-    → Prefixed (rows ++ p ∷ []) (before ++ now ∷ after)
-prefixed-in-place rows before after p row now old next t = record {
-  facts = facts-in-place rows before after p row now old.facts next t;
-  have = all-behind (has_prefix (before ++ now ∷ after)) rows p
-      (all-weaker (has_prefix (before ++ row ∷ after)) (has_prefix (before ++ now ∷ after)) rows (λ r h. sym (has-in-place before after row now r next) ∙ h) old.have)
-      (has-it before after p now row.next t);
-}
-
-pub prefixed-kept : (rows : List ProductionRow) (kept : List PrefixRow) (p : ProductionRow) (row now : PrefixRow) → Prefixed rows kept → Stands kept row → IsNext row now → Takes p now row.next
-    → Prefixed (rows ++ p ∷ []) (put prefix_key now kept)
-prefixed-kept rows kept p row now old s next t =
-    let parts : Prefixed rows (s.before ++ row ∷ s.after) = subst (λ (l : List PrefixRow). Prefixed rows l) s.parts old in
-    let is : put prefix_key now kept ≡ s.before ++ now ∷ s.after =
-    ap (put prefix_key now) s.parts ∙ put-in-place prefix_key 1 s.before s.after row now parts.facts.numbered next.num in
-    subst (λ (l : List PrefixRow). Prefixed (rows ++ p ∷ []) l) (sym is) (prefixed-in-place rows s.before s.after p row now parts next t)
-
--- ---- a new prefix
-
--- a production of a text has a prefix of that text
-pub none-under : (rows : List ProductionRow) (kept : List PrefixRow) (text : List ℕ) → list_all (has_prefix kept) rows ≡ true → list_any (λ (o : PrefixRow). bytes_eq o.prefix.text text) kept ≡ false → list_any (is_under text) rows ≡ false
-none-under [] kept text have none = refl
-none-under (r ∷ rows) kept text have none =
-    let parts = and_parts (has_prefix kept r) (list_all (has_prefix kept) rows) have in
-    or_from (is_under text r) (list_any (is_under text) rows)
-    (false_from_ne_true (is_under text r) (λ under.
-    any-known (λ (k : PrefixRow). bytes_eq k.prefix.text r.production.request.prefix.text && (k.prefix.width == r.production.request.prefix.width)) (λ (o : PrefixRow). bytes_eq o.prefix.text text) kept parts.0 none
-    (λ k same. text-same k.prefix.text text (same-text k.prefix.text r.production.request.prefix.text (and_parts (bytes_eq k.prefix.text r.production.request.prefix.text) (k.prefix.width == r.production.request.prefix.width) same).0
-    ∙ same-text r.production.request.prefix.text text under))))
-    (none-under rows kept text parts.1 none)
-
--- a prefix of a text that none had
-pub record IsNew (kept : List PrefixRow) (now : PrefixRow) : Type 0 where
-  pub num : now.num ≡ length kept + 1
-  pub text : list_any (λ (o : PrefixRow). bytes_eq o.prefix.text now.prefix.text) kept ≡ false
-
-facts-behind : (rows : List ProductionRow) (kept : List PrefixRow) (p : ProductionRow) (now : PrefixRow) → Prefixed rows kept → IsNew kept now → Takes p now 1 → PrefixFacts (rows ++ p ∷ []) (kept ++ now ∷ [])
-facts-behind rows kept p now old new t =
-    let here : after_productions now.prefix.text (Some 1) rows ≡ Some 1 = reached-none now.prefix.text 1 rows (none-under rows kept now.prefix.text old.have new.text) in
-    record {
-      numbered = numbered-behind prefix_key 1 kept now old.facts.numbered (omega (arith, new.num));
-      fit = all-behind prefix_fits kept now old.facts.fit t.fits;
-      used = all-behind (is_used (rows ++ p ∷ [])) kept now (uses-more rows p kept old.facts.used) (uses-it rows p now 1 t);
-      texts_differ = differ-behind prefix_text kept now old.facts.texts_differ new.text;
-      spans_reach = all-behind (spans_reach (rows ++ p ∷ [])) kept now
-          (others-reach rows p kept now.prefix.text (ap (λ x. x.text) (sym t.same)) new.text old.facts.spans_reach)
-          (reach-taken rows p now 1 here (under-it p now 1 t) t.taken);
-      written = all-behind prefix_written kept now old.facts.written t.written;
-    }
-
-has-more : (kept : List PrefixRow) (now : PrefixRow) (r : ProductionRow) → has_prefix kept r ≡ true → has_prefix (kept ++ now ∷ []) r ≡ true
-has-more kept now r has =
-    any-more (λ (k : PrefixRow). bytes_eq k.prefix.text r.production.request.prefix.text && (k.prefix.width == r.production.request.prefix.width)) kept (now ∷ []) has
-
-pub prefixed-new : (rows : List ProductionRow) (kept : List PrefixRow) (p : ProductionRow) (now : PrefixRow) → Prefixed rows kept → IsNew kept now → Takes p now 1 → Prefixed (rows ++ p ∷ []) (put prefix_key now kept)
-prefixed-new rows kept p now old new t =
-    let is : put prefix_key now kept ≡ kept ++ now ∷ [] = put-behind prefix_key 1 kept now old.facts.numbered (omega (arith, new.num)) in
-    subst (λ (l : List PrefixRow). Prefixed (rows ++ p ∷ []) l) (sym is)
-    (record {
-      facts = facts-behind rows kept p now old new t;
-      have = all-behind (has_prefix (kept ++ now ∷ [])) rows p
-          (all-weaker (has_prefix kept) (has_prefix (kept ++ now ∷ [])) rows (λ r h. has-more kept now r h) old.have)
-          (has-it kept [] p now 1 t);
-    })
+-- so the number after it has a writing
+pub next-small : (d : Decisions) (docs : List Seen) (q : Request) → first_refusal d docs q ≡ None
+    → next_number (prefix_row d.prefixes q.prefix.text) + all_numbers (selected docs) ≤ 2 ^ 40
+next-small d docs q e =
+    let first = (both-kept (request_rules d q) (family_rules d docs q ++ taking_rules d docs q) e).0 in
+    let last : last_taken d docs q ≤ largest_of q.prefix.width = last-fits d docs q e in
+    let one : 1 ≤ 10 ^ q.prefix.width = one-le-pow q.prefix.width 10 (omega arith) in
+    let ten : 10 ^ q.prefix.width ≤ 10 ^ 10 = pow-le-pow_right {n = 10} (omega arith) (width_small q.prefix.text q.prefix.width (good-passed d q first)) in
+    omega (arith, last, one, ten)

@@ -18,7 +18,7 @@ use Rattle.bp_matter.specs.declared.rows.PrefixRow.{PrefixRow}
 use Rattle.bp_matter.specs.declared.rows.ProductionRow.{ProductionRow}
 use Rattle.bp_freeze.specs.Numbers.{all_labels, item_numbers, numbers_under, production_labels, production_numbers}
 use Rattle.bp_freeze.specs.Refusals.{prefix_row}
-use Rattle.bp_freeze.proofs.FrozenNumberLemmas.{is-number, none-under, reached-none}
+use Rattle.bp_freeze.proofs.FrozenPrefixLemmas.{is-number, none-under, reached-none}
 use Rattle.bp_freeze.proofs.NumberLemmas.{AreFrom, items-from, nothing-after, productions-from}
 use Rattle.bp_freeze.proofs.PutRowLemmas.{Stands, all-at, all-weaker, find-none, find-passes, find-stands, same-text, text-same}
 

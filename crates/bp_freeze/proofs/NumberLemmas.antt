@@ -12,7 +12,7 @@ use Rattle.bp_matter.specs.declared.rows.PrefixRow.{PrefixRow}
 use Rattle.bp_matter.specs.declared.rows.ProductionRow.{ProductionRow}
 use Rattle.bp_freeze.specs.Numbers.{AreTakenOnce, item_numbers, numbers_under, production_numbers}
 use Rattle.bp_freeze.specs.Refusals.{prefix_row}
-use Rattle.bp_freeze.proofs.FrozenNumberLemmas.{is-number, none-under}
+use Rattle.bp_freeze.proofs.FrozenPrefixLemmas.{is-number, none-under}
 use Rattle.bp_freeze.proofs.PutRowLemmas.{find-none}
 
 -- one range behind another

@@ -1,14 +1,12 @@
 -- That the rows of a document have a writing carries over to its item: `item_written`.
-use Rattle.std.proofs.Common.{◌≡◌, ℕ, ◌+◌, ◌-◌, ◌^◌, ◌<◌, ◌≤◌, Bool, true, false, eqb, leb, ltb, ◌&&◌, List, [], ◌∷◌, length, map, Option, Some, None, refl, sym, ap, subst, ◌∙◌, arith}
+use Rattle.std.proofs.Common.{◌≡◌, ℕ, ◌+◌, ◌-◌, ◌^◌, ◌<◌, ◌≤◌, Bool, true, eqb, leb, ◌&&◌, List, [], ◌∷◌, length, map, Option, Some, None, refl, sym, ap, subst, ◌∙◌, arith}
 use Rattle.std.specs.List.{list_all}
-use Rattle.std.proofs.lemmas.Bool.{and_parts, and_from, eqb-true, leb-true, lt-ltb}
-use Rattle.bp_bates.specs.declared.spans.Span.{Span}
+use Rattle.std.proofs.lemmas.Bool.{and_parts, and_from, leb-true, lt-ltb}
 use Rattle.bp_core.specs.Sorted.{ascends, find_key}
 use Rattle.bp_matter.specs.Confirming.{boxes_on, held_on}
 use Rattle.bp_matter.specs.LookUps.{of_row}
 use Rattle.bp_matter.specs.Matter.{Matter, box_number, call_key, doc_key, entry_key, held_number}
 use Rattle.bp_matter.specs.Valid.{IsValid}
-use Rattle.bp_matter.specs.ValidItems.{held_row_fits}
 use Rattle.bp_matter.specs.ValidMarks.{doc_box_fits, doc_held_fits}
 use Rattle.bp_matter.specs.ValidPages.{inside_page, page_in}
 use Rattle.bp_matter.specs.ValidRows.{names}

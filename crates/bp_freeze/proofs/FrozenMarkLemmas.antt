@@ -29,7 +29,8 @@ use Rattle.bp_matter.specs.declared.rows.State.{State}
 use Rattle.bp_matter.specs.declared.rows.State.TheVariants.{Confirmed, First, Uncalled}
 use Rattle.bp_freeze.specs.Seeing.{numbers_of, seen_in, treatment_of}
 use Rattle.bp_freeze.specs.Selecting.{designation_of, is_confirmed, is_produce, item_of}
-use Rattle.bp_freeze.proofs.FrozenRangeLemmas.{Called, find-all, find-passes, row-at, takes-number}
+use Rattle.bp_freeze.proofs.FrozenRangeLemmas.{Called, row-at, takes-number}
+use Rattle.bp_freeze.proofs.PutRowLemmas.{find-all, find-passes}
 use Rattle.bp_freeze.proofs.RuleLemmas.{any-map}
 
 -- ---- the marks of one document, among those of all

@@ -23,7 +23,8 @@ use Rattle.bp_matter.specs.declared.rows.Item.{Item}
 use Rattle.bp_freeze.specs.Seeing.{decisions_of, numbers_of, parent_of, seen_in, treatment_of}
 use Rattle.bp_freeze.specs.Selecting.{designation_of, item_of}
 use Rattle.bp_freeze.proofs.FrozenMarkLemmas.{marks-pass, marks-rise}
-use Rattle.bp_freeze.proofs.FrozenRangeLemmas.{Called, find-all, row-at, takes-number}
+use Rattle.bp_freeze.proofs.FrozenRangeLemmas.{Called, row-at, takes-number}
+use Rattle.bp_freeze.proofs.PutRowLemmas.{find-all}
 
 -- ---- how many marks a document has
 

@@ -81,6 +81,17 @@ none-found p [] none = refl
 none-found p (row ∷ rows) none =
     let parts = or_parts (p row) (list_any p rows) none in rw parts.0 (none-found p rows parts.1)
 
+-- what is found passes any test of all rows
+pub find-all : {T : Type 0} (p q : T → Bool) (rows : List T) (x : T) → find p rows ≡ Some x → list_all q rows ≡ true → q x ≡ true
+find-all p q [] x e all = absurd cc
+find-all p q (row ∷ rows) x e all =
+    let parts = and_parts (q row) (list_all q rows) all in
+    elim (cases_Bool (p row)) [
+      | inl here ↦ (let same : Some row ≡ Some x = rw here at e in let is : row ≡ x = cc in subst (λ y. q y ≡ true) is parts.0)
+      | inr there ↦ find-all p q rows x (rw there at e) parts.1
+    ]
+
+-- and its own
 pub find-passes : {T : Type 0} (p : T → Bool) (rows : List T) (x : T) → find p rows ≡ Some x → p x ≡ true
 find-passes p [] x e = absurd cc
 find-passes p (row ∷ rows) x e =

@@ -1,14 +1,11 @@
 -- The file of a path among the files of a volume.
-use Rattle.std.proofs.Common.{◌≡◌, ℕ, ◌+◌, ◌-◌, ◌<◌, ◌≤◌, Bool, true, false, cond, List, [], ◌∷◌, ◌++◌, length, map, flat_map, Option, Some, None, Result, refl, sym, ap, ◌∙◌, subst, arith, inl, inr}
+use Rattle.std.proofs.Common.{◌≡◌, ℕ, ◌+◌, ◌<◌, ◌≤◌, Bool, true, false, cond, List, [], ◌∷◌, ◌++◌, length, Option, Some, None, Result, refl, sym, ap, ◌∙◌, subst, inl, inr}
 use Rattle.std.specs.List.{find}
 use Rattle.std.specs.Prelude.{IfOk}
 use Rattle.std.specs.Str.{bytes_eq}
 use Rattle.std.proofs.lemmas.Bool.{cases_Bool}
 use Rattle.bp_outside.specs.Folder.{file}
 use Rattle.bp_outside.specs.declared.files.FileRow.{FileRow}
-use Rattle.bp_core.specs.declared.review.Basis.{Basis}
-use Rattle.bp_core.specs.declared.review.Treatment.{Treatment}
-use Rattle.bp_core.specs.declared.review.Treatment.TheVariants.{Withhold}
 use Rattle.bp_matter.specs.LookUps.{of_row}
 use Rattle.bp_matter.specs.Matter.{Matter}
 use Rattle.bp_matter.specs.declared.rows.Item.{Item}
@@ -16,12 +13,12 @@ use Rattle.bp_matter.specs.declared.rows.Production.{Production}
 use Rattle.bp_matter.specs.declared.rows.Request.{Request}
 use Rattle.bp_freeze.specs.Seeing.{page_count}
 use Rattle.bp_press.specs.Contents.{part_of}
-use Rattle.bp_press.specs.Files.{item_files, text_file}
+use Rattle.bp_press.specs.Files.{item_files}
 use Rattle.bp_press.specs.Manifest.{manifest_of}
 use Rattle.bp_press.specs.Paths.{manifest_path}
-use Rattle.bp_press.specs.Pressing.{CanAllBePlaced, files_from, image_at, images_after, images_in, placed_at}
-use Rattle.bp_press.specs.Volume.{data_files, file_at, files_before, files_of, placed_items, volume_of}
-use Rattle.bp_press.proofs.ItemLemmas.{images_first, images_more, images_none}
+use Rattle.bp_press.specs.Pressing.{CanAllBePlaced, files_from, image_at, images_after, placed_at}
+use Rattle.bp_press.specs.Volume.{file_at, files_before, files_of, placed_items, volume_of}
+use Rattle.bp_press.proofs.ItemLemmas.{images_more, images_none}
 
 -- ---- among two lists
 
@@ -85,9 +82,10 @@ pub record AreSought (path : List ℕ) (q : Request) (m : Matter) (all : List It
   pub so_far : file_at path (files_from q m place rest) ≡ file_at path (files_from q m 0 all)
   pub fit : CanAllBePlaced q m place rest
 
-pub sought_next : (path : List ℕ) (q : Request) (m : Matter) (all : List Item) (place next : ℕ) (rest : List Item) (item : Item) (others : List Item) → rest ≡ item ∷ others
-    → next ≡ place + length (part_of q m item).content.images → None ≡ file_at path (item_files q (placed_at q m item place)) → AreSought path q m all place rest → AreSought path q m all next others
-sought_next path q m all place next rest item others e n none h =
+pub sought_next : (path : List ℕ) (q : Request) (m : Matter) (all : List Item) (place next : ℕ) (rest : List Item) (item : Item) (others : List Item) (o : Option (List ℕ)) → rest ≡ item ∷ others
+    → next ≡ place + length (part_of q m item).content.images → o ≡ None → o ≡ file_at path (item_files q (placed_at q m item place)) → AreSought path q m all place rest → AreSought path q m all next others
+sought_next path q m all place next rest item others o e n is found h =
+    let none = sym is ∙ found in
     let here = subst (λ (r : List Item). AreSought path q m all place r) e h in
     subst (λ k. AreSought path q m all k others) (sym n)
     (record {
@@ -95,11 +93,11 @@ sought_next path q m all place next rest item others e n none h =
       fit = here.fit.1.1;
     })
 
-pub sought_here : (path : List ℕ) (q : Request) (m : Matter) (all : List Item) (place : ℕ) (rest : List Item) (item : Item) (others : List Item) (bytes : List ℕ) → rest ≡ item ∷ others
-    → Some bytes ≡ file_at path (item_files q (placed_at q m item place)) → AreSought path q m all place rest → Some bytes ≡ file_at path (files_from q m 0 all)
-sought_here path q m all place rest item others bytes e found h =
+pub sought_here : (path : List ℕ) (q : Request) (m : Matter) (all : List Item) (place : ℕ) (rest : List Item) (item : Item) (others : List Item) (o : Option (List ℕ)) (bytes : List ℕ) → rest ≡ item ∷ others
+    → o ≡ Some bytes → o ≡ file_at path (item_files q (placed_at q m item place)) → AreSought path q m all place rest → Some bytes ≡ file_at path (files_from q m 0 all)
+sought_here path q m all place rest item others o bytes e is found h =
     let here = subst (λ (r : List Item). AreSought path q m all place r) e h in
-    earlier path (item_files q (placed_at q m item place)) (files_from q m (place + length (part_of q m item).content.images) others) bytes found ∙ here.so_far
+    earlier path (item_files q (placed_at q m item place)) (files_from q m (place + length (part_of q m item).content.images) others) bytes (sym is ∙ found) ∙ here.so_far
 
 -- ---- the whole volume
 

@@ -202,13 +202,7 @@ fn next_file(
 }
 
 // How many images the next item has.
-fn next_count(
-    tables: &Tables,
-    request: &Request,
-    item: &Item,
-    others: &[Item],
-    place: u64,
-) -> u32
+fn next_count(tables: &Tables, request: &Request, item: &Item, others: &[Item], place: u64) -> u32
     requires { CanAllBePlaced request.now tables.now.matter place (item.now ∷ others.now) }
     ensures { result ≡ length (part_of request.now tables.now.matter item.now).content.images }
 {

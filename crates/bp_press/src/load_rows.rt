@@ -87,9 +87,7 @@ pub(crate) fn add_opt_lines(
 {
     let mut page = 0;
     while page < count {
-        lines.push(opt_line(
-            alloc, tables, request, item, place, count, page,
-        )?)?;
+        lines.push(opt_line(alloc, tables, request, item, place, count, page)?)?;
         page += 1;
     }
     Ok(())
@@ -170,13 +168,7 @@ fn add_facts(
     row.push(number_text(alloc, label_count(item))?)?;
     row.push(item.designation.clone()?)?;
     row.push(optional_code(alloc, ground_of(item.treatment))?)?;
-    row.push(text_path(
-        alloc,
-        '\\',
-        request,
-        place,
-        item.span.first,
-    )?)?;
+    row.push(text_path(alloc, '\\', request, place, item.span.first)?)?;
     Ok(())
 }
 

@@ -407,7 +407,7 @@ fn find_file(
 }
 
 /// The bytes of the file of that path in the volume of a production of these tables, or NoFile
-/// exactly where the volume has no file of that path. No file is made but the one that is asked for,
+/// exactly where the volume has no file of that path. No file is made but the one that is asked,
 /// and for the manifest those that it digests.
 ///
 ///     let bytes = file_of(alloc, &tables, &production, &path)?;

@@ -132,10 +132,10 @@ fn add_labels(
 }
 
 // The code of a ground, if there is one.
-fn optional_code(alloc: Global, ground: Option<Basis>) -> Result<Text, OutOfMemory>
-    ensures { IfOk result (λ text. text ≡ optional_code ground) }
+fn optional_code(alloc: Global, claimed: Option<Basis>) -> Result<Text, OutOfMemory>
+    ensures { IfOk result (λ text. text ≡ optional_code claimed) }
 {
-    match ground {
+    match claimed {
         Some(basis) => code_text(alloc, basis),
         None => Ok(empty_text(alloc)),
     }

@@ -1,7 +1,5 @@
 -- The characters of the names, labels, paths and values of a volume can be written in load files and drawn.
-use Rattle.std.proofs.Common.{◌≡◌, ℕ, zero, suc, ◌+◌, ◌/◌, ◌%◌, ◌^◌, ◌<◌, ◌≤◌, ◌==◌, ◌&&◌, ◌||◌, not, Bool, true, List, [], ◌∷◌, ◌++◌, length, map, get_or, nat_lt, nat_le, refl, sym, ap, ◌∙◌, arith, inl, inr, length-append}
-use Rattle.std.specs.Prelude.{codes}
-use Rattle.std.specs.Char.{is_ascii_digit}
+use Rattle.std.proofs.Common.{◌≡◌, ℕ, zero, suc, ◌+◌, ◌/◌, ◌%◌, ◌^◌, ◌<◌, ◌≤◌, ◌==◌, ◌&&◌, ◌||◌, not, Bool, true, List, [], ◌∷◌, ◌++◌, length, nat_lt, nat_le, refl, sym, ap, ◌∙◌, arith, inl, inr, length-append}
 use Rattle.std.specs.Fmt.{decimal}
 use Rattle.std.specs.List.{list_all, range_with_len, join_with_byte}
 use Rattle.std.proofs.lemmas.Bool.{and_parts, and_from, cases_lt, false≢true, or_cases, ltb-true}
@@ -9,9 +7,9 @@ use Rattle.std.proofs.lemmas.Bool.Decides.{nat_tests}
 use Rattle.std.proofs.lemmas.List.Folds.{list_all-append}
 use Rattle.std.proofs.lemmas.Fmt.{decimal_by_steps}
 use Rattle.bp_codes.specs.Glyphs.{glyph_rows}
-use Rattle.bp_burn.specs.Drawn.{has_glyph, has_glyphs}
+use Rattle.bp_burn.specs.Drawn.{has_glyph}
 use Rattle.bp_bates.specs.Labels.{label_of, padded}
-use Rattle.bp_bates.specs.Prefixes.{is_allowed, is_digit, is_good_prefix, is_good_text}
+use Rattle.bp_bates.specs.Prefixes.{is_allowed, is_digit, is_good_prefix}
 use Rattle.bp_bates.proofs.PrefixLemmas.{IsGood-from_test}
 use Rattle.bp_load.specs.Dat.{is_cell, is_cell_character, is_name}
 use Rattle.bp_load.specs.Opt.{is_field, is_field_character}

@@ -1,5 +1,5 @@
 -- The files of a volume in two parts, those of items and those of all items, and then the manifest.
-use Rattle.std.proofs.Common.{◌≡◌, ℕ, suc, ◌+◌, List, [], ◌∷◌, ◌++◌, length, map, flat_map, refl, sym, ap, subst, ◌∙◌, arith, append_assoc, append-nil, length-append}
+use Rattle.std.proofs.Common.{◌≡◌, ℕ, suc, ◌+◌, List, [], ◌∷◌, ◌++◌, length, flat_map, refl, sym, ap, subst, ◌∙◌, arith, append_assoc, append-nil, length-append}
 use Rattle.std.proofs.lemmas.List.Concat.{flat_map-append}
 use Rattle.sha2.specs.Sha256.{sha256}
 use Rattle.bp_rows.specs.Image.{Image}
@@ -12,7 +12,7 @@ use Rattle.bp_matter.specs.declared.rows.Production.{Production}
 use Rattle.bp_matter.specs.declared.rows.Request.{Request}
 use Rattle.bp_press.specs.declared.pressing.Pressed.{Pressed}
 use Rattle.bp_press.specs.Contents.{part_of}
-use Rattle.bp_press.specs.Files.{image_files, item_files, text_file}
+use Rattle.bp_press.specs.Files.{image_files, text_file}
 use Rattle.bp_press.specs.Manifest.{manifest_line, manifest_of}
 use Rattle.bp_press.specs.Paths.{manifest_path}
 use Rattle.bp_press.specs.Pressed.{last_bytes, pressed_of}
@@ -91,8 +91,13 @@ length-files q m place [] = refl
 length-files q m place (i ∷ items) =
     let own : List FileRow = images_in q (placed_at q m i place) in
     let rest : List FileRow = files_from q m (place + length (part_of q m i).content.images) items in
-    omega (arith, length-append (own ++ text_file q (placed_at q m i place) ∷ []) rest, length-append own (text_file q (placed_at q m i place) ∷ []),
-    length-image_files q place i.span.first (part_of q m i).content.images, length-files q m (place + length (part_of q m i).content.images) items)
+    omega (
+      arith,
+      length-append (own ++ text_file q (placed_at q m i place) ∷ []) rest,
+      length-append own (text_file q (placed_at q m i place) ∷ []),
+      length-image_files q place i.span.first (part_of q m i).content.images,
+      length-files q m (place + length (part_of q m i).content.images) items,
+    )
 
 volume-length : (f : Production) (m : Matter) → length (volume_of f m) ≡ image_total f.request m f.items + length f.items + 4
 volume-length f m =

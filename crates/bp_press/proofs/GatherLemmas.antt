@@ -1,16 +1,16 @@
 -- Rows and lines as they are gathered item by item: those so far, with those to come, are all.
-use Rattle.std.proofs.Common.{◌≡◌, ℕ, zero, suc, ◌+◌, ◌-◌, ◌^◌, ◌<◌, ◌≤◌, List, [], ◌∷◌, ◌++◌, length, map, flat_map, All, Result, refl, sym, ap, ◌∙◌, subst, arith, append_assoc, append-nil}
+use Rattle.std.proofs.Common.{◌≡◌, ℕ, suc, ◌+◌, ◌-◌, ◌<◌, List, [], ◌∷◌, ◌++◌, length, map, flat_map, All, sym, ap, ◌∙◌, subst, arith, append_assoc}
 use Rattle.std.specs.List.{range_with_len}
 use Rattle.bp_load.specs.declared.opt.OptLine.{OptLine}
 use Rattle.bp_matter.specs.Matter.{Matter}
 use Rattle.bp_matter.specs.declared.rows.Item.{Item}
 use Rattle.bp_matter.specs.declared.rows.Production.{Production}
 use Rattle.bp_matter.specs.declared.rows.Request.{Request}
-use Rattle.bp_press.specs.Contents.{ground_of, part_of}
+use Rattle.bp_press.specs.Contents.{part_of}
 use Rattle.bp_press.specs.Files.{placed}
 use Rattle.bp_press.specs.LoadFiles.{dat_row, opt_lines}
 use Rattle.bp_press.specs.Needs.{CanBeListed, IsInFamily}
-use Rattle.bp_press.specs.Pressing.{AreLabels, CanAllBePlaced, CanBePlaced, count_by, placed_at}
+use Rattle.bp_press.specs.Pressing.{AreLabels, CanAllBePlaced, CanBePlaced, placed_at}
 use Rattle.bp_press.proofs.FamilyLemmas.{all-others}
 use Rattle.bp_press.proofs.PlacedLemmas.{image_count-part}
 

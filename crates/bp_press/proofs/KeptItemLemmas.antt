@@ -1,12 +1,10 @@
 -- What a valid matter says of the items of a production that it keeps: their labels, their documents and their pages.
-use Rattle.std.proofs.Common.{◌≡◌, ℕ, zero, suc, ◌+◌, ◌-◌, ◌*◌, ◌^◌, ◌≤◌, ◌<◌, ◌&&◌, ◌||◌, Bool, true, List, [], ◌∷◌, length, map, drop, get_or, All, Option, Some, None, nat_le, refl, ap, sym, ◌∙◌, subst, arith, eqb, inl, inr}
-use Rattle.std.specs.List.{find, list_all, list_any}
+use Rattle.std.proofs.Common.{◌≡◌, ℕ, zero, suc, ◌+◌, ◌≤◌, ◌&&◌, ◌||◌, Bool, true, List, [], ◌∷◌, length, drop, get_or, All, Option, Some, None, nat_le, refl, ap, sym, ◌∙◌, subst, arith, eqb, inl, inr}
+use Rattle.std.specs.List.{find, list_all}
 use Rattle.std.specs.Str.{bytes_eq}
 use Rattle.std.proofs.lemmas.Bool.{and_parts, cases_Bool, eqb-true, leb-true, or_cases}
 use Rattle.std.proofs.lemmas.Slice.Eq.{bytes_eq-Decides}
 use Rattle.bp_core.specs.Sorted.{find_key, two_keys}
-use Rattle.bp_core.specs.declared.review.Treatment.{Treatment}
-use Rattle.bp_core.specs.declared.review.Treatment.TheVariants.{Produce, Redact, Withhold}
 use Rattle.bp_bates.specs.Prefixes.{is_good_prefix}
 use Rattle.bp_bates.specs.Spans.{largest_of}
 use Rattle.bp_matter.specs.LookUps.{of_row}
@@ -18,7 +16,7 @@ use Rattle.bp_matter.specs.ValidItems.{are_whole, due_after, is_due, item_fits, 
 use Rattle.bp_matter.specs.ValidPages.{are_paged, has_rows}
 use Rattle.bp_matter.specs.ValidPrefixes.{after_productions, is_under, prefix_fits, spans_reach}
 use Rattle.bp_matter.specs.ValidProductions.{has_prefix, production_fits}
-use Rattle.bp_matter.specs.ValidRows.{is_numbered, names}
+use Rattle.bp_matter.specs.ValidRows.{is_numbered}
 use Rattle.bp_matter.specs.declared.rows.DocRow.{DocRow}
 use Rattle.bp_matter.specs.declared.rows.Item.{Item}
 use Rattle.bp_matter.specs.declared.rows.PrefixRow.{PrefixRow}
@@ -212,8 +210,12 @@ whole_few m due low (i ∷ items) whole stand l =
     let parts = and_parts _ (are_whole m.docs (due_after (find_key doc_key (i.doc.0 + 1) m.docs) i) (i.doc.0 + 1) items) whole in
     let low_is = and_parts (nat_le low i.doc.0) (is_due due i) parts.0 in
     let here = stand 0 i (omega arith) in
-    omega (arith, leb-true low i.doc.0 low_is.0, here.there,
-    whole_few m (due_after (find_key doc_key (i.doc.0 + 1) m.docs) i) (i.doc.0 + 1) items parts.1 (λ k d b. stand (suc k) d (omega arith)) (omega (arith, here.there)))
+    omega (
+      arith,
+      leb-true low i.doc.0 low_is.0,
+      here.there,
+      whole_few m (due_after (find_key doc_key (i.doc.0 + 1) m.docs) i) (i.doc.0 + 1) items parts.1 (λ k d b. stand (suc k) d (omega arith)) (omega (arith, here.there)),
+    )
 
 pub items-few : (m : Matter) → IsValid m → (f : Production) → Keeps m f → length f.items ≤ length m.docs
 items-few m valid f keeps =

@@ -3,6 +3,7 @@ pub mod ContentLemmas
 pub mod DataLemmas
 mod Examples
 pub mod FamilyLemmas
+pub mod FindLemmas
 pub mod GatherLemmas
 pub mod GrowLemmas
 pub mod ItemLemmas

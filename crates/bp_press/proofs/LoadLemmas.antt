@@ -1,29 +1,21 @@
 -- The load files of a production that a valid matter keeps can be written.
-use Rattle.std.proofs.Common.{◌≡◌, ℕ, zero, suc, ◌+◌, ◌-◌, ◌*◌, ◌/◌, ◌^◌, ◌≤◌, ◌<◌, ◌==◌, ◌&&◌, not, Bool, true, List, [], ◌∷◌, ◌++◌, length, map, flat_map, get_or, All, Option, Some, None, nat_le, cond, refl, ap, sym, ◌∙◌, subst, arith, length-append, inl, inr}
+use Rattle.std.proofs.Common.{◌≡◌, ℕ, zero, suc, ◌+◌, ◌-◌, ◌/◌, ◌^◌, ◌<◌, Bool, true, List, [], ◌∷◌, ◌++◌, length, map, get_or, Option, Some, None, refl, ap, sym, ◌∙◌}
 use Rattle.std.specs.Prelude.{codes, slice_index_or, unwrap_or}
-use Rattle.std.specs.Char.{is_ascii_digit}
 use Rattle.std.specs.Fmt.{decimal}
-use Rattle.std.specs.List.{find, list_all, list_any, range_with_len}
+use Rattle.std.specs.List.{list_all}
 use Rattle.std.specs.Str.{bytes_eq}
-use Rattle.std.proofs.lemmas.Bool.{and_from, and_parts, cases_Bool, leb-true}
-use Rattle.std.proofs.lemmas.Bool.Decides.{nat_tests}
-use Rattle.std.proofs.lemmas.Fmt.{length-decimal-le}
+use Rattle.std.proofs.lemmas.Bool.{and_from, and_parts}
+use Rattle.std.proofs.lemmas.List.Sums.{list_all-from_AllPass}
 use Rattle.std.proofs.lemmas.Slice.Eq.{bytes_eq-Decides}
 use Rattle.bp_core.specs.Characters.{reverse_solidus}
 use Rattle.bp_core.specs.Review.{basis_code}
-use Rattle.bp_core.specs.Sorted.{find_key}
 use Rattle.bp_core.specs.declared.review.Basis.{Basis}
 use Rattle.bp_core.specs.declared.review.Basis.TheVariants.{Ac, Wp, Pi, Ts}
-use Rattle.bp_core.specs.declared.review.Treatment.{Treatment}
-use Rattle.bp_bates.specs.Labels.{padded}
 use Rattle.bp_bates.specs.Prefixes.{is_digit}
-use Rattle.bp_load.specs.Dat.{is_cell, is_name, is_writable}
-use Rattle.bp_load.specs.Opt.{are_opt_lines, is_field, is_opt_line, is_page_count}
-use Rattle.bp_load.specs.Table.{Table, is_even}
-use Rattle.bp_load.specs.declared.opt.OptLine.{OptLine}
-use Rattle.bp_matter.specs.LookUps.{doc_with, of_row}
-use Rattle.bp_matter.specs.Matter.{Matter, doc_key}
-use Rattle.bp_matter.specs.Texts.{columns, is_designation_character, is_field_name, is_value, is_volume, is_volume_character}
+use Rattle.bp_load.specs.Dat.{is_cell, is_name}
+use Rattle.bp_matter.specs.LookUps.{of_row}
+use Rattle.bp_matter.specs.Matter.{Matter}
+use Rattle.bp_matter.specs.Texts.{is_designation_character, is_value, is_volume, is_volume_character}
 use Rattle.bp_matter.specs.Valid.{IsValid}
 use Rattle.bp_matter.specs.ValidFields.{field_fits, has_field}
 use Rattle.bp_matter.specs.ValidProductions.{production_fits, request_fits}
@@ -37,15 +29,13 @@ use Rattle.bp_freeze.specs.Agree.{field_number, held_for, value_in}
 use Rattle.bp_freeze.specs.Keeping.{Keeps}
 use Rattle.bp_freeze.specs.Log.{label_in}
 use Rattle.bp_freeze.specs.Selecting.{first_number, last_number}
-use Rattle.bp_press.specs.Contents.{content_by, ground_of, held_text, part_of, value_by, value_shown, value_unless}
-use Rattle.bp_press.specs.Files.{Placed, placed}
-use Rattle.bp_press.specs.LoadFiles.{dat_row, family_of, label_count, opt_line, opt_lines, optional_code, own_values}
+use Rattle.bp_press.specs.Contents.{content_by, ground_of, held_text, value_by, value_shown, value_unless}
+use Rattle.bp_press.specs.Files.{Placed}
+use Rattle.bp_press.specs.LoadFiles.{family_of, label_count, optional_code, own_values}
 use Rattle.bp_press.specs.Paths.{folder_of, image_path, text_path}
-use Rattle.bp_press.specs.Pressing.{count_by, placed_at}
-use Rattle.bp_press.proofs.CharacterLemmas.{all-append, all-wider, cell_clean, cell_value, clean-designation, clean-digit, clean-volume, decimal_digits, field_clean, four_clean, is_clean, label_clean, label_some, name_field, padded_digits}
-use Rattle.bp_press.proofs.KeptItemLemmas.{ItemStands, KeptNumbers, found_passes, is_row_of, items-stand, kept-numbers, kept-row}
-use Rattle.bp_press.proofs.KeptPageLemmas.{all_at, finds, kept-fields, passes}
-use Rattle.bp_press.proofs.PlacedLemmas.{CountFits, count_fits, image_count-part}
+use Rattle.bp_press.proofs.CharacterLemmas.{all-append, all-wider, cell_clean, clean-designation, clean-digit, clean-volume, decimal_digits, four_clean, is_clean, label_clean, name_field, padded_digits}
+use Rattle.bp_press.proofs.KeptItemLemmas.{ItemStands, KeptNumbers, found_passes, is_row_of, kept-row}
+use Rattle.bp_press.proofs.KeptPageLemmas.{finds, kept-fields, passes}
 
 -- ---- the request
 
@@ -66,10 +56,6 @@ field_named m valid name has =
     let same : row.0.name ≡ name = (bytes_eq-Decides row.0.name name).0 (found_passes test m.fields row.0 row.1) in
     ap is_name (sym same) ∙ name_field row.0.name (passes test field_fits m.fields row.0 row.1 valid.fields.fit)
 
-all_from : {T : Type 0} (test : T → Bool) (xs : List T) → All (λ x. test x ≡ true) xs → list_all test xs ≡ true
-all_from test [] h = refl
-all_from test (x ∷ xs) h = and_from (test x) (list_all test xs) (h 0 x (omega arith)) (all_from test xs (λ k d l. h (suc k) d (omega arith)))
-
 pub kept-request : (m : Matter) → IsValid m → (f : Production) → Keeps m f → RequestWrites f.request
 kept-request m valid f keeps =
     let kept = kept-row m f keeps in
@@ -83,7 +69,7 @@ kept-request m valid f keeps =
     let e = and_parts _ (is_volume kept.row.production.request.volume) d.0 in
     record {
       volume = volume_clean f.request.volume (sym (ap (λ (g : Production). is_volume g.request.volume) kept.same) ∙ e.1);
-      fields = all_from is_name f.request.fields (λ k d l. field_named m valid (get_or f.request.fields k d) (kept-fields m valid f keeps k d l));
+      fields = list_all-from_AllPass is_name f.request.fields (λ k d l. field_named m valid (get_or f.request.fields k d) (kept-fields m valid f keeps k d l));
     }
 
 -- ---- paths

@@ -1,10 +1,9 @@
 -- The rows of the DAT and the lines of the OPT of a production that a valid matter keeps can be written.
-use Rattle.std.proofs.Common.{◌≡◌, ℕ, zero, suc, ◌+◌, ◌-◌, ◌*◌, ◌^◌, ◌≤◌, ◌<◌, ◌==◌, ◌&&◌, not, Bool, true, false, List, [], ◌∷◌, ◌++◌, length, map, flat_map, get_or, All, Option, Some, None, nat_le, cond, refl, ap, sym, ◌∙◌, subst, arith, length-append, inl, inr, eqb}
-use Rattle.std.specs.Prelude.{codes}
+use Rattle.std.proofs.Common.{◌≡◌, ℕ, zero, suc, ◌+◌, ◌^◌, ◌≤◌, ◌<◌, ◌==◌, not, Bool, true, List, [], ◌∷◌, ◌++◌, length, map, flat_map, get_or, All, Option, Some, None, nat_le, cond, refl, ap, sym, ◌∙◌, arith, length-append, inl, inr, eqb}
 use Rattle.std.specs.Char.{is_ascii_digit}
 use Rattle.std.specs.Fmt.{decimal}
 use Rattle.std.specs.List.{list_all, range_with_len}
-use Rattle.std.proofs.lemmas.Bool.{and_from, cases_Bool, eq-eqb, leb-true}
+use Rattle.std.proofs.lemmas.Bool.{and_from, cases_Bool, eq-eqb}
 use Rattle.std.proofs.lemmas.Bool.Decides.{nat_tests}
 use Rattle.std.proofs.lemmas.Fmt.{length-decimal-le}
 use Rattle.bp_core.specs.Characters.{reverse_solidus}
@@ -12,8 +11,7 @@ use Rattle.bp_core.specs.declared.review.Basis.{Basis}
 use Rattle.bp_bates.specs.Prefixes.{is_digit}
 use Rattle.bp_load.specs.Dat.{is_cell, is_name, is_writable}
 use Rattle.bp_load.specs.Opt.{are_opt_lines, is_field, is_opt_line, is_page_count}
-use Rattle.bp_load.specs.Table.{Table, is_even}
-use Rattle.bp_load.specs.declared.opt.OptLine.{OptLine}
+use Rattle.bp_load.specs.Table.{is_even}
 use Rattle.bp_matter.specs.Matter.{Matter}
 use Rattle.bp_matter.specs.Texts.{columns}
 use Rattle.bp_matter.specs.Valid.{IsValid}
@@ -26,7 +24,7 @@ use Rattle.bp_press.specs.Contents.{content_by, ground_of, part_of, value_shown}
 use Rattle.bp_press.specs.Files.{Placed, placed}
 use Rattle.bp_press.specs.LoadFiles.{dat_row, dat_table, label_count, opt_line, opt_lines, own_values}
 use Rattle.bp_press.specs.Paths.{image_path}
-use Rattle.bp_press.specs.Pressing.{count_by, placed_at}
+use Rattle.bp_press.specs.Pressing.{placed_at}
 use Rattle.bp_press.specs.Volume.{placed_items}
 use Rattle.bp_press.proofs.CharacterLemmas.{all-append, all-wider, clean-digit, decimal_digits, field_clean, is_clean, label_clean, label_some}
 use Rattle.bp_press.proofs.KeptItemLemmas.{ItemStands, KeptNumbers, items-stand, kept-numbers}

@@ -1,5 +1,5 @@
 -- What writing the files of a production needs is given by a valid matter that keeps it.
-use Rattle.std.proofs.Common.{◌≡◌, ℕ, zero, suc, ◌+◌, ◌-◌, ◌*◌, ◌^◌, ◌≤◌, ◌<◌, ◌&&◌, ◌||◌, not, Bool, true, List, [], ◌∷◌, ◌++◌, length, map, get_or, All, Option, Some, None, nat_le, is_none, refl, ap, sym, ◌∙◌, subst, arith, length-append}
+use Rattle.std.proofs.Common.{◌≡◌, ℕ, suc, ◌+◌, ◌*◌, ◌≤◌, ◌||◌, not, true, List, [], ◌∷◌, length, get_or, All, Option, Some, None, nat_le, is_none, refl, ap, ◌∙◌, arith}
 use Rattle.std.specs.List.{list_all}
 use Rattle.std.proofs.lemmas.Bool.{and_from, and_parts, leb-true}
 use Rattle.std.proofs.lemmas.Bool.Decides.{nat_tests}
@@ -8,12 +8,9 @@ use Rattle.std.proofs.lemmas.List.Sums.{list_all-from_AllPass}
 use Rattle.bp_core.specs.declared.review.Basis.{Basis}
 use Rattle.bp_core.specs.declared.review.Treatment.{Treatment}
 use Rattle.bp_core.specs.declared.review.Treatment.TheVariants.{Produce, Redact, Withhold}
-use Rattle.bp_rows.specs.Image.{Image}
-use Rattle.bp_bates.specs.Labels.{label_of}
 use Rattle.bp_bates.specs.Spans.{largest_of}
 use Rattle.bp_burn.specs.Drawn.{has_glyph}
 use Rattle.bp_bates.specs.Prefixes.{is_allowed}
-use Rattle.bp_outside.specs.declared.files.FileRow.{FileRow}
 use Rattle.bp_matter.specs.Matter.{Matter}
 use Rattle.bp_matter.specs.Texts.{is_designation_character}
 use Rattle.bp_matter.specs.Valid.{IsValid}
@@ -105,9 +102,14 @@ image_count-part q m i = images_counted q m i (ground_of i.treatment)
 all_placed : (q : Request) (m : Matter) (place : ℕ) (items : List Item) → All (CanBePlaced q m) items → All (CountFits m) items → place + 20000 * length items ≤ 20000 * 10000 → CanAllBePlaced q m place items
 all_placed q m place [] placed fit few = tt
 all_placed q m place (i ∷ items) placed fit few =
-    let one = fit 0 i (omega arith) in
-    (placed 0 i (omega arith), (omega arith, all_placed q m (place + length (part_of q m i).content.images) items (λ k d l. placed (suc k) d (omega arith)) (λ k d l. fit (suc k) d (omega arith))
-    (omega (arith, one.few, image_count-part q m i))))
+    let one = fit 0 i (omega arith) in (
+      placed 0 i (omega arith),
+      (
+        omega arith,
+        all_placed q m (place + length (part_of q m i).content.images) items (λ k d l. placed (suc k) d (omega arith)) (λ k d l. fit (suc k) d (omega arith))
+            (omega (arith, one.few, image_count-part q m i)),
+      ),
+    )
 
 pub kept-placed : (m : Matter) → IsValid m → (f : Production) → Keeps m f → CanAllBePlaced f.request m 0 f.items
 kept-placed m valid f kept =

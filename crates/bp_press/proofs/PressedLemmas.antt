@@ -1,16 +1,14 @@
 -- The volume of a production that a valid matter keeps can be pressed.
-use Rattle.std.proofs.Common.{◌≡◌, ℕ, zero, suc, ◌+◌, ◌*◌, ◌^◌, ◌≤◌, ◌<◌, true, List, [], ◌∷◌, length, get_or, All, refl, sym, ap, ◌∙◌, arith, eqb}
+use Rattle.std.proofs.Common.{◌≡◌, ℕ, suc, ◌*◌, ◌≤◌, ◌<◌, true, List, [], ◌∷◌, length, get_or, All, refl, arith}
 use Rattle.std.specs.List.{list_any}
 use Rattle.std.proofs.lemmas.Bool.{eq-eqb, leb-true}
 use Rattle.std.proofs.lemmas.List.Folds.{list_any_at}
-use Rattle.bp_bates.specs.Spans.{largest_of}
 use Rattle.bp_matter.specs.Matter.{Matter}
 use Rattle.bp_matter.specs.Valid.{IsValid}
 use Rattle.bp_matter.specs.declared.rows.Item.{Item}
 use Rattle.bp_matter.specs.declared.rows.Production.{Production}
 use Rattle.bp_matter.specs.declared.rows.Request.{Request}
 use Rattle.bp_freeze.specs.Keeping.{Keeps}
-use Rattle.bp_press.specs.Contents.{part_of}
 use Rattle.bp_press.specs.Needs.{CanBeListed, CanBePressed, IsLabelled}
 use Rattle.bp_press.specs.Pressing.{image_total}
 use Rattle.bp_press.proofs.FamilyLemmas.{LiesBelow, family-first, family-last, is_of}

@@ -1,7 +1,6 @@
 -- The numbers of the items of a production that a valid matter keeps.
-use Rattle.std.proofs.Common.{◌≡◌, ℕ, suc, zero, ◌+◌, ◌<◌, ◌≤◌, ◌==◌, ◌&&◌, Bool, true, false, cond, List, [], ◌∷◌, All, Option, Some, None, nat_le, refl, sym, ap, ◌∙◌, subst, arith, inl, inr, eqb, leb}
-use Rattle.std.specs.List.{find, list_all, list_any}
-use Rattle.std.specs.Str.{bytes_eq}
+use Rattle.std.proofs.Common.{◌≡◌, ℕ, suc, zero, ◌+◌, ◌≤◌, ◌&&◌, Bool, true, cond, List, [], ◌∷◌, All, Option, Some, None, nat_le, refl, sym, ap, ◌∙◌, subst, arith, inl, inr, eqb}
+use Rattle.std.specs.List.{find}
 use Rattle.std.proofs.lemmas.Bool.{and_parts, cases_Bool, eqb-true, leb-true}
 use Rattle.bp_matter.specs.ValidPrefixes.{after_items, after_productions, is_number, is_under}
 use Rattle.bp_matter.specs.declared.rows.Item.{Item}

@@ -1,5 +1,5 @@
 -- The items whose files are still to be written.
-use Rattle.std.proofs.Common.{◌≡◌, ℕ, ◌+◌, List, [], ◌∷◌, ◌++◌, length, map, flat_map, refl, sym, ap, subst, ◌∙◌, arith, add_assoc, append_assoc, append-nil, zero-add}
+use Rattle.std.proofs.Common.{◌≡◌, ℕ, ◌+◌, List, [], ◌∷◌, ◌++◌, length, map, flat_map, refl, sym, ap, subst, ◌∙◌, arith, add_assoc, append-nil, zero-add}
 use Rattle.std.proofs.lemmas.List.Concat.{flat_map-append}
 use Rattle.std.proofs.lemmas.List.FromFn.{length-map-range_with_len}
 use Rattle.bp_outside.specs.Folder.{FolderView}
@@ -14,6 +14,7 @@ use Rattle.bp_press.specs.Files.{item_files}
 use Rattle.bp_press.specs.Manifest.{manifest_line}
 use Rattle.bp_press.specs.Pressing.{CanAllBePlaced, files_from, image_total, placed_at}
 use Rattle.bp_press.specs.Writing.{ToCome, AddsAll, LeavesCut}
+use Rattle.bp_press.proofs.GatherLemmas.{onto}
 use Rattle.bp_press.proofs.WritingLemmas.{come_all, come_next, come_end, come_cut}
 
 pub image_count : (q : Request) (m : Matter) (item : Item) → length (map (produced_page q m item) (pages_of m item.doc.0)) ≡ page_count m item.doc.0
@@ -31,9 +32,6 @@ pub record AreItemsAfter (q : Request) (m : Matter) (all : List Item) (place : �
 
 pub items_begin : (q : Request) (m : Matter) (all : List Item) (before : FolderView) (old : List ℕ) → CanAllBePlaced q m 0 all → AreItemsAfter q m all 0 all before before old old
 items_begin q m all before old fit = record { files = come_all before (files_from q m 0 all); lines = refl; fit = fit; images = zero-add (image_total q m all) }
-
-onto : (xs ys zs rest all : List ℕ) → ys ≡ xs ++ zs → xs ++ (zs ++ rest) ≡ all → ys ++ rest ≡ all
-onto xs ys zs rest all e h = ap (λ x. x ++ rest) e ∙ append_assoc xs zs rest ∙ h
 
 items_step : (q : Request) (m : Matter) (all : List Item) (place : ℕ) (item : Item) (others : List Item) (before folder after : FolderView) (old new newer : List ℕ)
     → AreItemsAfter q m all place (item ∷ others) before folder old new

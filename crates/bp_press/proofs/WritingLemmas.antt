@@ -5,7 +5,7 @@ use Rattle.bp_outside.specs.Folder.{FolderView, file, after_refusal, with_file, 
 use Rattle.bp_outside.specs.declared.files.FileRow.{FileRow}
 use Rattle.bp_outside.specs.declared.refusals.FolderRefusal.{FolderRefusal}
 use Rattle.bp_outside.specs.declared.refusals.FolderRefusal.TheVariants.{Failed, OutOfMemory}
-use Rattle.bp_press.specs.Writing.{with_files, AddsPart, AddsAll, LeavesCut, ToCome}
+use Rattle.bp_press.specs.Writing.{with_files, AddsAll, LeavesCut, ToCome}
 
 pub with_files-append : (folder : FolderView) (xs ys : List FileRow) → with_files folder (xs ++ ys) ≡ with_files (with_files folder xs) ys
 with_files-append folder [] ys = refl

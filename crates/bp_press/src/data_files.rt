@@ -27,13 +27,16 @@ fn add_dat<F: Folder>(
     manifest: &mut Vec<u8>,
 ) -> Result<(), FolderRefusal>
     requires { CanBePressed production.now tables.now.matter }
-    ensures files { let row = dat_file production.now (placed_items production.now tables.now.matter)
-        in OnOk result (AddsAll (F.shows folder.old) (row ∷ []) (F.shows folder.new)) }
-    ensures cut { let row = dat_file production.now (placed_items production.now tables.now.matter)
-        in IfErr result (λ refusal.
+    ensures files { let f = production.now in
+        let row = dat_file f (placed_items f tables.now.matter) in
+        OnOk result (AddsAll (F.shows folder.old) (row ∷ []) (F.shows folder.new)) }
+    ensures cut { let f = production.now in
+        let row = dat_file f (placed_items f tables.now.matter) in
+        IfErr result (λ refusal.
         LeavesCut (F.shows folder.old) (row ∷ []) refusal (F.shows folder.new)) }
-    ensures lines { let row = dat_file production.now (placed_items production.now tables.now.matter)
-        in OnOk result (manifest.new.items ≡ manifest.old.items ++ manifest_line row) }
+    ensures lines { let f = production.now in
+        let row = dat_file f (placed_items f tables.now.matter) in
+        OnOk result (manifest.new.items ≡ manifest.old.items ++ manifest_line row) }
 {
     let bytes = dat_bytes(alloc, tables, production)?;
     let path = data_path(alloc, &production.request, ".DAT")?;
@@ -50,13 +53,16 @@ fn add_opt<F: Folder>(
     manifest: &mut Vec<u8>,
 ) -> Result<(), FolderRefusal>
     requires { CanBePressed production.now tables.now.matter }
-    ensures files { let row = opt_file production.now (placed_items production.now tables.now.matter)
-        in OnOk result (AddsAll (F.shows folder.old) (row ∷ []) (F.shows folder.new)) }
-    ensures cut { let row = opt_file production.now (placed_items production.now tables.now.matter)
-        in IfErr result (λ refusal.
+    ensures files { let f = production.now in
+        let row = opt_file f (placed_items f tables.now.matter) in
+        OnOk result (AddsAll (F.shows folder.old) (row ∷ []) (F.shows folder.new)) }
+    ensures cut { let f = production.now in
+        let row = opt_file f (placed_items f tables.now.matter) in
+        IfErr result (λ refusal.
         LeavesCut (F.shows folder.old) (row ∷ []) refusal (F.shows folder.new)) }
-    ensures lines { let row = opt_file production.now (placed_items production.now tables.now.matter)
-        in OnOk result (manifest.new.items ≡ manifest.old.items ++ manifest_line row) }
+    ensures lines { let f = production.now in
+        let row = opt_file f (placed_items f tables.now.matter) in
+        OnOk result (manifest.new.items ≡ manifest.old.items ++ manifest_line row) }
 {
     let bytes = opt_bytes(alloc, tables, production)?;
     let path = data_path(alloc, &production.request, ".OPT")?;

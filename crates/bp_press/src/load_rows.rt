@@ -87,9 +87,7 @@ pub(crate) fn add_opt_lines(
 {
     let mut page = 0;
     while page < count {
-        lines.push(opt_line(
-            alloc, tables, request, item, place, count, page,
-        )?)?;
+        lines.push(opt_line(alloc, tables, request, item, place, count, page)?)?;
         page += 1;
     }
     Ok(())
@@ -134,10 +132,10 @@ fn add_labels(
 }
 
 // The code of a ground, if there is one.
-fn optional_code(alloc: Global, ground: Option<Basis>) -> Result<Text, OutOfMemory>
-    ensures { IfOk result (λ text. text ≡ optional_code ground) }
+fn optional_code(alloc: Global, claimed: Option<Basis>) -> Result<Text, OutOfMemory>
+    ensures { IfOk result (λ text. text ≡ optional_code claimed) }
 {
-    match ground {
+    match claimed {
         Some(basis) => code_text(alloc, basis),
         None => Ok(empty_text(alloc)),
     }
@@ -170,13 +168,7 @@ fn add_facts(
     row.push(number_text(alloc, label_count(item))?)?;
     row.push(item.designation.clone()?)?;
     row.push(optional_code(alloc, ground_of(item.treatment))?)?;
-    row.push(text_path(
-        alloc,
-        '\\',
-        request,
-        place,
-        item.span.first,
-    )?)?;
+    row.push(text_path(alloc, '\\', request, place, item.span.first)?)?;
     Ok(())
 }
 

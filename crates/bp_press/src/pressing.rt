@@ -89,9 +89,9 @@ fn add_volume<F: Folder>(
 /// answer has their number and the digest of the manifest. After a refusal the files added are a
 /// prefix of the volume, the last one perhaps in part.
 ///
-/// The files depend on the matter by nothing but what it shows of the production: every other matter
-/// that keeps the production and agrees on it gives the same bytes. Each image is read, as TIFF 6.0
-/// says, as the burned page or the slip sheet that it was made of, and as no other page.
+/// The files depend on the matter by nothing but what it shows of the production: every other
+/// matter that keeps the production and agrees on it gives the same bytes. Each image is read, as
+/// TIFF 6.0 says, as the burned page or the slip sheet that it was made of, and as no other page.
 ///
 ///     let pressed = press(alloc, &tables, &production, &mut folder)?;
 pub fn press<F: Folder>(

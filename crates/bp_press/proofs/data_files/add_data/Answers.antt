@@ -1,5 +1,4 @@
 use Rattle.std.proofs.Common.{rules}
-use Rattle.bp_press.specs.Volume.{dat_file, log_file, opt_file, placed_items}
 use Rattle.bp_press.proofs.DataLemmas.{lines_three}
 use Rattle.bp_press.proofs.ItemLemmas.{err_map, ok_map, on_err}
 use Rattle.bp_press.proofs.WritingLemmas.{three_end, three_first, three_second, three_third}

@@ -1,5 +1,4 @@
-use Rattle.std.proofs.Common.{rules, ◌≡◌, ◌∙◌, ap}
-use Rattle.sha2.specs.Sha256.{sha256}
+use Rattle.std.proofs.Common.{rules, ◌∙◌}
 use Rattle.bp_press.proofs.DataLemmas.{data_cut, gathered, items_cut, manifest_cut, told-is, volume_end}
 use Rattle.bp_press.proofs.ItemLemmas.{on_err}
 use Rattle.bp_press.proofs.pressing.add_volume.Goals as goal

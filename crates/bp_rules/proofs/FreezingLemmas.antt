@@ -45,7 +45,7 @@ produced-made m prefix row order v =
     record {
       valid = v;
       rows = ap (put row_key (production_kept row)) (prefix-put m prefix (weaves-old (rows_of n) (production_kept row ∷ []) (rows_of (with_produced prefix row m)) w up))
-      ∙ weaves-put (rows_of n) (production_kept row ∷ []) (rows_of (with_produced prefix row m)) w up;
+          ∙ weaves-put (rows_of n) (production_kept row ∷ []) (rows_of (with_produced prefix row m)) w up;
     }
 
 -- ---- numbers and writings

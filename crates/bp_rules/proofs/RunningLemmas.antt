@@ -84,7 +84,7 @@ ran-behind a b c xs ys count r s =
     record {
       matter = s.matter ∙ ap (λ (x : Matter). run_of x ys) r.matter ∙ sym (run-behind a.matter xs ys);
       answers = s.answers ∙ ap (λ (l : List Answer). l ++ answers_of b.matter ys) r.answers ∙ append_assoc a.answers (answers_of a.matter xs) (answers_of b.matter ys)
-      ∙ ap (λ (x : Matter). a.answers ++ (answers_of a.matter xs ++ answers_of x ys)) r.matter ∙ ap (λ (l : List Answer). a.answers ++ l) (sym (answers-behind a.matter xs ys));
+          ∙ ap (λ (x : Matter). a.answers ++ (answers_of a.matter xs ++ answers_of x ys)) r.matter ∙ ap (λ (l : List Answer). a.answers ++ l) (sym (answers-behind a.matter xs ys));
       kept = λ h. s.kept (r.kept h);
       told = told-on a.keeper.rows b.keeper.rows c.keeper.rows r.told s.told;
       faults = s.faults;

@@ -1,6 +1,6 @@
 -- Worked examples of steps about productions, each run by the check: a family with a withheld document is frozen, asked for again, and reviewed on.
 use Rattle.std.proofs.Common.{◌≡◌, ℕ, true, List, [], ◌∷◌, Option, Some, None, refl, replicate}
-use Rattle.std.specs.Prelude.{codes, Result, Ok, Err}
+use Rattle.std.specs.Prelude.{codes, Ok, Err}
 use Rattle.bp_core.specs.Rules.{bare_rule}
 use Rattle.bp_core.specs.declared.review.Basis.TheVariants.{Ac}
 use Rattle.bp_core.specs.declared.review.Role.{Role}
@@ -21,7 +21,7 @@ use Rattle.bp_matter.specs.declared.rows.Request.{Request}
 use Rattle.bp_matter.specs.declared.rows.StaffRow.{StaffRow}
 use Rattle.bp_matter.specs.declared.rows.State.TheVariants.{Confirmed}
 use Rattle.bp_freeze.specs.Freezing.{freeze_of}
-use Rattle.bp_rules.specs.Stepping.{Stepped, done, step_of, told}
+use Rattle.bp_rules.specs.Stepping.{done, step_of, told}
 
 -- ---- documents 1 to 3 are a family with 2, 40 and 3 pages, of which the second is withheld; 4 is alone
 

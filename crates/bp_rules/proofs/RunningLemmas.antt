@@ -1,6 +1,6 @@
 -- Calls and imports in turn: none, the next after others, and where a run stops.
 use Rattle.std.proofs.Common.{◌≡◌, ℕ, ◌+◌, ◌<◌, true, List, [], ◌∷◌, ◌++◌, length, slice_index_or, take, drop, Option, Some, None, refl, sym, ap, subst, ◌∙◌}
-use Rattle.std.specs.Prelude.{is_some, IfSome, Result, Ok, Err}
+use Rattle.std.specs.Prelude.{is_some, IfSome, Ok}
 use Rattle.std.proofs.lemmas.List.{append-nil, append_assoc, take-append-drop}
 use Rattle.std.proofs.Math.Seq.{take-suc}
 use native.Mathlib.Numerals.{unary_clauses}

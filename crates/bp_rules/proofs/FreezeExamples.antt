@@ -1,6 +1,6 @@
--- Worked examples of steps about productions, each run by the check: a family with a withheld document is frozen, asked for again, and reviewed on.
+-- Worked examples of steps about productions, each run by the check: a family with a withheld document is frozen, asked for again, and reviewed on; and of a run.
 use Rattle.std.proofs.Common.{◌≡◌, ℕ, true, List, [], ◌∷◌, Option, Some, None, refl, replicate}
-use Rattle.std.specs.Prelude.{codes, Result, Ok, Err}
+use Rattle.std.specs.Prelude.{codes, Ok, Err}
 use Rattle.bp_core.specs.Rules.{bare_rule}
 use Rattle.bp_core.specs.declared.review.Basis.TheVariants.{Ac}
 use Rattle.bp_core.specs.declared.review.Role.{Role}
@@ -8,6 +8,7 @@ use Rattle.bp_core.specs.declared.review.Role.TheVariants.{Clerk, Lead, Reviewer
 use Rattle.bp_core.specs.declared.review.Treatment.{Treatment}
 use Rattle.bp_core.specs.declared.review.Treatment.TheVariants.{Produce, Withhold}
 use Rattle.bp_core.specs.declared.rules.RuleKind.TheVariants as kinds
+use Rattle.bp_matter.specs.Batches.{BatchShown}
 use Rattle.bp_matter.specs.Matter.{Matter}
 use Rattle.bp_matter.specs.declared.calls.Call.TheVariants.{Freeze, GetProduction, SendBack}
 use Rattle.bp_matter.specs.declared.calls.Reply.TheVariants as replies
@@ -21,7 +22,12 @@ use Rattle.bp_matter.specs.declared.rows.Request.{Request}
 use Rattle.bp_matter.specs.declared.rows.StaffRow.{StaffRow}
 use Rattle.bp_matter.specs.declared.rows.State.TheVariants.{Confirmed}
 use Rattle.bp_freeze.specs.Freezing.{freeze_of}
-use Rattle.bp_rules.specs.Stepping.{Stepped, done, step_of, told}
+use Rattle.bp_rules.specs.Importing.{import_of}
+use Rattle.bp_rules.specs.Running.{answers_of, run_of}
+use Rattle.bp_rules.specs.Stepping.{done, step_of, told}
+use Rattle.bp_rules.specs.declared.running.Answer.TheVariants as answers
+use Rattle.bp_rules.specs.declared.running.Asked.{Asked}
+use Rattle.bp_rules.specs.declared.running.Asked.TheVariants as asks
 
 -- ---- documents 1 to 3 are a family with 2, 40 and 3 pages, of which the second is withheld; 4 is alone
 
@@ -178,3 +184,22 @@ sent_back = refl
 still_frozen : step_of reviewed (key 3) (Freeze family) ≡ told reviewed (replies.Produced produced)
 unfolding step_of freeze_of
 still_frozen = refl
+
+-- ---- a run with an import in it
+
+abbrev later : BatchShown
+later = record { name = codes "B2"; digest = key 8; fields = []; docs = [] }
+
+-- a reviewer may not freeze, and the run goes on; a clerk may; a batch comes in; the clerk asks again
+abbrev day : List Asked
+day = asks.Call (key 4) (Freeze family) ∷ asks.Call (key 3) (Freeze family) ∷ asks.Import later ∷ asks.Call (key 3) (Freeze family) ∷ []
+
+answered_in_turn : answers_of matter day ≡ (answers.Refused (bare_rule kinds.RoleRefused) ∷ answers.Replied (replies.Produced produced) ∷ answers.Counted (record { documents = 0; pages = 0 }) ∷ answers.Replied (replies.Produced produced) ∷ [])
+unfolding step_of freeze_of import_of
+answered_in_turn = refl
+
+left_by_the_day : run_of matter day ≡ record frozen {
+  batches = record { num = 1; digest = key 7; documents = 4; pages = 46; name = codes "B1" } ∷ record { num = 2; digest = key 8; documents = 0; pages = 0; name = codes "B2" } ∷ [];
+}
+unfolding step_of freeze_of import_of
+left_by_the_day = refl

@@ -1,29 +1,25 @@
 -- A production of a new id can be kept: its puts keep the rows of the matter after it, its rows have a writing, and its numbers fit.
-use Rattle.std.proofs.Common.{◌≡◌, ℕ, ◌+◌, ◌<◌, ◌^◌, true, eqb, ltb, leb, ◌&&◌, List, [], ◌∷◌, ◌++◌, length, map, Option, Some, None, refl, sym, ap, subst, ◌∙◌, arith}
-use Rattle.std.specs.Prelude.{Result, Ok, Err}
+use Rattle.std.proofs.Common.{◌≡◌, ◌+◌, ◌<◌, ◌^◌, true, ◌&&◌, [], ◌∷◌, ◌++◌, length, map, Option, Some, None, sym, ap, subst, ◌∙◌, arith}
+use Rattle.std.specs.Prelude.{Result, Ok}
 use Rattle.std.proofs.lemmas.Bool.{and_parts, ltb-true}
 use Rattle.std.proofs.lemmas.List.{length-append}
-use Rattle.bp_core.specs.Sorted.{ascends, put, row_key}
-use Rattle.bp_core.specs.declared.kept.Row.{Row}
+use Rattle.bp_core.specs.Sorted.{put, row_key}
 use Rattle.bp_core.specs.declared.rules.Rule.{Rule}
 use Rattle.bp_matter.specs.KeptRows.{batch_kept, box_kept, call_kept, doc_kept, entry_kept, field_kept, held_kept, page_kept, prefix_kept, production_kept, rows_of, staff_kept, words_kept}
 use Rattle.bp_matter.specs.Matter.{Matter, prefix_key}
 use Rattle.bp_matter.specs.Valid.{IsValid}
 use Rattle.bp_matter.specs.Written.{is_long, is_short, is_word, prefix_written, production_written}
-use Rattle.bp_matter.specs.declared.calls.Reply.{Reply}
 use Rattle.bp_matter.specs.declared.calls.Reply.TheVariants as replies
 use Rattle.bp_matter.specs.declared.rows.PrefixRow.{PrefixRow}
 use Rattle.bp_matter.specs.declared.rows.Production.{Production}
 use Rattle.bp_matter.specs.declared.rows.ProductionRow.{ProductionRow}
-use Rattle.bp_matter.specs.declared.rows.Request.{Request}
-use Rattle.bp_freeze.specs.Freezing.{freeze_of, kept_production}
+use Rattle.bp_freeze.specs.Freezing.{kept_production}
 use Rattle.bp_freeze.specs.Keeping.{after_freeze, frozen_matter, prefix_after, production_after, with_production}
-use Rattle.bp_rules.specs.Changes.{CanBeMade, after, puts_of, with_produced}
+use Rattle.bp_rules.specs.Changes.{CanBeMade, after, with_produced}
 use Rattle.bp_rules.specs.Deciding.{DecidedAs}
 use Rattle.bp_rules.specs.Stepping.{Stepped, freeze, told}
 use Rattle.bp_rules.specs.declared.changes.Edit.{Edit}
 use Rattle.bp_rules.specs.declared.changes.Edit.TheVariants.{Produced}
-use Rattle.bp_rules.specs.declared.deciding.Decided.{Decided}
 use Rattle.bp_rules.proofs.EditLemmas.{Orders, put-member}
 use Rattle.bp_rules.proofs.ListLemmas.{all-behind}
 use Rattle.bp_rules.proofs.PutLemmas.{Weaves, grow, keep, still, weaves-old, weaves-put}
@@ -45,7 +41,7 @@ produced-made m prefix row order v =
     record {
       valid = v;
       rows = ap (put row_key (production_kept row)) (prefix-put m prefix (weaves-old (rows_of n) (production_kept row ∷ []) (rows_of (with_produced prefix row m)) w up))
-      ∙ weaves-put (rows_of n) (production_kept row ∷ []) (rows_of (with_produced prefix row m)) w up;
+          ∙ weaves-put (rows_of n) (production_kept row ∷ []) (rows_of (with_produced prefix row m)) w up;
     }
 
 -- ---- numbers and writings

@@ -14,7 +14,7 @@ use Rattle.bp_core.specs.declared.rules.RuleKind.{RuleKind}
 use Rattle.bp_core.specs.declared.rules.RuleKind.TheVariants as kinds
 use Rattle.bp_matter.specs.Confirming.{boxes_on, confirm_rule, held_on, is_entered}
 use Rattle.bp_matter.specs.Fields.{editor_of}
-use Rattle.bp_matter.specs.LookUps.{call_with, doc_with, field_with, of_row, page_with, staff_with, words_with}
+use Rattle.bp_matter.specs.LookUps.{call_with, doc_with, field_with, of_row, page_with, staff_with}
 use Rattle.bp_matter.specs.Matter.{Matter}
 use Rattle.bp_matter.specs.Texts.{is_designation}
 use Rattle.bp_matter.specs.Treatments.{is_ground, is_redact}
@@ -22,7 +22,6 @@ use Rattle.bp_matter.specs.ValidEntries.{entry_fits}
 use Rattle.bp_matter.specs.ValidPages.{inside_page}
 use Rattle.bp_matter.specs.declared.calls.Call.{Call}
 use Rattle.bp_matter.specs.declared.calls.Call.TheVariants.{AddStaff, Confirm, DropBox, FreeField, Freeze, GetProduction, HoldField, PutBox, PutEntry, SeeDoc, SeePage, SeeWords, SendBack, SetCall}
-use Rattle.bp_matter.specs.declared.calls.Reply.{Reply}
 use Rattle.bp_matter.specs.declared.calls.Reply.TheVariants as replies
 use Rattle.bp_matter.specs.declared.limits.TheConstants.{MAX_STAFF}
 use Rattle.bp_matter.specs.declared.rows.CallRow.{CallRow}
@@ -37,13 +36,13 @@ use Rattle.bp_matter.specs.declared.rows.ProductionRow.{ProductionRow}
 use Rattle.bp_matter.specs.declared.rows.StaffRow.{StaffRow}
 use Rattle.bp_matter.specs.declared.rows.State.TheVariants.{First}
 use Rattle.bp_freeze.specs.Freezing.{freeze_of, kept_production}
-use Rattle.bp_freeze.specs.Keeping.{GrowsTo, Keeps, after_freeze}
+use Rattle.bp_freeze.specs.Keeping.{GrowsTo, after_freeze}
 use Rattle.bp_rules.specs.Calling.{box_with, confirmed_by, edited, held_with, next_staff, with_box, with_call, with_entry, with_held, with_staff, without_box, without_call, without_held}
-use Rattle.bp_rules.specs.Changes.{after, with_produced, with_rows}
+use Rattle.bp_rules.specs.Changes.{after, with_produced}
 use Rattle.bp_rules.specs.Keeping.{StepKeeps}
 use Rattle.bp_rules.specs.Refusing.{has_marks, is_box, is_called_redact, is_staff_name, on_doc, on_page, refused, staff_full, staff_there}
 use Rattle.bp_rules.specs.Roles.{may}
-use Rattle.bp_rules.specs.Stepping.{Stepped, add_staff, confirm, confirm_unless, done, drop_box, free_field, free_held, freeze, get_production, hold_field, is_member, put_box, put_entry, set_call, staff_by, step_by, step_for, step_of}
+use Rattle.bp_rules.specs.Stepping.{Stepped, add_staff, confirm, confirm_unless, done, drop_box, free_field, freeze, get_production, hold_field, is_member, put_box, put_entry, set_call, staff_by, step_by, step_for, step_of}
 use Rattle.bp_rules.specs.declared.changes.Edit.{Edit}
 use Rattle.bp_rules.specs.declared.changes.Edit.TheVariants.{Import, Nothing, Produced, Review, Staff}
 

@@ -1,6 +1,6 @@
 -- Calls and imports in turn: none, the next after others, and where a run stops.
 use Rattle.std.proofs.Common.{◌≡◌, ℕ, ◌+◌, ◌<◌, true, List, [], ◌∷◌, ◌++◌, length, slice_index_or, take, drop, Option, Some, None, refl, sym, ap, subst, ◌∙◌}
-use Rattle.std.specs.Prelude.{is_some, IfSome, Result, Ok, Err}
+use Rattle.std.specs.Prelude.{is_some, IfSome, Ok}
 use Rattle.std.proofs.lemmas.List.{append-nil, append_assoc, take-append-drop}
 use Rattle.std.proofs.Math.Seq.{take-suc}
 use native.Mathlib.Numerals.{unary_clauses}
@@ -84,7 +84,7 @@ ran-behind a b c xs ys count r s =
     record {
       matter = s.matter ∙ ap (λ (x : Matter). run_of x ys) r.matter ∙ sym (run-behind a.matter xs ys);
       answers = s.answers ∙ ap (λ (l : List Answer). l ++ answers_of b.matter ys) r.answers ∙ append_assoc a.answers (answers_of a.matter xs) (answers_of b.matter ys)
-      ∙ ap (λ (x : Matter). a.answers ++ (answers_of a.matter xs ++ answers_of x ys)) r.matter ∙ ap (λ (l : List Answer). a.answers ++ l) (sym (answers-behind a.matter xs ys));
+          ∙ ap (λ (x : Matter). a.answers ++ (answers_of a.matter xs ++ answers_of x ys)) r.matter ∙ ap (λ (l : List Answer). a.answers ++ l) (sym (answers-behind a.matter xs ys));
       kept = λ h. s.kept (r.kept h);
       told = told-on a.keeper.rows b.keeper.rows c.keeper.rows r.told s.told;
       faults = s.faults;

@@ -1,5 +1,5 @@
 -- What deciding a call gives.
-use Rattle.std.specs.Prelude.{◌≡◌, ℕ, [], Bool, true, IsTrue, is_some, length, List, Result, Ok, Err}
+use Rattle.std.specs.Prelude.{◌≡◌, [], Bool, true, IsTrue, is_some, length, Result, Ok, Err}
 use Rattle.std.specs.Str.{all_scalars}
 use Rattle.bp_core.specs.Sorted.{find_key}
 use Rattle.bp_core.specs.declared.refusals.Refusal.{Refusal}

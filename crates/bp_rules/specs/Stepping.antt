@@ -33,7 +33,7 @@ use Rattle.bp_matter.specs.declared.rows.State.TheVariants.{First}
 use Rattle.bp_freeze.specs.Freezing.{freeze_of, kept_production}
 use Rattle.bp_freeze.specs.Keeping.{frozen_matter}
 use Rattle.bp_rules.specs.Calling.{box_with, confirmed_by, edited, held_with, next_staff, view_of, with_box, with_call, with_entry, with_held, with_staff, without_box, without_call, without_held, words_in}
-use Rattle.bp_rules.specs.Refusing.{has_marks, is_box, is_called_redact, is_staff_name, no_document, on_doc, on_page, refused, staff_full, staff_there}
+use Rattle.bp_rules.specs.Refusing.{has_marks, is_box, is_called_redact, is_staff_name, on_doc, on_page, refused, staff_full, staff_there}
 use Rattle.bp_rules.specs.Roles.{may}
 
 -- what a call replies, and the matter after it

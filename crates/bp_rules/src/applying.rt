@@ -102,12 +102,7 @@ fn add_production(tables: &mut Tables, prefix: PrefixRow, row: ProductionRow)
     requires room { 2 ≤ tables.old.spare }
     ensures { tables.new.matter ≡ with_produced prefix row tables.old.matter }
 {
-    produce(
-        &mut tables.prefixes,
-        &mut tables.productions,
-        prefix,
-        row,
-    );
+    produce(&mut tables.prefixes, &mut tables.productions, prefix, row);
 }
 
 fn produce(

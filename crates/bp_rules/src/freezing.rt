@@ -20,11 +20,7 @@ use bp_matter::{PrefixRow, Production, ProductionRow, Reply, Request, Tables};
 use std::alloc::Global;
 
 // The production that is kept under an id.
-pub(crate) fn get_production(
-    alloc: Global,
-    tables: &Tables,
-    id: &Text,
-) -> Result<Decided, Refusal>
+pub(crate) fn get_production(alloc: Global, tables: &Tables, id: &Text) -> Result<Decided, Refusal>
     ensures { Decides tables.now.matter (get_production tables.now.matter
         (kept_production tables.now.matter.productions id.now)) result }
 {

@@ -138,8 +138,7 @@ fn put_entry(
     step(alloc, tables, keeper, &[staff; 32], &call)
 }
 
-fn entry(alloc: Global) -> Result<Call, OutOfMemory>
-{
+fn entry(alloc: Global) -> Result<Call, OutOfMemory> {
     Ok(Call::PutEntry {
         doc: DOCUMENT,
         date: text(alloc, "2026")?,

@@ -1,5 +1,3 @@
-use Rattle.bp_matter.specs.Matter.{Matter}
-use Rattle.bp_matter.specs.declared.rows.Production.{Production}
 use Rattle.bp_rules.proofs.FreezingLemmas.{CanBeKept, can-be-kept}
 use Rattle.bp_rules.proofs.freezing.know_kept.Goals as goal
 

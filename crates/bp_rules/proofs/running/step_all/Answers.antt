@@ -22,6 +22,7 @@ pub loop-one-preserved : goal.loop-one-preserved
 loop-one-preserved g c =
     let before : Book = book_of c.args.tables.now.matter (g.K.Keeper.shows c.args.keeper.now) c.args.answers.now.items in
     let so_far : Book = book_of c.loop-one.tables.matter (g.K.Keeper.shows c.loop-one.keeper) c.loop-one.answers.items in
-    let now : Book = book_of c.answer_next.new.tables.matter (g.K.Keeper.shows c.answer_next.new.keeper) c.answer_next.new.answers.items in
-    (ran-next before so_far now c.loop-one.one-index c.args.asked.now c.one-item.result c.loop-one-test.true c.one-item.is c.loop-one.invariant.0 c.in-Ok.ensures.run,
-    keeps-then c.args.tables.now.matter c.loop-one.tables.matter c.answer_next.new.tables.matter c.loop-one.invariant.1 c.in-Ok.ensures.kept)
+    let now : Book = book_of c.answer_next.new.tables.matter (g.K.Keeper.shows c.answer_next.new.keeper) c.answer_next.new.answers.items in (
+      ran-next before so_far now c.loop-one.one-index c.args.asked.now c.one-item.result c.loop-one-test.true c.one-item.is c.loop-one.invariant.0 c.in-Ok.ensures.run,
+      keeps-then c.args.tables.now.matter c.loop-one.tables.matter c.answer_next.new.tables.matter c.loop-one.invariant.1 c.in-Ok.ensures.kept,
+    )

@@ -1,5 +1,5 @@
 -- Worked examples of the definitions in specs/, each run by the check.
-use Rattle.std.proofs.Common.{◌≡◌, ℕ, ◌+◌, true, List, [], ◌∷◌, ◌++◌, map, Some, None, Result, Ok, Err, Option, replicate, refl}
+use Rattle.std.proofs.Common.{◌≡◌, ℕ, true, List, [], ◌∷◌, ◌++◌, map, Some, None, Result, Ok, Err, Option, replicate, refl}
 use Rattle.std.specs.Prelude.{codes}
 use Rattle.bp_core.specs.Rules.{bare_rule, bates_full_rule}
 use Rattle.bp_core.specs.declared.review.Basis.{Basis}

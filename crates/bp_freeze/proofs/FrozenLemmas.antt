@@ -1,8 +1,8 @@
 -- The matter after a freeze: what holds of a valid matter holds of it again.
-use Rattle.std.proofs.Common.{◌≡◌, ℕ, ◌+◌, ◌-◌, ◌<◌, ◌≤◌, ◌^◌, ◌==◌, Bool, true, false, ◌&&◌, not, eqb, leb, List, [], ◌∷◌, ◌++◌, length, Option, Some, None, Result, Ok, Err, refl, sym, ap, ap₂, ◌∙◌, inl, inr, arith, subst, ◌⊎◌}
-use Rattle.std.specs.List.{list_all, list_any, find}
+use Rattle.std.proofs.Common.{◌≡◌, ℕ, ◌+◌, ◌-◌, ◌<◌, ◌≤◌, ◌^◌, ◌==◌, true, false, ◌&&◌, not, leb, List, [], ◌∷◌, ◌++◌, length, Option, Some, None, Ok, refl, sym, ap, ◌∙◌, inl, inr, arith, subst}
+use Rattle.std.specs.List.{list_all, list_any}
 use Rattle.std.specs.Str.{bytes_eq}
-use Rattle.std.proofs.lemmas.Bool.{and_parts, and_from, cases_Bool, eqb-true, le-leb, leb-true, lt-ltb, ltb-true}
+use Rattle.std.proofs.lemmas.Bool.{and_parts, and_from, eqb-true, le-leb, leb-true, lt-ltb, ltb-true}
 use Rattle.std.proofs.lemmas.List.{length-append}
 use Rattle.std.proofs.Math.Nat.{one-le-pow, pow-le-pow_right}
 use Rattle.bp_bates.specs.Prefixes.{is_good_prefix}
@@ -10,11 +10,9 @@ use Rattle.bp_bates.specs.Spans.{largest_of}
 use Rattle.bp_bates.proofs.PrefixLemmas.{IsGood-from_test}
 use Rattle.bp_matter.specs.Matter.{Matter, production_key}
 use Rattle.bp_matter.specs.Valid.{IsValid}
-use Rattle.bp_matter.specs.ValidItems.{are_whole, item_fits}
-use Rattle.bp_matter.specs.ValidPrefixes.{after_items, is_under, prefix_fits}
+use Rattle.bp_matter.specs.ValidPrefixes.{after_items, prefix_fits}
 use Rattle.bp_matter.specs.ValidProductions.{ProductionFacts, production_fits, production_id, production_volume, request_fits}
-use Rattle.bp_matter.specs.Written.{are_few, is_long, is_short, is_word, item_written, prefix_written, production_written, request_written, same_span, span_of}
-use Rattle.bp_matter.specs.declared.limits.TheConstants.{MAX_PRODUCTIONS}
+use Rattle.bp_matter.specs.Written.{is_long, is_short, is_word, prefix_written, production_written}
 use Rattle.bp_matter.specs.declared.rows.Item.{Item}
 use Rattle.bp_matter.specs.declared.rows.PrefixRow.{PrefixRow}
 use Rattle.bp_matter.specs.declared.rows.Production.{Production}
@@ -22,13 +20,13 @@ use Rattle.bp_matter.specs.declared.rows.ProductionRow.{ProductionRow}
 use Rattle.bp_matter.specs.declared.rows.Request.{Request}
 use Rattle.bp_freeze.specs.Freezing.{freeze_of, kept_production, new_production}
 use Rattle.bp_freeze.specs.Keeping.{frozen_matter, prefix_after, prefix_number, production_after, with_production}
-use Rattle.bp_freeze.specs.Refusals.{first_refusal, last_taken, next_number, prefix_row, same_width}
+use Rattle.bp_freeze.specs.Refusals.{first_refusal, next_number, prefix_row, same_width}
 use Rattle.bp_freeze.specs.Seeing.{decisions_of, seen_of}
 use Rattle.bp_freeze.specs.Selecting.{all_numbers, items_from, last_number, selected}
 use Rattle.bp_freeze.proofs.FrozenItemLemmas.{frozen-after, frozen-fit, frozen-last, frozen-once, frozen-some, frozen-span, frozen-whole, frozen-written}
-use Rattle.bp_freeze.proofs.FrozenPrefixLemmas.{IsNew, IsNext, Prefixed, Takes, prefixed-kept, prefixed-new}
-use Rattle.bp_freeze.proofs.FrozenRequestLemmas.{Passed, passed-all, prefix-short, request-fits, request-written}
-use Rattle.bp_freeze.proofs.KeptLemmas.{IsFirst, IsRepeat, first-matter, frozen-cases, none-kept, repeat-matter}
+use Rattle.bp_freeze.proofs.FrozenPrefixLemmas.{Prefixed, Takes, prefixed-kept, prefixed-new}
+use Rattle.bp_freeze.proofs.FrozenRequestLemmas.{passed-all, prefix-short, request-fits, request-written}
+use Rattle.bp_freeze.proofs.KeptLemmas.{first-matter, frozen-cases, none-kept, repeat-matter}
 use Rattle.bp_freeze.proofs.PigeonLemmas.{at-most}
 use Rattle.bp_freeze.proofs.PutRowLemmas.{all-at, all-behind, differ-behind, find-none, find-passes, find-stands, numbered-behind, same-text}
 use Rattle.bp_freeze.proofs.RuleLemmas.{held}

@@ -1,8 +1,8 @@
 -- The marks of a selected document, as its call asks for them, carried over to its item: `item_fits`.
-use Rattle.std.proofs.Common.{◌≡◌, ℕ, zero, suc, ◌+◌, ◌*◌, ◌-◌, ◌<◌, ◌≤◌, Bool, true, false, cond, eqb, leb, ◌&&◌, ◌||◌, not, List, [], ◌∷◌, length, map, get_or, Option, Some, None, refl, sym, ap, ap₂, subst, ◌∙◌, inl, inr, arith}
+use Rattle.std.proofs.Common.{◌≡◌, ℕ, ◌+◌, ◌-◌, ◌≤◌, Bool, true, false, eqb, leb, ◌&&◌, ◌||◌, not, List, [], ◌∷◌, length, map, Option, Some, None, refl, sym, ap, ap₂, subst, ◌∙◌, inl, inr, arith}
 use Rattle.std.specs.List.{filter, list_all, list_any}
 use Rattle.std.specs.Prelude.{is_none}
-use Rattle.std.proofs.lemmas.Bool.{and_parts, and_from, or_cases, or_from, cases_Bool, eqb-true, eq-eqb, ne_eqb, leb-true, le-leb, not_from_false, not-true}
+use Rattle.std.proofs.lemmas.Bool.{and_parts, and_from, or_cases, or_from, cases_Bool, eqb-true, eq-eqb, leb-true, le-leb, not_from_false, not-true}
 use Rattle.bp_core.specs.Sorted.{ascends, find_key, two_keys}
 use Rattle.bp_core.specs.declared.review.Treatment.{Treatment}
 use Rattle.bp_core.specs.declared.review.Treatment.TheVariants.{Produce, Redact, Withhold}
@@ -22,15 +22,15 @@ use Rattle.bp_matter.specs.declared.rows.CallRow.{CallRow}
 use Rattle.bp_matter.specs.declared.rows.DocBox.{DocBox}
 use Rattle.bp_matter.specs.declared.rows.DocEntry.{DocEntry}
 use Rattle.bp_matter.specs.declared.rows.DocHeld.{DocHeld}
-use Rattle.bp_matter.specs.declared.rows.Entry.{Entry}
 use Rattle.bp_matter.specs.declared.rows.HeldRow.{HeldRow}
 use Rattle.bp_matter.specs.declared.rows.Item.{Item}
 use Rattle.bp_matter.specs.declared.rows.StaffRow.{StaffRow}
 use Rattle.bp_matter.specs.declared.rows.State.{State}
 use Rattle.bp_matter.specs.declared.rows.State.TheVariants.{Confirmed, First, Uncalled}
-use Rattle.bp_freeze.specs.Seeing.{decisions_of, numbers_of, page_count, seen_in, treatment_of}
+use Rattle.bp_freeze.specs.Seeing.{numbers_of, seen_in, treatment_of}
 use Rattle.bp_freeze.specs.Selecting.{designation_of, is_confirmed, is_produce, item_of}
-use Rattle.bp_freeze.proofs.FrozenRangeLemmas.{Called, find-all, find-passes, row-at, takes-number}
+use Rattle.bp_freeze.proofs.FrozenRangeLemmas.{Called, row-at, takes-number}
+use Rattle.bp_freeze.proofs.PutRowLemmas.{find-all, find-passes}
 use Rattle.bp_freeze.proofs.RuleLemmas.{any-map}
 
 -- ---- the marks of one document, among those of all

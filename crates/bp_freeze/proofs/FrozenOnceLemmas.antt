@@ -1,8 +1,8 @@
 -- That no document stands in two items carries over to a production more, of families that none has: `stand_once`.
-use Rattle.std.proofs.Common.{◌≡◌, ◌≢◌, ◌⊎◌, ℕ, zero, suc, ◌+◌, ◌-◌, ◌<◌, ◌≤◌, Bool, true, false, cond, eqb, ◌&&◌, ◌||◌, not, List, [], ◌∷◌, ◌++◌, length, map, get_or, Option, Some, None, refl, sym, ap, subst, ◌∙◌, inl, inr, arith}
+use Rattle.std.proofs.Common.{◌≡◌, ◌≢◌, ◌⊎◌, ℕ, zero, suc, ◌+◌, ◌<◌, ◌≤◌, Bool, true, false, cond, eqb, not, List, [], ◌∷◌, ◌++◌, length, Option, Some, None, refl, sym, ap, subst, ◌∙◌, inl, inr, arith}
 use Rattle.std.specs.List.{filter, list_all, list_any}
 use Rattle.std.specs.Prelude.{is_none}
-use Rattle.std.proofs.lemmas.Bool.{and_parts, and_from, or_cases, or_left, or_right, cases_Bool, cases_eq, eqb-true, eq-eqb, ne_eqb, not-true}
+use Rattle.std.proofs.lemmas.Bool.{and_parts, or_cases, or_left, or_right, cases_Bool, cases_eq, eqb-true, eq-eqb}
 use Rattle.bp_core.specs.Sorted.{find_key}
 use Rattle.bp_matter.specs.Matter.{Matter, doc_key}
 use Rattle.bp_matter.specs.Valid.{IsValid}
@@ -14,7 +14,7 @@ use Rattle.bp_matter.specs.declared.rows.Item.{Item}
 use Rattle.bp_matter.specs.declared.rows.PageRow.{PageRow}
 use Rattle.bp_matter.specs.declared.rows.ProductionRow.{ProductionRow}
 use Rattle.bp_freeze.specs.Seeing.{Seen, decisions_of, is_produced, parent_of, seen_from, seen_in}
-use Rattle.bp_freeze.specs.Selecting.{item_of, items_from}
+use Rattle.bp_freeze.specs.Selecting.{items_from}
 use Rattle.bp_matter.proofs.CheckLemmas.{marked_none}
 use Rattle.bp_freeze.proofs.FrozenRangeLemmas.{row-at}
 

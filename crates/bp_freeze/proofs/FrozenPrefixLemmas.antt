@@ -1,18 +1,17 @@
 -- The prefixes of a matter with one production more: what holds of those of a valid matter holds of those after a freeze.
-use Rattle.std.proofs.Common.{◌≡◌, ℕ, ◌+◌, ◌<◌, ◌≤◌, Bool, true, false, ◌&&◌, not, List, [], ◌∷◌, ◌++◌, length, Option, Some, None, refl, sym, ap, ap₂, ◌∙◌, ◌==◌, if◌then◌else◌, inl, inr, arith, subst}
+use Rattle.std.proofs.Common.{◌≡◌, ℕ, ◌+◌, Bool, true, false, ◌&&◌, List, [], ◌∷◌, ◌++◌, length, Option, Some, None, refl, sym, ap, ap₂, ◌∙◌, ◌==◌, if◌then◌else◌, arith, subst}
 use Rattle.std.specs.List.{list_all, list_any}
 use Rattle.std.specs.Str.{bytes_eq}
-use Rattle.std.proofs.lemmas.Bool.{and_parts, and_from, or_parts, or_from, not-true, cases_Bool, eqb-true, eq-eqb, false_from_ne_true}
+use Rattle.std.proofs.lemmas.Bool.{and_parts, and_from, or_parts, or_from, eqb-true, eq-eqb, false_from_ne_true}
 use Rattle.std.proofs.lemmas.List.Folds.{list_all-append}
 use Rattle.bp_core.specs.Sorted.{put}
 use Rattle.bp_matter.specs.Matter.{prefix_key}
 use Rattle.bp_matter.specs.ValidPrefixes.{PrefixFacts, after_items, after_productions, is_number, is_under, is_used, prefix_fits, prefix_text, spans_reach}
 use Rattle.bp_matter.specs.ValidProductions.{has_prefix}
-use Rattle.bp_matter.specs.ValidRows.{all_differ, is_numbered}
 use Rattle.bp_matter.specs.Written.{prefix_written}
 use Rattle.bp_matter.specs.declared.rows.PrefixRow.{PrefixRow}
 use Rattle.bp_matter.specs.declared.rows.ProductionRow.{ProductionRow}
-use Rattle.bp_freeze.proofs.PutRowLemmas.{Stands, all-at, all-behind, all-in-place, all-weaker, any-at, any-behind, any-in-place, any-known, any-more, apart, differ-behind, differ-in-place, none-stands, numbered-behind, numbered-in-place, other-turned, put-behind, put-in-place, same-text, text-same}
+use Rattle.bp_freeze.proofs.PutRowLemmas.{Stands, all-at, all-behind, all-in-place, all-weaker, any-at, any-behind, any-in-place, any-known, any-more, apart, differ-behind, differ-in-place, numbered-behind, numbered-in-place, other-turned, put-behind, put-in-place, same-text, text-same}
 
 -- ---- the numbers that were reached
 

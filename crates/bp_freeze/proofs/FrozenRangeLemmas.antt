@@ -1,7 +1,7 @@
 -- What a request that breaks no rule carries over to the documents of its range, and what a valid matter keeps of each.
-use Rattle.std.proofs.Common.{◌≡◌, ◌≢◌, ℕ, zero, suc, ◌+◌, ◌-◌, ◌<◌, ◌≤◌, Bool, true, false, cond, eqb, leb, ◌&&◌, ◌||◌, not, List, [], ◌∷◌, ◌++◌, length, map, get_or, Option, Some, None, refl, sym, ap, subst, ◌∙◌, inl, inr, arith}
+use Rattle.std.proofs.Common.{◌≡◌, ◌≢◌, ℕ, zero, suc, ◌+◌, ◌-◌, ◌<◌, ◌≤◌, Bool, true, false, eqb, leb, ◌&&◌, ◌||◌, not, List, [], ◌∷◌, ◌++◌, length, map, get_or, Option, Some, None, refl, sym, subst, inl, inr, arith}
 use Rattle.std.specs.List.{filter, find, list_all}
-use Rattle.std.proofs.lemmas.Bool.{and_parts, and_from, cases_Bool, cases_eq, eqb-true, eq-eqb, ne_eqb, leb-true, not-true}
+use Rattle.std.proofs.lemmas.Bool.{and_parts, and_from, cases_Bool, cases_eq, eqb-true, eq-eqb, ne_eqb, leb-true}
 use Rattle.bp_core.specs.Sorted.{find_key}
 use Rattle.bp_core.specs.declared.review.Treatment.{Treatment}
 use Rattle.bp_core.specs.declared.rules.Rule.{Rule}
@@ -12,39 +12,18 @@ use Rattle.bp_matter.specs.Treatments.{is_withheld}
 use Rattle.bp_matter.specs.Valid.{IsValid}
 use Rattle.bp_matter.specs.ValidDocs.{doc_fits}
 use Rattle.bp_matter.specs.ValidItems.{numbers_due}
-use Rattle.bp_matter.specs.ValidRows.{is_numbered, names}
-use Rattle.bp_matter.specs.Written.{doc_written}
+use Rattle.bp_matter.specs.ValidRows.{is_numbered}
 use Rattle.bp_matter.specs.declared.rows.CallRow.{CallRow}
 use Rattle.bp_matter.specs.declared.rows.DocRow.{DocRow}
 use Rattle.bp_matter.specs.declared.rows.Item.{Item}
 use Rattle.bp_matter.specs.declared.rows.Request.{Request}
 use Rattle.bp_freeze.specs.Families.{reaches_outside}
-use Rattle.bp_freeze.specs.Refusals.{family_rules, first_refusal, first_rule, is_range, last_taken, none_of, request_rules, taking_rules}
-use Rattle.bp_freeze.specs.Seeing.{Decisions, Seen, decisions_of, numbers_of, page_count, parent_of, seen_from, seen_in, seen_of, treatment_of}
+use Rattle.bp_freeze.specs.Refusals.{family_rules, first_refusal, first_rule, last_taken, none_of, request_rules, taking_rules}
+use Rattle.bp_freeze.specs.Seeing.{Seen, decisions_of, numbers_of, page_count, parent_of, seen_from, seen_in, seen_of, treatment_of}
 use Rattle.bp_freeze.specs.Selecting.{all_numbers, is_confirmed, is_produce, is_settled, is_unsettled, item_of, items_from, selected}
 use Rattle.bp_freeze.proofs.FamilyLemmas.{many_parents}
+use Rattle.bp_freeze.proofs.PutRowLemmas.{find-all}
 use Rattle.bp_freeze.proofs.RuleLemmas.{InRange, in-range, range-passed, some-taken}
-
--- ---- rows that are found
-
--- what is found passes any test of all rows
-pub find-all : {T : Type 0} (p q : T → Bool) (rows : List T) (x : T) → find p rows ≡ Some x → list_all q rows ≡ true → q x ≡ true
-find-all p q [] x e all = absurd cc
-find-all p q (row ∷ rows) x e all =
-    let parts = and_parts (q row) (list_all q rows) all in
-    elim (cases_Bool (p row)) [
-      | inl here ↦ (let same : Some row ≡ Some x = rw here at e in let is : row ≡ x = cc in subst (λ y. q y ≡ true) is parts.0)
-      | inr there ↦ find-all p q rows x (rw there at e) parts.1
-    ]
-
--- and its own
-pub find-passes : {T : Type 0} (p : T → Bool) (rows : List T) (x : T) → find p rows ≡ Some x → p x ≡ true
-find-passes p [] x e = absurd cc
-find-passes p (row ∷ rows) x e =
-    elim (cases_Bool (p row)) [
-      | inl here ↦ (let same : Some row ≡ Some x = rw here at e in let is : row ≡ x = cc in subst (λ y. p y ≡ true) is here)
-      | inr there ↦ find-passes p rows x (rw there at e)
-    ]
 
 -- ---- rules that are not broken
 

@@ -1,8 +1,8 @@
 -- A request that breaks no rule: what holds of it, and that it is one of a valid matter and has a writing.
-use Rattle.std.proofs.Common.{◌≡◌, ℕ, ◌+◌, ◌<◌, ◌≤◌, ◌^◌, Bool, true, false, ◌&&◌, ◌||◌, ltb, leb, not, List, [], ◌∷◌, ◌++◌, length, map, Option, Some, None, refl, sym, ap, ap₂, ◌∙◌, inl, inr, arith, subst, encode_utf8_all}
+use Rattle.std.proofs.Common.{◌≡◌, ℕ, ◌<◌, ◌≤◌, ◌^◌, Bool, true, false, ◌&&◌, ltb, leb, not, List, [], ◌∷◌, ◌++◌, length, map, None, refl, sym, ap, ◌∙◌, inl, inr, arith, subst, encode_utf8_all}
 use Rattle.std.specs.List.{list_all, list_any}
 use Rattle.std.specs.Str.{all_scalars, bytes_eq}
-use Rattle.std.proofs.lemmas.Bool.{and_parts, and_from, or_parts, or_cases, not-true, not_from_false, cases_Bool, le-leb, leb-true, lt-ltb, ltb-true}
+use Rattle.std.proofs.lemmas.Bool.{and_parts, and_from, or_parts, or_cases, not-true, not_from_false, le-leb, leb-true, lt-ltb, ltb-true}
 use Rattle.std.proofs.lemmas.Bool.Decides.{nat_tests}
 use Rattle.std.proofs.lemmas.List.{length-map}
 use Rattle.std.proofs.lemmas.Str.{encode_ascii}
@@ -19,7 +19,7 @@ use Rattle.bp_matter.specs.declared.limits.TheConstants.{MAX_PRODUCTIONS}
 use Rattle.bp_matter.specs.declared.rows.DocRow.{DocRow}
 use Rattle.bp_matter.specs.declared.rows.FieldRow.{FieldRow}
 use Rattle.bp_matter.specs.declared.rows.Request.{Request}
-use Rattle.bp_freeze.specs.Refusals.{among, family_rules, first_refusal, is_range, is_taken, last_taken, prefix_row, request_rules, same_width, taking_rules}
+use Rattle.bp_freeze.specs.Refusals.{among, family_rules, first_refusal, is_taken, last_taken, prefix_row, request_rules, same_width, taking_rules}
 use Rattle.bp_freeze.specs.Seeing.{Decisions, Seen, decisions_of}
 use Rattle.bp_freeze.proofs.PigeonLemmas.{at-most}
 use Rattle.bp_freeze.proofs.PutRowLemmas.{all-weaker, same-text}

@@ -1,14 +1,12 @@
 -- That the rows of a document have a writing carries over to its item: `item_written`.
-use Rattle.std.proofs.Common.{◌≡◌, ℕ, ◌+◌, ◌-◌, ◌^◌, ◌<◌, ◌≤◌, Bool, true, false, eqb, leb, ltb, ◌&&◌, List, [], ◌∷◌, length, map, Option, Some, None, refl, sym, ap, subst, ◌∙◌, arith}
+use Rattle.std.proofs.Common.{◌≡◌, ℕ, ◌+◌, ◌-◌, ◌^◌, ◌<◌, ◌≤◌, Bool, true, eqb, leb, ◌&&◌, List, [], ◌∷◌, length, map, Option, Some, None, refl, sym, ap, subst, ◌∙◌, arith}
 use Rattle.std.specs.List.{list_all}
-use Rattle.std.proofs.lemmas.Bool.{and_parts, and_from, eqb-true, leb-true, lt-ltb}
-use Rattle.bp_bates.specs.declared.spans.Span.{Span}
+use Rattle.std.proofs.lemmas.Bool.{and_parts, and_from, leb-true, lt-ltb}
 use Rattle.bp_core.specs.Sorted.{ascends, find_key}
 use Rattle.bp_matter.specs.Confirming.{boxes_on, held_on}
 use Rattle.bp_matter.specs.LookUps.{of_row}
 use Rattle.bp_matter.specs.Matter.{Matter, box_number, call_key, doc_key, entry_key, held_number}
 use Rattle.bp_matter.specs.Valid.{IsValid}
-use Rattle.bp_matter.specs.ValidItems.{held_row_fits}
 use Rattle.bp_matter.specs.ValidMarks.{doc_box_fits, doc_held_fits}
 use Rattle.bp_matter.specs.ValidPages.{inside_page, page_in}
 use Rattle.bp_matter.specs.ValidRows.{names}
@@ -25,7 +23,8 @@ use Rattle.bp_matter.specs.declared.rows.Item.{Item}
 use Rattle.bp_freeze.specs.Seeing.{decisions_of, numbers_of, parent_of, seen_in, treatment_of}
 use Rattle.bp_freeze.specs.Selecting.{designation_of, item_of}
 use Rattle.bp_freeze.proofs.FrozenMarkLemmas.{marks-pass, marks-rise}
-use Rattle.bp_freeze.proofs.FrozenRangeLemmas.{Called, find-all, row-at, takes-number}
+use Rattle.bp_freeze.proofs.FrozenRangeLemmas.{Called, row-at, takes-number}
+use Rattle.bp_freeze.proofs.PutRowLemmas.{find-all}
 
 -- ---- how many marks a document has
 

@@ -1,5 +1,5 @@
 -- The two ways to a production, a repeat and a new request, and what the matter after a freeze keeps.
-use Rattle.std.proofs.Common.{◌≡◌, ℕ, ◌==◌, Bool, true, false, ◌&&◌, List, [], ◌∷◌, ◌++◌, length, Option, Some, None, Result, Ok, Err, refl, sym, ap, ◌∙◌, inl, inr, ◌⊎◌, subst, if◌then◌else◌}
+use Rattle.std.proofs.Common.{◌≡◌, ℕ, Bool, true, List, [], ◌∷◌, ◌++◌, Option, Some, None, Result, Ok, Err, refl, sym, ap, ◌∙◌, inl, inr, ◌⊎◌, subst, if◌then◌else◌}
 use Rattle.std.specs.Cmp.Lexicographic.{pointwise}
 use Rattle.std.specs.List.{find}
 use Rattle.std.specs.Option.{option_or}
@@ -15,10 +15,10 @@ use Rattle.bp_matter.specs.Matter.{Matter}
 use Rattle.bp_matter.specs.declared.rows.Production.{Production}
 use Rattle.bp_matter.specs.declared.rows.ProductionRow.{ProductionRow}
 use Rattle.bp_matter.specs.declared.rows.Request.{Request}
-use Rattle.bp_freeze.specs.Freezing.{freeze_by, freeze_of, frozen_by, frozen_unless, kept_production, new_production, same_request}
+use Rattle.bp_freeze.specs.Freezing.{freeze_of, frozen_by, frozen_unless, kept_production, new_production, same_request}
 use Rattle.bp_freeze.specs.Keeping.{Keeps, after_freeze, frozen_matter, production_after, with_production}
 use Rattle.bp_freeze.specs.Refusals.{first_refusal}
-use Rattle.bp_freeze.specs.Seeing.{Decisions, Seen, decisions_of, seen_of}
+use Rattle.bp_freeze.specs.Seeing.{decisions_of, seen_of}
 use Rattle.bp_freeze.proofs.PutRowLemmas.{find-passes, same-text, text-same}
 
 -- ---- what is kept under an id

@@ -1,6 +1,6 @@
 -- No label is given twice: numbers under one prefix differ, and labels of different prefixes do.
-use Rattle.std.proofs.Common.{◌≡◌, ℕ, zero, suc, ◌+◌, ◌-◌, ◌<◌, ◌≤◌, ◌==◌, Bool, true, false, ◌&&◌, ◌||◌, eqb, leb, ltb, not, List, [], ◌∷◌, ◌++◌, map, Option, Some, None, refl, sym, ap, ap₂, ◌∙◌, inl, inr, arith}
-use Rattle.std.specs.List.{flat_map, list_all, list_any, range_with_len}
+use Rattle.std.proofs.Common.{◌≡◌, ℕ, zero, suc, ◌+◌, ◌-◌, ◌<◌, ◌≤◌, ◌==◌, Bool, true, false, ◌&&◌, eqb, leb, ltb, not, List, [], ◌∷◌, ◌++◌, map, Option, Some, None, refl, sym, ap, ap₂, ◌∙◌, inl, inr, arith}
+use Rattle.std.specs.List.{list_all, list_any, range_with_len}
 use Rattle.std.specs.Str.{bytes_eq}
 use Rattle.std.proofs.lemmas.Bool.{and_parts, and_from, or_from, or_cases, not-true, not_from_false, cases_Bool, eqb-true, leb-true, le-leb, lt-ltb, ltb-true, false_from_ne_true, and_left, and_right, eq-eqb, ne_eqb}
 use Rattle.std.proofs.lemmas.List.Folds.{list_all-append, list_any-append}
@@ -16,7 +16,7 @@ use Rattle.bp_matter.specs.ValidProductions.{has_prefix, itself}
 use Rattle.bp_matter.specs.ValidRows.{all_differ}
 use Rattle.bp_matter.specs.declared.rows.PrefixRow.{PrefixRow}
 use Rattle.bp_matter.specs.declared.rows.ProductionRow.{ProductionRow}
-use Rattle.bp_freeze.specs.Numbers.{all_labels, item_numbers, numbers_under, production_labels, production_numbers}
+use Rattle.bp_freeze.specs.Numbers.{all_labels, numbers_under, production_labels, production_numbers}
 use Rattle.bp_freeze.specs.Refusals.{prefix_row}
 use Rattle.bp_freeze.proofs.FrozenPrefixLemmas.{is-number, none-under, reached-none}
 use Rattle.bp_freeze.proofs.NumberLemmas.{AreFrom, items-from, nothing-after, productions-from}

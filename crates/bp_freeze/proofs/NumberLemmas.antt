@@ -1,6 +1,6 @@
 -- Spans that follow one another have the numbers from the first to the last, each once.
-use Rattle.std.proofs.Common.{◌≡◌, ℕ, zero, suc, ◌+◌, ◌-◌, ◌≤◌, Bool, true, false, ◌&&◌, cond, eqb, leb, List, [], ◌∷◌, ◌++◌, length, Option, Some, None, not, refl, sym, ap, ap₂, ◌∙◌, ◌==◌, inl, inr, arith, subst, get_or}
-use Rattle.std.specs.List.{Contains, filter, flat_map, list_all, list_any, range_with_len}
+use Rattle.std.proofs.Common.{◌≡◌, ℕ, zero, suc, ◌+◌, ◌-◌, ◌≤◌, Bool, true, false, ◌&&◌, leb, List, [], ◌∷◌, ◌++◌, Option, Some, None, refl, sym, ap, ap₂, ◌∙◌, ◌==◌, inl, inr, arith}
+use Rattle.std.specs.List.{Contains, flat_map, list_all, range_with_len}
 use Rattle.std.specs.Str.{bytes_eq}
 use Rattle.std.proofs.lemmas.Bool.{and_parts, cases_Bool, eqb-true, leb-true, not_from_false, true_from_ne_false}
 use Rattle.std.proofs.lemmas.List.Folds.{list_all_at}
@@ -11,7 +11,6 @@ use Rattle.bp_matter.specs.declared.rows.Item.{Item}
 use Rattle.bp_matter.specs.declared.rows.PrefixRow.{PrefixRow}
 use Rattle.bp_matter.specs.declared.rows.ProductionRow.{ProductionRow}
 use Rattle.bp_freeze.specs.Numbers.{AreTakenOnce, item_numbers, numbers_under, production_numbers}
-use Rattle.bp_freeze.specs.Refusals.{prefix_row}
 use Rattle.bp_freeze.proofs.FrozenPrefixLemmas.{is-number, none-under}
 use Rattle.bp_freeze.proofs.PutRowLemmas.{find-none}
 

@@ -1,10 +1,10 @@
 -- Of texts no two of which are alike there are at most as many as of those among which each stands.
-use Rattle.std.proofs.Common.{◌≡◌, ℕ, zero, suc, ◌+◌, ◌≤◌, Bool, true, false, ◌&&◌, ◌||◌, not, cond, List, [], ◌∷◌, length, refl, sym, ap, ◌∙◌, inl, inr, arith}
+use Rattle.std.proofs.Common.{◌≡◌, ℕ, ◌+◌, ◌≤◌, Bool, true, false, ◌||◌, not, cond, List, [], ◌∷◌, length, refl, sym, ap, ◌∙◌, inl, inr, arith}
 use Rattle.std.specs.List.{list_all, list_any}
 use Rattle.std.specs.Str.{bytes_eq}
 use Rattle.std.proofs.lemmas.Bool.{and_parts, and_from, or_parts, or_cases, or_left, or_right, not-true, cases_Bool, false_from_ne_true}
 use Rattle.bp_matter.specs.ValidRows.{all_differ}
-use Rattle.bp_freeze.proofs.PutRowLemmas.{other-turned, same-text, text-same}
+use Rattle.bp_freeze.proofs.PutRowLemmas.{same-text, text-same}
 
 -- the list without the first that passes
 abbrev without_first : {T : Type 0} → (T → Bool) → List T → List T

@@ -1,5 +1,5 @@
 -- What stays of tests of a list when a row comes behind it, or in the place of another row.
-use Rattle.std.proofs.Common.{◌≡◌, ℕ, zero, suc, ◌+◌, ◌<◌, ◌≤◌, Bool, true, false, eqb, ltb, ◌&&◌, ◌||◌, not, List, [], ◌∷◌, ◌++◌, length, Option, Some, None, refl, sym, ap, ap₂, ◌∙◌, inl, inr, arith, subst}
+use Rattle.std.proofs.Common.{◌≡◌, ℕ, ◌+◌, ◌<◌, Bool, true, false, eqb, ◌&&◌, ◌||◌, not, List, [], ◌∷◌, ◌++◌, length, Some, None, refl, sym, ap, ap₂, ◌∙◌, inl, inr, arith, subst}
 use Rattle.std.specs.List.{list_all, list_any, find}
 use Rattle.std.specs.Option.{option_or}
 use Rattle.std.specs.Str.{bytes_eq}
@@ -81,6 +81,17 @@ none-found p [] none = refl
 none-found p (row ∷ rows) none =
     let parts = or_parts (p row) (list_any p rows) none in rw parts.0 (none-found p rows parts.1)
 
+-- what is found passes any test of all rows
+pub find-all : {T : Type 0} (p q : T → Bool) (rows : List T) (x : T) → find p rows ≡ Some x → list_all q rows ≡ true → q x ≡ true
+find-all p q [] x e all = absurd cc
+find-all p q (row ∷ rows) x e all =
+    let parts = and_parts (q row) (list_all q rows) all in
+    elim (cases_Bool (p row)) [
+      | inl here ↦ (let same : Some row ≡ Some x = rw here at e in let is : row ≡ x = cc in subst (λ y. q y ≡ true) is parts.0)
+      | inr there ↦ find-all p q rows x (rw there at e) parts.1
+    ]
+
+-- and its own
 pub find-passes : {T : Type 0} (p : T → Bool) (rows : List T) (x : T) → find p rows ≡ Some x → p x ≡ true
 find-passes p [] x e = absurd cc
 find-passes p (row ∷ rows) x e =

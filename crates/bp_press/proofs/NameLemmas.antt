@@ -1,13 +1,14 @@
 -- Characters that are added to a text.
-use Rattle.std.proofs.Common.{◌≡◌, ℕ, List, [], ◌∷◌, ◌++◌, Result, subst, refl, sym, ap, ◌∙◌, append_assoc, append-nil}
-use Rattle.std.specs.List.{join_with_byte}
+use Rattle.std.proofs.Common.{◌≡◌, ℕ, zero, suc, arith, List, [], ◌∷◌, ◌++◌, true, Result, subst, refl, sym, ap, ◌∙◌, append_assoc, append-nil}
+use Rattle.std.specs.List.{join_with_byte, list_all}
 use Rattle.std.specs.Prelude.{codes, encode_utf8, IfOk}
-use Rattle.std.specs.Str.{chars, IsUtf8}
-use Rattle.std.specs.Char.{IsScalar}
+use Rattle.std.specs.Str.{chars, IsAscii, IsUtf8}
+use Rattle.std.specs.Char.{IsScalar, is_ascii}
+use Rattle.std.proofs.lemmas.Bool.{and_parts, ltb-true}
 use Rattle.bp_freeze.specs.Log.{label_in}
 use Rattle.bp_matter.specs.declared.rows.Request.{Request}
 use Rattle.bp_press.specs.Paths.{folder_of, image_path, text_path}
-use Rattle.std.proofs.lemmas.Str.{chars-append, chars-nil, chars_past_char, IsUtf8-encode}
+use Rattle.std.proofs.lemmas.Str.{chars-append, chars-IsAscii, chars-nil, chars_past_char, IsUtf8-encode}
 
 pub chars_added : (old piece new : List ℕ) → IsUtf8 old → new ≡ old ++ piece → chars new ≡ chars old ++ chars piece
 chars_added old piece new utf8 is = ap chars is ∙ chars-append old piece utf8
@@ -82,3 +83,28 @@ pub text_named : (s : ℕ) (q : Request) (place number : ℕ) (folder label : Li
     → join_with_byte s (q.volume ∷ chars (codes "TEXT") ∷ folder ∷ (label ++ chars (codes ".TXT")) ∷ []) ≡ text_path s q place number
 text_named s q place number folder label f l =
     steps_named s q.volume (chars (codes "TEXT")) folder label (chars (codes ".TXT")) (codes "TEXT") (folder_of place) (label_in q.prefix number) (codes ".TXT") chars_text f l chars_txt
+
+-- a text in ASCII is its own characters
+ascii_within : (text : List ℕ) → list_all is_ascii text ≡ true → IsAscii text
+ascii_within [] are zero = omega arith
+ascii_within [] are (suc i) = omega arith
+ascii_within (c ∷ text) are zero = ltb-true c 128 (and_parts (is_ascii c) (list_all is_ascii text) are).0
+ascii_within (c ∷ text) are (suc i) = ascii_within text (and_parts (is_ascii c) (list_all is_ascii text) are).1 i
+
+pub ascii_itself : (text : List ℕ) → list_all is_ascii text ≡ true → chars text ≡ text
+ascii_itself text are = chars-IsAscii text (ascii_within text are)
+
+pub name_added : (old new : List (List ℕ)) (text name : List ℕ) → text ≡ name → new ≡ old ++ text ∷ [] → new ≡ old ++ name ∷ []
+name_added old new text name is grown = grown ∙ ap (λ x. old ++ x ∷ []) is
+
+pub chars_dat : chars (codes ".DAT") ≡ codes ".DAT"
+unfolding chars
+chars_dat = refl
+
+pub chars_opt : chars (codes ".OPT") ≡ codes ".OPT"
+unfolding chars
+chars_opt = refl
+
+pub chars_log : chars (codes "-LOG.CSV") ≡ codes "-LOG.CSV"
+unfolding chars
+chars_log = refl

@@ -1,5 +1,5 @@
 -- The items whose files are still to be written.
-use Rattle.std.proofs.Common.{◌≡◌, ℕ, ◌+◌, List, [], ◌∷◌, ◌++◌, length, map, flat_map, refl, sym, ap, subst, ◌∙◌, append_assoc, append-nil}
+use Rattle.std.proofs.Common.{◌≡◌, ℕ, ◌+◌, List, [], ◌∷◌, ◌++◌, length, map, flat_map, refl, sym, ap, subst, ◌∙◌, arith, add_assoc, append-nil, zero-add}
 use Rattle.std.proofs.lemmas.List.Concat.{flat_map-append}
 use Rattle.std.proofs.lemmas.List.FromFn.{length-map-range_with_len}
 use Rattle.bp_outside.specs.Folder.{FolderView}
@@ -12,8 +12,9 @@ use Rattle.bp_freeze.specs.Seeing.{page_count}
 use Rattle.bp_press.specs.Contents.{pages_of, part_of, produced_page}
 use Rattle.bp_press.specs.Files.{item_files}
 use Rattle.bp_press.specs.Manifest.{manifest_line}
-use Rattle.bp_press.specs.Pressing.{CanAllBePlaced, files_from, placed_at}
+use Rattle.bp_press.specs.Pressing.{CanAllBePlaced, files_from, image_total, placed_at}
 use Rattle.bp_press.specs.Writing.{ToCome, AddsAll, LeavesCut}
+use Rattle.bp_press.proofs.GatherLemmas.{onto}
 use Rattle.bp_press.proofs.WritingLemmas.{come_all, come_next, come_end, come_cut}
 
 pub image_count : (q : Request) (m : Matter) (item : Item) → length (map (produced_page q m item) (pages_of m item.doc.0)) ≡ page_count m item.doc.0
@@ -27,12 +28,10 @@ pub record AreItemsAfter (q : Request) (m : Matter) (all : List Item) (place : �
   pub files : ToCome before (files_from q m 0 all) folder (files_from q m place rest)
   pub lines : new ++ flat_map manifest_line (files_from q m place rest) ≡ old ++ flat_map manifest_line (files_from q m 0 all)
   pub fit : CanAllBePlaced q m place rest
+  pub images : place + image_total q m rest ≡ image_total q m all
 
 pub items_begin : (q : Request) (m : Matter) (all : List Item) (before : FolderView) (old : List ℕ) → CanAllBePlaced q m 0 all → AreItemsAfter q m all 0 all before before old old
-items_begin q m all before old fit = record { files = come_all before (files_from q m 0 all); lines = refl; fit = fit }
-
-onto : (xs ys zs rest all : List ℕ) → ys ≡ xs ++ zs → xs ++ (zs ++ rest) ≡ all → ys ++ rest ≡ all
-onto xs ys zs rest all e h = ap (λ x. x ++ rest) e ∙ append_assoc xs zs rest ∙ h
+items_begin q m all before old fit = record { files = come_all before (files_from q m 0 all); lines = refl; fit = fit; images = zero-add (image_total q m all) }
 
 items_step : (q : Request) (m : Matter) (all : List Item) (place : ℕ) (item : Item) (others : List Item) (before folder after : FolderView) (old new newer : List ℕ)
     → AreItemsAfter q m all place (item ∷ others) before folder old new
@@ -46,6 +45,7 @@ items_step q m all place item others before folder after old new newer h put lin
       files = come_next before (files_from q m 0 all) folder own rest after h.files put;
       lines = onto new newer (flat_map manifest_line own) (flat_map manifest_line rest) _ line (ap (λ x. new ++ x) (sym (flat_map-append manifest_line own rest)) ∙ h.lines);
       fit = h.fit.1.1;
+      images = add_assoc place (count_of q m item) (image_total q m others) ∙ h.images;
     }
 
 pub items_turn : (q : Request) (m : Matter) (all : List Item) (place next : ℕ) (rest : List Item) (item : Item) (others : List Item) (before folder after : FolderView) (old new newer : List ℕ)
@@ -74,3 +74,6 @@ items_end q m all place before folder old new h = come_end before (files_from q 
 
 pub items_lines : (q : Request) (m : Matter) (all : List Item) (place : ℕ) (before folder : FolderView) (old new : List ℕ) → AreItemsAfter q m all place [] before folder old new → new ≡ old ++ flat_map manifest_line (files_from q m 0 all)
 items_lines q m all place before folder old new h = sym (append-nil new) ∙ h.lines
+
+pub items_images : (q : Request) (m : Matter) (all : List Item) (place : ℕ) (before folder : FolderView) (old new : List ℕ) → AreItemsAfter q m all place [] before folder old new → place ≡ image_total q m all
+items_images q m all place before folder old new h = omega (arith, h.images)

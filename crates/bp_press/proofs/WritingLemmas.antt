@@ -1,96 +1,86 @@
 -- Files added to a folder, one after another.
-use Rattle.std.proofs.Common.{◌≡◌, ℕ, List, [], ◌∷◌, ◌++◌, take, Option, Some, None, Result, Ok, Err, inl, inr, refl, sym, ap, subst, ◌∙◌, append_assoc, append-nil}
+use Rattle.std.proofs.Common.{◌≡◌, ℕ, false, List, [], ◌∷◌, ◌++◌, Result, Ok, Err, refl, sym, ap, subst, ◌∙◌, append_assoc, append-nil}
 use Rattle.std.specs.Result.{OnOk, IfErr}
-use Rattle.bp_outside.specs.Folder.{FolderView, file, after_refusal, PutsPart, PutsFile}
+use Rattle.bp_outside.specs.Folder.{FolderView, file, after_refusal, with_file, PutsPart, PutsFile}
 use Rattle.bp_outside.specs.declared.files.FileRow.{FileRow}
 use Rattle.bp_outside.specs.declared.refusals.FolderRefusal.{FolderRefusal}
 use Rattle.bp_outside.specs.declared.refusals.FolderRefusal.TheVariants.{Failed, OutOfMemory}
-use Rattle.bp_outside.specs.Counts.{risen}
-use Rattle.bp_press.specs.Writing.{added, AreCut, AddsAll, LeavesCut, ToCome}
+use Rattle.bp_press.specs.Writing.{with_files, AddsAll, LeavesCut, ToCome}
 
-pub added_added : (told : Option (List FileRow)) (xs ys : List FileRow) → added (added told xs) ys ≡ added told (xs ++ ys)
-added_added None xs ys = refl
-added_added (Some old) xs ys = ap Some (append_assoc old xs ys)
+pub with_files-append : (folder : FolderView) (xs ys : List FileRow) → with_files folder (xs ++ ys) ≡ with_files (with_files folder xs) ys
+with_files-append folder [] ys = refl
+with_files-append folder (x ∷ xs) ys = with_files-append (with_file folder x.path x.bytes false) xs ys
 
-added-nil : (told : Option (List FileRow)) → added told [] ≡ told
-added-nil None = refl
-added-nil (Some old) = ap Some (append-nil old)
+file_refused : (folder : FolderView) (r : FolderRefusal) (path bytes : List ℕ) → with_file (after_refusal folder r) path bytes false ≡ after_refusal (with_file folder path bytes false) r
+file_refused folder Failed path bytes = refl
+file_refused folder OutOfMemory path bytes = refl
 
-cut-after : (xs ys some : List FileRow) → AreCut ys some → AreCut (xs ++ ys) (xs ++ some)
-cut-after [] ys some h = h
-cut-after (x ∷ xs) ys some h = inl (refl, cut-after xs ys some h)
+-- it is the same whether the count rises before the files are added or after
+files_refused : (folder : FolderView) (r : FolderRefusal) (files : List FileRow) → with_files (after_refusal folder r) files ≡ after_refusal (with_files folder files) r
+files_refused folder r [] = refl
+files_refused folder r (x ∷ xs) =
+    ap (λ view. with_files view xs) (file_refused folder r x.path x.bytes) ∙ files_refused (with_file folder x.path x.bytes false) r xs
 
-cut-before : (xs ys some : List FileRow) → AreCut xs some → AreCut (xs ++ ys) some
-cut-before [] ys [] h = tt
-cut-before [] ys (row ∷ some) h = absurd h
-cut-before (x ∷ xs) ys [] h = tt
-cut-before (x ∷ xs) ys (row ∷ some) h = elim h [ inl e ↦ inl (e.0, cut-before xs ys some e.1) | inr e ↦ inr e ]
-
--- the count after a refusal is a function of the count before
-fault_after : (one two : FolderView) (r : FolderRefusal) → one.faults ≡ two.faults → (after_refusal one r).faults ≡ (after_refusal two r).faults
-fault_after one two Failed e = ap risen e
-fault_after one two OutOfMemory e = e
-
--- nothing was added
-pub cut_none : (folder : FolderView) (files : List FileRow) (r : FolderRefusal) → r ≡ OutOfMemory → LeavesCut folder files r folder
-cut_none folder files r e = record { some = []; cut = tt; there = sym (added-nil folder.files); faults = ap (λ (x : FolderRefusal). (after_refusal folder x).faults) (sym e) }
+-- nothing of the first file was added
+pub cut_none : (folder : FolderView) (next : FileRow) (rest : List FileRow) (r : FolderRefusal) → r ≡ OutOfMemory → LeavesCut folder (next ∷ rest) r folder
+cut_none folder next rest r e = record {
+  part = record {
+    before = [];
+    next = next;
+    rest = rest;
+    files_are = refl;
+    part = PutsPart.nothing (ap (after_refusal folder) (sym e));
+  };
+}
 
 -- ---- one file
 
-same_files : (folder : FolderView) (r : FolderRefusal) → (after_refusal folder r).files ≡ folder.files
-same_files folder Failed = refl
-same_files folder OutOfMemory = refl
-
-part_left : (folder : FolderView) (r : FolderRefusal) (path bytes : List ℕ) (after : FolderView) → PutsPart (after_refusal folder r) path bytes after → LeavesCut folder (file path bytes ∷ []) r after
-part_left folder r path bytes after (PutsPart.nothing e) = record {
-  some = [];
-  cut = tt;
-  there = ap (λ (v : FolderView). v.files) e ∙ same_files folder r ∙ sym (added-nil folder.files);
-  faults = ap (λ (v : FolderView). v.faults) e;
-}
-part_left folder r path bytes after (PutsPart.prefix count e) = record {
-  some = file path (take count bytes) ∷ [];
-  cut = inr (record { path = refl; count = count; bytes = refl }, refl);
-  there = ap (λ (v : FolderView). v.files) e ∙ ap (λ (told : Option (List FileRow)). added told (file path (take count bytes) ∷ [])) (same_files folder r);
-  faults = ap (λ (v : FolderView). v.faults) e;
-}
-
 pub puts_ok : (folder : FolderView) (path bytes : List ℕ) (result : Result (Unit {0}) FolderRefusal) (after : FolderView) → PutsFile folder path bytes result after
     → OnOk result (AddsAll folder (file path bytes ∷ []) after)
-puts_ok folder path bytes (Ok u) after e = record { there = ap (λ (v : FolderView). v.files) e; faults = ap (λ (v : FolderView). v.faults) e }
+puts_ok folder path bytes (Ok u) after e = record { there = e }
 puts_ok folder path bytes (Err r) after h = tt
 
 pub puts_cut : (folder : FolderView) (path bytes : List ℕ) (result : Result (Unit {0}) FolderRefusal) (after : FolderView) → PutsFile folder path bytes result after
     → IfErr result (λ refusal. LeavesCut folder (file path bytes ∷ []) refusal after)
 puts_cut folder path bytes (Ok u) after e = tt
-puts_cut folder path bytes (Err r) after h = part_left folder r path bytes after h
+puts_cut folder path bytes (Err r) after h = record { part = record { before = []; next = file path bytes; rest = []; files_are = refl; part = h } }
 
 -- ---- the files to come
 
 pub come_all : (before : FolderView) (all : List FileRow) → ToCome before all before all
-come_all before all = record { done = []; there = sym (added-nil before.files); whole = refl; faults = refl }
+come_all before all = record { done = []; there = refl; whole = refl }
 
 -- the next files were added
 pub come_next : (before : FolderView) (all : List FileRow) (folder : FolderView) (xs rest : List FileRow) (after : FolderView) → ToCome before all folder (xs ++ rest) → AddsAll folder xs after → ToCome before all after rest
 come_next before all folder xs rest after c e = record {
   done = c.done ++ xs;
-  there = e.there ∙ ap (λ (told : Option (List FileRow)). added told xs) c.there ∙ added_added before.files c.done xs;
+  there = e.there ∙ ap (λ view. with_files view xs) c.there ∙ sym (with_files-append before c.done xs);
   whole = append_assoc c.done xs rest ∙ c.whole;
-  faults = e.faults ∙ c.faults;
 }
 
 -- none is left
 pub come_end : (before : FolderView) (all : List FileRow) (folder : FolderView) → ToCome before all folder [] → AddsAll before all folder
-come_end before all folder c = record { there = c.there ∙ ap (added before.files) (sym (append-nil c.done) ∙ c.whole); faults = c.faults }
+come_end before all folder c = record { there = c.there ∙ ap (with_files before) (sym (append-nil c.done) ∙ c.whole) }
 
 -- a refusal among the next files
 pub come_cut : (before : FolderView) (all : List FileRow) (folder : FolderView) (xs rest : List FileRow) (r : FolderRefusal) (after : FolderView) → ToCome before all folder (xs ++ rest) → LeavesCut folder xs r after → LeavesCut before all r after
-come_cut before all folder xs rest r after c h = record {
-  some = c.done ++ h.some;
-  cut = subst (λ (files : List FileRow). AreCut files (c.done ++ h.some)) c.whole (cut-after c.done (xs ++ rest) h.some (cut-before xs rest h.some h.cut));
-  there = h.there ∙ ap (λ (told : Option (List FileRow)). added told h.some) c.there ∙ added_added before.files c.done h.some;
-  faults = h.faults ∙ fault_after folder before r c.faults;
-}
+come_cut before all folder xs rest r after c h =
+    let cut = h.part in
+    let same : with_files (after_refusal folder r) cut.before ≡ with_files (after_refusal before r) (c.done ++ cut.before) =
+    ap (λ view. with_files (after_refusal view r) cut.before) c.there ∙ ap (λ view. with_files view cut.before) (sym (files_refused before r c.done))
+    ∙ sym (with_files-append (after_refusal before r) c.done cut.before) in
+    record {
+      part = record {
+        before = c.done ++ cut.before;
+        next = cut.next;
+        rest = cut.rest ++ rest;
+        files_are =
+            sym c.whole ∙ ap (λ some. c.done ++ (some ++ rest)) cut.files_are
+            ∙ ap (λ some. c.done ++ some) (append_assoc cut.before (cut.next ∷ cut.rest) rest)
+            ∙ sym (append_assoc c.done cut.before (cut.next ∷ (cut.rest ++ rest)));
+        part = subst (λ (view : FolderView). PutsPart view cut.next.path cut.next.bytes after) same cut.part;
+      };
+    }
 
 -- ---- two lists, one after the other
 
@@ -100,12 +90,27 @@ pair_first before xs ys r after h = come_cut before (xs ++ ys) before xs ys r af
 one_done : (before one : FolderView) (xs ys : List FileRow) → AddsAll before xs one → ToCome before (xs ++ ys) one ys
 one_done before one xs ys e = come_next before (xs ++ ys) before xs ys one (come_all before (xs ++ ys)) e
 
-pub pair_stop : (before one : FolderView) (xs ys : List FileRow) (r : FolderRefusal) → r ≡ OutOfMemory → AddsAll before xs one → LeavesCut before (xs ++ ys) r one
-pair_stop before one xs ys r m e = come_cut before (xs ++ ys) one [] ys r one (one_done before one xs ys e) (cut_none one [] r m)
-
 pub pair_second : (before one : FolderView) (xs ys : List FileRow) (r : FolderRefusal) (after : FolderView) → AddsAll before xs one → LeavesCut one ys r after → LeavesCut before (xs ++ ys) r after
 pair_second before one xs ys r after e h =
     come_cut before (xs ++ ys) one ys [] r after (subst (λ (rest : List FileRow). ToCome before (xs ++ ys) one rest) (sym (append-nil ys)) (one_done before one xs ys e)) h
 
+-- memory ran out before the first of the later files
+pub pair_stop : (before one : FolderView) (xs : List FileRow) (next : FileRow) (rest : List FileRow) (r : FolderRefusal) → r ≡ OutOfMemory → AddsAll before xs one → LeavesCut before (xs ++ next ∷ rest) r one
+pair_stop before one xs next rest r m e = pair_second before one xs (next ∷ rest) r one e (cut_none one next rest r m)
+
 pub pair_end : (before one after : FolderView) (xs ys : List FileRow) → AddsAll before xs one → AddsAll one ys after → AddsAll before (xs ++ ys) after
-pair_end before one after xs ys e h = record { there = h.there ∙ ap (λ told. added told ys) e.there ∙ added_added before.files xs ys; faults = h.faults ∙ e.faults }
+pair_end before one after xs ys e h = record { there = h.there ∙ ap (λ view. with_files view ys) e.there ∙ sym (with_files-append before xs ys) }
+
+-- ---- three files, one after the other
+
+pub three_end : (before one two after : FolderView) (x y z : FileRow) → AddsAll before (x ∷ []) one → AddsAll one (y ∷ []) two → AddsAll two (z ∷ []) after → AddsAll before (x ∷ y ∷ z ∷ []) after
+three_end before one two after x y z a b c = pair_end before one after (x ∷ []) (y ∷ z ∷ []) a (pair_end one two after (y ∷ []) (z ∷ []) b c)
+
+pub three_first : (before : FolderView) (x y z : FileRow) (r : FolderRefusal) (after : FolderView) → LeavesCut before (x ∷ []) r after → LeavesCut before (x ∷ y ∷ z ∷ []) r after
+three_first before x y z r after h = pair_first before (x ∷ []) (y ∷ z ∷ []) r after h
+
+pub three_second : (before one : FolderView) (x y z : FileRow) (r : FolderRefusal) (after : FolderView) → AddsAll before (x ∷ []) one → LeavesCut one (y ∷ []) r after → LeavesCut before (x ∷ y ∷ z ∷ []) r after
+three_second before one x y z r after a h = pair_second before one (x ∷ []) (y ∷ z ∷ []) r after a (pair_first one (y ∷ []) (z ∷ []) r after h)
+
+pub three_third : (before one two : FolderView) (x y z : FileRow) (r : FolderRefusal) (after : FolderView) → AddsAll before (x ∷ []) one → AddsAll one (y ∷ []) two → LeavesCut two (z ∷ []) r after → LeavesCut before (x ∷ y ∷ z ∷ []) r after
+three_third before one two x y z r after a b h = pair_second before one (x ∷ []) (y ∷ z ∷ []) r after a (pair_second one two (y ∷ []) (z ∷ []) r after b h)

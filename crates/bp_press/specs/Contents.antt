@@ -103,6 +103,11 @@ abbrev pub content_by : Request → Matter → Item → Option Basis → Content
 content_by q m i (Some basis) = withheld_content q i basis
 content_by q m i None = produced_content q m i
 
+-- the value in the column of a chosen field: of a withheld item it is empty
+abbrev pub value_in_column : Matter → Item → Option Basis → List ℕ → List ℕ
+value_in_column m i (Some basis) name = []
+value_in_column m i None name = value_shown m i name
+
 -- an item, and what a volume shows of it
 pub record Part : Type 0 where
   pub item : Item

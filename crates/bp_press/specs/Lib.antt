@@ -1,8 +1,12 @@
+pub mod Answering
 pub mod Contents
 pub mod Files
 pub mod LoadFiles
 pub mod Manifest
+pub mod Needs
+pub mod Nowhere
 pub mod Paths
+pub mod Pressed
 pub mod Pressing
 pub mod ReadBack
 pub mod Volume

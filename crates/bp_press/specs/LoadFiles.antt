@@ -7,6 +7,7 @@ use Rattle.bp_core.specs.Review.{basis_code}
 use Rattle.bp_core.specs.declared.review.Basis.{Basis}
 use Rattle.bp_load.specs.Dat.{dat_text}
 use Rattle.bp_load.specs.Opt.{opt_text}
+use Rattle.bp_load.specs.Table.{Table}
 use Rattle.bp_load.specs.declared.opt.OptLine.{OptLine}
 use Rattle.bp_matter.specs.Texts.{columns}
 use Rattle.bp_matter.specs.declared.rows.Item.{Item}
@@ -45,10 +46,13 @@ own_values f p =
 abbrev pub dat_row : Production → Placed → List (List ℕ)
 dat_row f p = own_values f p ++ p.content.values
 
--- the DAT
+-- the DAT, as a table and written
+abbrev pub dat_table : Production → List Placed → Table
+dat_table f items =
+    record { columns = columns ++ f.request.fields; rows = map (dat_row f) items }
+
 abbrev pub dat_bytes : Production → List Placed → List ℕ
-dat_bytes f items =
-    dat_text (record { columns = columns ++ f.request.fields; rows = map (dat_row f) items })
+dat_bytes f items = dat_text (dat_table f items)
 
 -- the line of an image of an item, counted from 0; the first says how many there are
 abbrev pub opt_line : Request → Placed → ℕ → OptLine

@@ -1,5 +1,5 @@
--- The files of an item, one by one, and what writing them needs.
-use Rattle.std.specs.Prelude.{ℕ, ◌+◌, ◌-◌, ◌^◌, ◌≤◌, ◌<◌, IsTrue, List, [], ◌∷◌, length, map, encode_utf8_all, Option, Some, None}
+-- The files of items, one by one, and what writing them needs.
+use Rattle.std.specs.Prelude.{ℕ, ◌+◌, ◌-◌, ◌^◌, ◌≤◌, ◌<◌, IsTrue, List, [], ◌∷◌, length, map, Option, Some, None}
 use Rattle.std.specs.List.{flat_map, range_with_len}
 use Rattle.bp_core.specs.Characters.{solidus}
 use Rattle.bp_core.specs.declared.review.Basis.{Basis}
@@ -79,3 +79,8 @@ CanAllBePlaced q m place (i ∷ items) =
 -- the files of items that follow one another from a place on
 abbrev pub files_from : Request → Matter → ℕ → List Item → List FileRow
 files_from q m place items = flat_map (item_files q) (placed place (map (part_of q m) items))
+
+-- how many images items have
+abbrev pub image_total : Request → Matter → List Item → ℕ
+image_total q m [] = 0
+image_total q m (i ∷ items) = length (part_of q m i).content.images + image_total q m items

@@ -17,12 +17,17 @@ use Rattle.bp_press.specs.Manifest.{manifest_of}
 use Rattle.bp_press.specs.Paths.{data_path, manifest_path}
 
 -- DAT, OPT and log
+abbrev pub dat_file : Production → List Placed → FileRow
+dat_file f items = file (data_path f.request (codes ".DAT")) (dat_bytes f items)
+
+abbrev pub opt_file : Production → List Placed → FileRow
+opt_file f items = file (data_path f.request (codes ".OPT")) (opt_bytes f.request items)
+
+abbrev pub log_file : Production → FileRow
+log_file f = file (data_path f.request (codes "-LOG.CSV")) (log_of f)
+
 abbrev pub data_files : Production → List Placed → List FileRow
-data_files f items =
-    file (data_path f.request (codes ".DAT")) (dat_bytes f items)
-    ∷ file (data_path f.request (codes ".OPT")) (opt_bytes f.request items)
-    ∷ file (data_path f.request (codes "-LOG.CSV")) (log_of f)
-    ∷ []
+data_files f items = dat_file f items ∷ opt_file f items ∷ log_file f ∷ []
 
 -- the files of all items, and then those
 abbrev pub files_before : Production → List Placed → List FileRow

@@ -3,6 +3,7 @@ ghost use Rattle.std.specs.Prelude.{◌≡◌, ◌≤◌, ◌+◌, ◌++◌, ◌
 ghost use Rattle.std.specs.List.{flat_map};
 ghost use Rattle.std.specs.Option.{option_copied};
 ghost use Rattle.std.specs.Str.{chars};
+ghost use Rattle.bp_core.specs.Review.{basis_code};
 ghost use Rattle.bp_freeze.specs.Agree.{held_for, value_in};
 ghost use Rattle.bp_freeze.specs.Seeing.{page_count};
 ghost use Rattle.bp_press.specs.Contents.{ground_of, held_text, kept_text, pages_of, part_of, value_by, value_shown, withheld_text};
@@ -71,6 +72,15 @@ fn held_text(alloc: Global, held: &HeldRow) -> Result<Text, OutOfMemory>
     let mut text = String::new(alloc);
     add(&mut text, "WITHHELD - ")?;
     add(&mut text, held.basis.code())?;
+    Ok(Text::from_string(text))
+}
+
+// The code of a ground.
+pub(crate) fn code_text(alloc: Global, basis: Basis) -> Result<Text, OutOfMemory>
+    ensures { IfOk result (λ text. text ≡ basis_code basis) }
+{
+    let mut text = String::new(alloc);
+    add(&mut text, basis.code())?;
     Ok(Text::from_string(text))
 }
 

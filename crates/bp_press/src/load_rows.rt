@@ -1,15 +1,22 @@
 // The lines of the load files.
-ghost use Rattle.std.specs.Prelude.{◌≡◌, ◌<◌, ◌+◌, ◌^◌, ◌==◌, IfOk, [], if◌then◌else◌, length};
+ghost use Rattle.std.specs.Prelude.{◌≡◌, ◌≤◌, ◌<◌, ◌+◌, ◌-◌, ◌++◌, ◌∷◌, ◌^◌, ◌==◌, IfOk, IsTrue, OnOk, [], if◌then◌else◌, length};
 ghost use Rattle.std.specs.Fmt.{decimal};
-ghost use Rattle.bp_press.specs.Contents.{part_of};
-ghost use Rattle.bp_press.specs.LoadFiles.{opt_line};
+ghost use Rattle.bp_bates.specs.Prefixes.{is_good_prefix};
+ghost use Rattle.bp_core.specs.Characters.{reverse_solidus};
+ghost use Rattle.bp_freeze.specs.Log.{label_in};
+ghost use Rattle.bp_freeze.specs.Selecting.{first_number, last_number};
+ghost use Rattle.bp_press.specs.Contents.{ground_of, part_of, value_in_column};
+ghost use Rattle.bp_press.specs.LoadFiles.{dat_row, family_of, label_count, opt_line, opt_lines, optional_code, own_values};
+ghost use Rattle.bp_press.specs.Paths.{text_path};
+ghost use Rattle.bp_press.specs.Needs.{CanBeListed, IsLabelled};
 ghost use Rattle.bp_press.specs.Pressing.{AreLabels, placed_at};
 
-use crate::contents::empty_text;
-use crate::names::{image_path, label_text};
-use bp_core::{OutOfMemory, Text};
+use crate::contents::{code_text, empty_text, ground_of, value_shown};
+use crate::names::{image_path, label_text, text_path};
+use bp_bates::{Prefix, Span};
+use bp_core::{Basis, ListOf, OutOfMemory, Text, TextList};
 use bp_load::OptLine;
-use bp_matter::{Item, Request, Tables};
+use bp_matter::{Item, Production, Request, Tables};
 use std::alloc::Global;
 
 // A number in decimal digits.
@@ -59,4 +66,171 @@ pub(crate) fn opt_line(
         box_break: false,
         pages: count_text(alloc, count, page)?,
     })
+}
+
+// Adds the lines of the images of an item that has so many.
+pub(crate) fn add_opt_lines(
+    alloc: Global,
+    tables: &Tables,
+    request: &Request,
+    item: &Item,
+    place: u64,
+    count: u32,
+    lines: &mut Vec<OptLine>,
+) -> Result<(), OutOfMemory>
+    requires places { place + 2 ^ 32 < 2 ^ 64 }
+    requires count { count ≡
+        length (part_of request.now tables.now.matter item.now).content.images }
+    requires labels { AreLabels request.now item.now.span.first count }
+    ensures { let p = placed_at request.now tables.now.matter item.now place in
+        OnOk result (lines.new.items ≡ lines.old.items ++ opt_lines request.now p) }
+{
+    let mut page = 0;
+    while page < count {
+        lines.push(opt_line(alloc, tables, request, item, place, count, page)?)?;
+        page += 1;
+    }
+    Ok(())
+}
+
+// Adds the label of a number to a row.
+fn add_label(
+    alloc: Global,
+    prefix: &Prefix,
+    number: u64,
+    row: &mut Vec<Text>,
+) -> Result<(), OutOfMemory>
+    requires good { IsTrue (is_good_prefix prefix.now.text prefix.now.width) }
+    requires number { IsLabelled prefix.now.width number }
+    ensures { OnOk result (row.new.items ≡ row.old.items ++ label_in prefix.now number ∷ []) }
+{
+    row.push(label_text(alloc, prefix, number)?)?;
+    Ok(())
+}
+
+// Adds the labels of an item and of its family.
+fn add_labels(
+    alloc: Global,
+    prefix: &Prefix,
+    own: Span,
+    family: Span,
+    row: &mut Vec<Text>,
+) -> Result<(), OutOfMemory>
+    requires good { IsTrue (is_good_prefix prefix.now.text prefix.now.width) }
+    requires first { IsLabelled prefix.now.width own.first }
+    requires last { IsLabelled prefix.now.width own.last }
+    requires family_first { IsLabelled prefix.now.width family.first }
+    requires family_last { IsLabelled prefix.now.width family.last }
+    ensures { OnOk result (row.new.items ≡ row.old.items
+        ++ label_in prefix.now own.first ∷ label_in prefix.now own.last
+        ∷ label_in prefix.now family.first ∷ label_in prefix.now family.last ∷ []) }
+{
+    add_label(alloc, prefix, own.first, row)?;
+    add_label(alloc, prefix, own.last, row)?;
+    add_label(alloc, prefix, family.first, row)?;
+    add_label(alloc, prefix, family.last, row)
+}
+
+// The code of a ground, if there is one.
+fn optional_code(alloc: Global, claimed: Option<Basis>) -> Result<Text, OutOfMemory>
+    ensures { IfOk result (λ text. text ≡ optional_code claimed) }
+{
+    match claimed {
+        Some(basis) => code_text(alloc, basis),
+        None => Ok(empty_text(alloc)),
+    }
+}
+
+// How many labels an item has.
+fn label_count(item: &Item) -> u64
+    requires { item.now.span.last + 1 < 2 ^ 64 }
+    ensures { result ≡ label_count item.now }
+{
+    (item.span.last + 1).saturating_sub(item.span.first)
+}
+
+// Adds how many labels an item has, what is stamped on it, why it is withheld, and its text.
+fn add_facts(
+    alloc: Global,
+    request: &Request,
+    item: &Item,
+    place: u64,
+    row: &mut Vec<Text>,
+) -> Result<(), OutOfMemory>
+    requires good { IsTrue (is_good_prefix request.now.prefix.text request.now.prefix.width) }
+    requires first { IsLabelled request.now.prefix.width item.now.span.first }
+    requires last { item.now.span.last + 1 < 2 ^ 64 }
+    ensures { OnOk result (row.new.items ≡ row.old.items
+        ++ decimal (label_count item.now) ∷ item.now.designation
+        ∷ optional_code (ground_of item.now.treatment)
+        ∷ text_path reverse_solidus request.now place item.now.span.first ∷ []) }
+{
+    row.push(number_text(alloc, label_count(item))?)?;
+    row.push(item.designation.clone()?)?;
+    row.push(optional_code(alloc, ground_of(item.treatment))?)?;
+    row.push(text_path(alloc, '\\', request, place, item.span.first)?)?;
+    Ok(())
+}
+
+// The value in the column of a chosen field.
+fn value_in_column(
+    alloc: Global,
+    tables: &Tables,
+    item: &Item,
+    name: &Text,
+) -> Result<Text, OutOfMemory>
+    ensures { let claimed = ground_of item.now.treatment in
+        IfOk result (λ text.
+        text ≡ value_in_column tables.now.matter item.now claimed name.now) }
+{
+    match ground_of(item.treatment) {
+        Some(_) => Ok(empty_text(alloc)),
+        None => value_shown(alloc, tables, item, name),
+    }
+}
+
+// Adds the values of an item in the chosen fields.
+fn add_values(
+    alloc: Global,
+    tables: &Tables,
+    request: &Request,
+    item: &Item,
+    row: &mut Vec<Text>,
+) -> Result<(), OutOfMemory>
+    ensures { let part = part_of request.now tables.now.matter item.now in
+        OnOk result (row.new.items ≡ row.old.items ++ part.content.values) }
+{
+    let mut rest = request.fields.as_slice();
+    while let Some((name, others)) = rest.split_first() {
+        row.push(value_in_column(alloc, tables, item, name)?)?;
+        rest = others;
+    }
+    Ok(())
+}
+
+// The row of an item in the DAT, with the first and the last number of its family.
+pub(crate) fn dat_row(
+    alloc: Global,
+    tables: &Tables,
+    production: &Production,
+    item: &Item,
+    place: u64,
+    family: Span,
+) -> Result<TextList, OutOfMemory>
+    requires good { let prefix = production.now.request.prefix in
+        IsTrue (is_good_prefix prefix.text prefix.width) }
+    requires listed { CanBeListed production.now item.now }
+    requires last { item.now.span.last + 1 < 2 ^ 64 }
+    requires family_first { family.first ≡ first_number (family_of production.now item.now) }
+    requires family_last { family.last ≡ last_number (family_of production.now item.now) }
+    ensures { let f = production.now in
+        let p = placed_at f.request tables.now.matter item.now place in
+        IfOk result (λ row. row ≡ dat_row f p) }
+{
+    let request = &production.request;
+    let mut row = Vec::new(alloc);
+    add_labels(alloc, &request.prefix, item.span, family, &mut row)?;
+    add_facts(alloc, request, item, place, &mut row)?;
+    add_values(alloc, tables, request, item, &mut row)?;
+    Ok(ListOf::from_vec(row))
 }

@@ -5,7 +5,7 @@ ghost use Rattle.std.specs.Result.{OnOk, IfErr};
 ghost use Rattle.bp_press.specs.Contents.{part_of};
 ghost use Rattle.bp_press.specs.Files.{item_files};
 ghost use Rattle.bp_press.specs.Manifest.{manifest_line};
-ghost use Rattle.bp_press.specs.Pressing.{CanAllBePlaced, CanBePlaced, files_from, placed_at};
+ghost use Rattle.bp_press.specs.Pressing.{CanAllBePlaced, CanBePlaced, files_from, image_total, placed_at};
 ghost use Rattle.bp_press.specs.Writing.{AddsAll, LeavesCut};
 
 use crate::items::{add_item, page_count};
@@ -16,7 +16,7 @@ use std::alloc::Global;
 
 #[tactic(auto, using(crate::proofs::VolumeLemmas::image_count))]
 // How many images an item has.
-fn image_count(tables: &Tables, request: &Request, item: &Item) -> u32
+pub(crate) fn image_count(tables: &Tables, request: &Request, item: &Item) -> u32
     requires { CanBePlaced request.now tables.now.matter item.now }
     ensures { result ≡ length (part_of request.now tables.now.matter item.now).content.images }
 {
@@ -28,15 +28,15 @@ fn image_count(tables: &Tables, request: &Request, item: &Item) -> u32
     }
 }
 
-#[tactic(auto, using(crate::proofs::VolumeLemmas::items_begin, crate::proofs::VolumeLemmas::items_end, crate::proofs::VolumeLemmas::items_lines))]
-// Adds the files of all items.
+#[tactic(auto, using(crate::proofs::VolumeLemmas::items_begin, crate::proofs::VolumeLemmas::items_end, crate::proofs::VolumeLemmas::items_lines, crate::proofs::VolumeLemmas::items_images))]
+// Adds the files of all items, and tells how many images they have.
 pub(crate) fn add_items<F: Folder>(
     alloc: Global,
     tables: &Tables,
     production: &Production,
     folder: &mut F,
     manifest: &mut Vec<u8>,
-) -> Result<(), FolderRefusal>
+) -> Result<u64, FolderRefusal>
     requires fit { CanAllBePlaced production.now.request tables.now.matter 0 production.now.items }
     ensures files { let f = production.now in
         OnOk result (AddsAll (F.shows folder.old)
@@ -47,6 +47,8 @@ pub(crate) fn add_items<F: Folder>(
     ensures lines { let f = production.now in
         OnOk result (manifest.new.items ≡ manifest.old.items
         ++ flat_map manifest_line (files_from f.request tables.now.matter 0 f.items)) }
+    ensures images { let f = production.now in
+        IfOk result (λ images. images ≡ image_total f.request tables.now.matter f.items) }
 {
     let request = &production.request;
     let mut rest = production.items.as_slice();
@@ -58,7 +60,7 @@ pub(crate) fn add_items<F: Folder>(
         place += u64::from(count);
         rest = others;
     }
-    Ok(())
+    Ok(place)
 }
 
 #[tactic(auto, using(crate::proofs::WritingLemmas::cut_none))]

@@ -1,9 +1,9 @@
 -- A matter stays valid where the call of a document changes.
-use Rattle.std.proofs.Common.{◌≡◌, ◌⊎◌, ℕ, ◌+◌, ◌*◌, ◌^◌, ◌≤◌, ◌<◌, Bool, true, false, cond, not, eqb, leb, ltb, ◌&&◌, ◌||◌, List, [], ◌∷◌, ◌++◌, length, Option, Some, None, refl, sym, ap, subst, ◌∙◌, inl, inr, arith, encode_utf8, encode_utf8_all}
+use Rattle.std.proofs.Common.{◌≡◌, ◌⊎◌, ℕ, ◌*◌, ◌^◌, ◌≤◌, Bool, true, false, cond, not, eqb, leb, ◌&&◌, List, [], ◌∷◌, length, Option, Some, None, refl, sym, ap, ◌∙◌, inl, inr, arith, encode_utf8, encode_utf8_all}
 use Rattle.std.specs.Prelude.{is_none}
 use Rattle.std.specs.List.{filter, list_all}
 use Rattle.std.specs.Str.{all_scalars}
-use Rattle.std.proofs.lemmas.Bool.{and_cases, and_parts, and_from, cases_Bool, eqb-true, eqb-false, eq-eqb, ne_eqb, leb-true, lt-ltb, not-false, or_parts}
+use Rattle.std.proofs.lemmas.Bool.{and_parts, and_from, cases_Bool, eqb-true, eqb-false, eq-eqb, ne_eqb, leb-true, lt-ltb}
 use Rattle.std.proofs.lemmas.Str.{len_utf8_bounds, length-encode}
 use Rattle.std.proofs.lemmas.List.{length-append}
 use Rattle.bp_core.specs.Sorted.{find_key, put, without}
@@ -26,7 +26,7 @@ use Rattle.bp_matter.specs.declared.rows.CallRow.{CallRow}
 use Rattle.bp_matter.specs.declared.rows.DocBox.{DocBox}
 use Rattle.bp_matter.specs.declared.rows.DocHeld.{DocHeld}
 use Rattle.bp_matter.specs.declared.rows.State.{State}
-use Rattle.bp_matter.specs.declared.rows.State.TheVariants.{Confirmed, First, Uncalled}
+use Rattle.bp_matter.specs.declared.rows.State.TheVariants.{Confirmed, First}
 use Rattle.bp_rules.specs.Calling.{calls_edited, edited, first_by, with_call, without_call}
 use Rattle.bp_rules.proofs.FoundLemmas.{find-without, found-key}
 use Rattle.bp_rules.proofs.ListLemmas.{all-filter, all-weaker, find-all}

@@ -1,30 +1,29 @@
 -- Changes of a review can be made: their puts keep the rows of the matter after them, and their rows have a writing.
-use Rattle.std.proofs.Common.{◌≡◌, ◌⊎◌, ℕ, ◌+◌, ◌*◌, ◌≤◌, Bool, true, false, cond, eqb, ltb, leb, ◌&&◌, List, [], ◌∷◌, ◌++◌, length, map, Option, Some, None, refl, sym, ap, ◌∙◌, inl, inr, arith}
+use Rattle.std.proofs.Common.{◌≡◌, ℕ, Bool, true, eqb, ltb, List, [], ◌∷◌, ◌++◌, length, map, Option, Some, None, refl, ap, ◌∙◌, inl, inr, arith}
 use Rattle.std.specs.Prelude.{is_some}
 use Rattle.std.specs.List.{list_all}
-use Rattle.std.proofs.lemmas.Bool.{and_parts, cases_Bool, eqb-true}
+use Rattle.std.proofs.lemmas.Bool.{and_parts, cases_Bool}
 use Rattle.std.proofs.lemmas.List.{length-map}
-use Rattle.bp_core.specs.Sorted.{ascends, find_key, put, row_key, two_keys}
+use Rattle.bp_core.specs.Sorted.{ascends, put, row_key}
 use Rattle.bp_core.specs.declared.kept.Put.{Put}
-use Rattle.bp_core.specs.declared.kept.Row.{Row}
 use Rattle.bp_keep.specs.Puts.{put_all}
 use Rattle.bp_matter.specs.KeptRows.{batch_kept, box_kept, call_kept, doc_kept, entry_kept, field_kept, held_kept, page_kept, prefix_kept, production_kept, rows_of, staff_kept, words_kept}
 use Rattle.bp_matter.specs.LookUps.{call_with}
 use Rattle.bp_matter.specs.Matter.{Matter, box_key, call_key, entry_key, held_key}
 use Rattle.bp_matter.specs.Valid.{IsValid}
-use Rattle.bp_matter.specs.Written.{box_written, call_written, entry_written, held_written, staff_written}
+use Rattle.bp_matter.specs.Written.{box_written, call_written, entry_written, held_written}
 use Rattle.bp_matter.specs.declared.rows.StaffRow.{StaffRow}
 use Rattle.bp_rules.specs.Calling.{box_with, held_with, with_staff}
 use Rattle.bp_rules.specs.Changes.{CanBeMade, after, call_puts, mark_puts, put_of, puts_of, rows_kept}
 use Rattle.bp_rules.specs.Deciding.{CanBeReviewed, call_there, mark_there}
-use Rattle.bp_rules.specs.Written.{EditWritten, call_edit_written, mark_edit_written}
+use Rattle.bp_rules.specs.Written.{call_edit_written, mark_edit_written}
 use Rattle.bp_rules.specs.declared.changes.CallEdit.{CallEdit}
 use Rattle.bp_rules.specs.declared.changes.CallEdit.TheVariants as call_edits
 use Rattle.bp_rules.specs.declared.changes.Edit.{Edit}
-use Rattle.bp_rules.specs.declared.changes.Edit.TheVariants.{Import, Nothing, Review, Staff}
+use Rattle.bp_rules.specs.declared.changes.Edit.TheVariants.{Import, Nothing, Produced, Review, Staff}
 use Rattle.bp_rules.specs.declared.changes.MarkEdit.{MarkEdit}
 use Rattle.bp_rules.specs.declared.changes.MarkEdit.TheVariants as mark_edits
-use Rattle.bp_rules.proofs.PutLemmas.{Weaves, grow, keep, nothing, still, weaves-put}
+use Rattle.bp_rules.proofs.PutLemmas.{grow, still, weaves-put}
 use Rattle.bp_rules.proofs.RoomLemmas.{kept-count}
 use Rattle.bp_rules.proofs.RowPutLemmas.{box-gone, box-put, call-gone, call-put, entry-put, held-gone, held-put}
 
@@ -86,7 +85,7 @@ staff-made m row order v =
 -- ---- writings
 
 -- what all rows pass passes a row that was put
-put-member : {T : Type 0} (key : T → ℕ) (p : T → Bool) (row : T) (rows : List T) → list_all p (put key row rows) ≡ true → p row ≡ true
+pub put-member : {T : Type 0} (key : T → ℕ) (p : T → Bool) (row : T) (rows : List T) → list_all p (put key row rows) ≡ true → p row ≡ true
 put-member key p row [] all = (and_parts (p row) true all).0
 put-member key p row (x ∷ rows) all =
     elim (cases_Bool (ltb (key row) (key x))) [
@@ -118,6 +117,7 @@ pub nothing-changed : (m : Matter) (edit : Edit) → length (puts_of edit) ≡ 0
 nothing-changed m Nothing none = refl
 nothing-changed m (Import rows) none = absurd (omega (arith, none, length-map (rows_kept rows) put_of, kept-count rows))
 nothing-changed m (Staff row) none = absurd (omega (arith, none))
+nothing-changed m (Produced prefix row) none = absurd (omega (arith, none))
 nothing-changed m (Review (call_edits.Put row) mark) none = absurd (omega (arith, none))
 nothing-changed m (Review (call_edits.Gone doc) mark) none = absurd (omega (arith, none))
 nothing-changed m (Review call_edits.Stays mark_edits.Stays) none = refl

@@ -1,9 +1,9 @@
 -- Rows that are found in a list in order of key, and what a put or a removal leaves of the others.
-use Rattle.std.proofs.Common.{◌≡◌, ℕ, ◌+◌, ◌≤◌, ◌<◌, Bool, true, false, cond, not, eqb, leb, ltb, List, [], ◌∷◌, length, Option, Some, None, refl, sym, ap, subst, ◌∙◌, arith, inl, inr}
+use Rattle.std.proofs.Common.{◌≡◌, ℕ, ◌+◌, ◌≤◌, Bool, true, false, cond, eqb, leb, ltb, List, [], ◌∷◌, length, Some, None, refl, sym, ap, ◌∙◌, arith, inl, inr}
 use Rattle.std.specs.List.{filter, find, list_all}
-use Rattle.std.proofs.lemmas.Bool.{and_parts, and_from, cases_Bool, eqb-true, eqb-false, eq-eqb, ne_eqb, leb-true, le-leb, ltb-true, ltb-false, lt-ltb, le-ltb}
+use Rattle.std.proofs.lemmas.Bool.{and_parts, and_from, cases_Bool, eqb-true, eqb-false, eq-eqb, ne_eqb, leb-true, le-leb, le-ltb}
 use Rattle.bp_core.specs.Sorted.{ascends, find_key, put, without}
-use Rattle.bp_matter.specs.ValidRows.{is_numbered, names}
+use Rattle.bp_matter.specs.ValidRows.{is_numbered}
 use Rattle.bp_rules.proofs.ListLemmas.{all-weaker, find-all, find-passes}
 
 -- ---- rows found

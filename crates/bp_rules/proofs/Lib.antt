@@ -13,7 +13,10 @@ pub mod CallLemmas
 pub mod MarkLemmas
 pub mod StaffLemmas
 pub mod EditLemmas
+pub mod FreezingLemmas
 pub mod ReviewingLemmas
+pub mod KeepingLemmas
 pub mod RunningLemmas
 pub mod Examples
 pub mod StepExamples
+pub mod FreezeExamples

@@ -1,25 +1,23 @@
 -- A matter stays valid where a box, a held field or the log entry changes of a document that isn't confirmed.
-use Rattle.std.proofs.Common.{◌≡◌, ◌⊎◌, ℕ, ◌+◌, ◌*◌, ◌^◌, ◌≤◌, ◌<◌, Bool, true, false, cond, not, eqb, leb, ltb, ◌&&◌, List, [], ◌∷◌, length, Option, Some, None, refl, sym, ap, subst, ◌∙◌, inl, inr, arith, encode_utf8_all}
-use Rattle.std.specs.Prelude.{is_none}
-use Rattle.std.specs.List.{filter, list_all}
+use Rattle.std.proofs.Common.{◌≡◌, ◌⊎◌, ℕ, ◌^◌, ◌≤◌, ◌<◌, true, false, not, eqb, leb, ◌&&◌, List, length, Some, refl, sym, ap, ◌∙◌, inl, inr, arith, encode_utf8_all}
+use Rattle.std.specs.List.{list_all}
 use Rattle.std.specs.Str.{all_scalars}
 use Rattle.std.proofs.lemmas.Bool.{and_parts, and_from, cases_Bool, eqb-true, eqb-false, ne_eqb, leb-true, lt-ltb, ltb-true}
 use Rattle.bp_core.specs.Sorted.{find_key, put, two_keys, without}
 use Rattle.bp_core.proofs.SortedLemmas.{all-put, ascends-put, ascends-without, find-put}
-use Rattle.bp_matter.specs.Confirming.{ReviewFacts, boxes_on, held_on, is_entered, may_hold, state_holds}
+use Rattle.bp_matter.specs.Confirming.{boxes_on, held_on, is_entered, may_hold, state_holds}
 use Rattle.bp_matter.specs.LookUps.{call_with}
 use Rattle.bp_matter.specs.Matter.{Matter, box_key, call_key, entry_key, held_key}
 use Rattle.bp_matter.specs.Texts.{is_text, is_text_character}
 use Rattle.bp_matter.specs.Valid.{IsValid}
-use Rattle.bp_matter.specs.ValidEntries.{EntryFacts, doc_entry_fits, entry_fits}
-use Rattle.bp_matter.specs.ValidMarks.{BoxFacts, HeldFacts, doc_box_fits, doc_held_fits}
+use Rattle.bp_matter.specs.ValidEntries.{doc_entry_fits, entry_fits}
+use Rattle.bp_matter.specs.ValidMarks.{doc_box_fits, doc_held_fits}
 use Rattle.bp_matter.specs.ValidRows.{names}
 use Rattle.bp_matter.specs.Written.{box_row_written, box_written, entry_fields_written, entry_written, held_written, is_short, is_word, rect_written}
 use Rattle.bp_matter.specs.declared.rows.CallRow.{CallRow}
 use Rattle.bp_matter.specs.declared.rows.DocBox.{DocBox}
 use Rattle.bp_matter.specs.declared.rows.DocEntry.{DocEntry}
 use Rattle.bp_matter.specs.declared.rows.DocHeld.{DocHeld}
-use Rattle.bp_matter.specs.declared.rows.Entry.{Entry}
 use Rattle.bp_matter.specs.declared.rows.StaffRow.{StaffRow}
 use Rattle.bp_matter.specs.declared.rows.State.{State}
 use Rattle.bp_matter.specs.declared.rows.State.TheVariants.{Confirmed, First, Uncalled}

@@ -145,6 +145,10 @@ weaves-put before puts after w up =
     ap (λ (l : List Row). put_all (map put_of l) before) (sym w.is_new)
     ∙ ap (put_all (map put_of (news w.strands))) (sym w.is_old) ∙ strands-put 0 w.strands strands_up ∙ w.is_all
 
+-- and what was there is in order
+pub weaves-old : (before puts after : List Row) → Weaves before puts after → ascends row_key 0 after ≡ true → ascends row_key 0 before ≡ true
+weaves-old before puts after w up = ap (ascends row_key 0) (sym w.is_old) ∙ olds-ascend 0 w.strands (ap (ascends row_key 0) w.is_all ∙ up)
+
 -- the puts of an import make the rows of the matter those of the matter after it
 pub import-puts : (m : Matter) (rows : ImportRows) → ascends row_key 0 (rows_of (with_rows m rows)) ≡ true → put_all (map put_of (rows_kept rows)) (rows_of m) ≡ rows_of (with_rows m rows)
 import-puts m rows up =

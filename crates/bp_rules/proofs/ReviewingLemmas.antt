@@ -1,8 +1,8 @@
 -- What each call needs: it changes nothing where its row stands, and else a document can be changed so.
-use Rattle.std.proofs.Common.{◌≡◌, ◌⊎◌, ℕ, ◌+◌, ◌*◌, ◌^◌, ◌≤◌, ◌<◌, Bool, true, false, cond, not, eqb, leb, ltb, ◌&&◌, ◌||◌, List, [], ◌∷◌, ◌++◌, length, Option, Some, None, refl, sym, ap, subst, ◌∙◌, inl, inr, arith}
-use Rattle.std.specs.Prelude.{is_some, Result, Ok, Err}
+use Rattle.std.proofs.Common.{◌≡◌, ◌⊎◌, ℕ, ◌+◌, ◌^◌, ◌≤◌, ◌<◌, Bool, true, false, cond, not, eqb, leb, ◌&&◌, List, [], ◌∷◌, ◌++◌, length, Option, Some, None, refl, sym, ap, subst, ◌∙◌, inl, inr, arith}
+use Rattle.std.specs.Prelude.{is_some, Result, Ok}
 use Rattle.std.specs.Str.{all_scalars, bytes_eq}
-use Rattle.std.proofs.lemmas.Bool.{and_cases, and_parts, and_from, cases_Bool, eqb-true, eqb-false, eq-eqb, leb-true, le-leb, lt-ltb, not-false, or_parts}
+use Rattle.std.proofs.lemmas.Bool.{and_cases, and_parts, and_from, eqb-true, eq-eqb, le-leb, not-false, or_parts}
 use Rattle.bp_core.specs.Sorted.{find_key, put, two_keys, without}
 use Rattle.bp_core.specs.declared.kept.Put.{Put}
 use Rattle.bp_core.specs.declared.numbers.DocNo.{DocNo}
@@ -19,10 +19,10 @@ use Rattle.bp_matter.specs.Texts.{is_designation}
 use Rattle.bp_matter.specs.Treatments.{is_ground, is_redact}
 use Rattle.bp_matter.specs.Valid.{IsValid}
 use Rattle.bp_matter.specs.ValidEntries.{entry_fits}
-use Rattle.bp_matter.specs.ValidMarks.{doc_box_fits, doc_held_fits}
+use Rattle.bp_matter.specs.ValidMarks.{doc_box_fits}
 use Rattle.bp_matter.specs.ValidPages.{inside_page}
 use Rattle.bp_matter.specs.ValidRows.{names}
-use Rattle.bp_matter.specs.ValidStaff.{checker_there, is_checker}
+use Rattle.bp_matter.specs.ValidStaff.{checker_there}
 use Rattle.bp_matter.specs.Written.{box_written, held_written}
 use Rattle.bp_matter.specs.declared.calls.Reply.{Reply}
 use Rattle.bp_matter.specs.declared.calls.Reply.TheVariants as replies
@@ -30,7 +30,6 @@ use Rattle.bp_matter.specs.declared.rows.CallRow.{CallRow}
 use Rattle.bp_matter.specs.declared.rows.DocBox.{DocBox}
 use Rattle.bp_matter.specs.declared.rows.DocEntry.{DocEntry}
 use Rattle.bp_matter.specs.declared.rows.DocHeld.{DocHeld}
-use Rattle.bp_matter.specs.declared.rows.DocRow.{DocRow}
 use Rattle.bp_matter.specs.declared.rows.FieldRow.{FieldRow}
 use Rattle.bp_matter.specs.declared.rows.PageRow.{PageRow}
 use Rattle.bp_matter.specs.declared.rows.StaffRow.{StaffRow}
@@ -38,7 +37,7 @@ use Rattle.bp_matter.specs.declared.rows.State.{State}
 use Rattle.bp_matter.specs.declared.rows.State.TheVariants.{Confirmed, First, Uncalled}
 use Rattle.bp_rules.specs.Calling.{box_with, calls_edited, confirmed_by, confirmed_state, edited, first_by, held_with, next_staff, with_box, with_call, with_entry, with_held, with_staff, without_box, without_call, without_held}
 use Rattle.bp_rules.specs.Changes.{CanBeMade, after, call_puts, mark_puts, puts_of}
-use Rattle.bp_rules.specs.Deciding.{CanBeReviewed, DecidedAs, EntryScalars, IsCaller, call_there, mark_there, stepped_of}
+use Rattle.bp_rules.specs.Deciding.{CanBeReviewed, DecidedAs, EntryScalars, IsCaller, call_there, mark_there}
 use Rattle.bp_rules.specs.Refusing.{has_marks, is_box, is_called_redact, is_staff_name}
 use Rattle.bp_rules.specs.Stepping.{Stepped, done}
 use Rattle.bp_rules.specs.declared.changes.CallEdit.{CallEdit}
@@ -47,8 +46,7 @@ use Rattle.bp_rules.specs.declared.changes.Edit.{Edit}
 use Rattle.bp_rules.specs.declared.changes.Edit.TheVariants.{Review, Staff}
 use Rattle.bp_rules.specs.declared.changes.MarkEdit.{MarkEdit}
 use Rattle.bp_rules.specs.declared.changes.MarkEdit.TheVariants as mark_edits
-use Rattle.bp_rules.specs.declared.deciding.Decided.{Decided}
-use Rattle.bp_rules.proofs.CallLemmas.{RowFits, call-valid, confirmed-fits, edited-open, edited-valid, set-fits, uncalled-valid}
+use Rattle.bp_rules.proofs.CallLemmas.{RowFits, call-valid, confirmed-fits, edited-open, edited-valid, set-fits}
 use Rattle.bp_rules.proofs.EditLemmas.{Orders, staff-made}
 use Rattle.bp_rules.proofs.StaffLemmas.{staff-valid}
 use Rattle.bp_rules.proofs.FoundLemmas.{find-without, found-key, numbered-found, put-again, without-none}

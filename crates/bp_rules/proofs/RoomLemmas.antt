@@ -37,6 +37,8 @@ pub record Rooms (n a b c d e f g h i j k l : ℕ) : Type 0 where
   pub boxes : n ≤ f
   pub held : n ≤ g
   pub entries : n ≤ h
+  pub prefixes : n ≤ i
+  pub productions : n ≤ j
   pub batches : n ≤ k
   pub words : n ≤ l
 
@@ -53,4 +55,4 @@ rooms n a b c d e f g h i j k l le =
     let p9 = min-parts n i (min j (min k l)) p8.1 in
     let p10 = min-parts n j (min k l) p9.1 in
     let p11 = min-parts n k l p10.1 in
-    record { staff = p1.0; fields = p2.0; docs = p3.0; pages = p4.0; calls = p5.0; boxes = p6.0; held = p7.0; entries = p8.0; batches = p11.0; words = p11.1 }
+    record { staff = p1.0; fields = p2.0; docs = p3.0; pages = p4.0; calls = p5.0; boxes = p6.0; held = p7.0; entries = p8.0; prefixes = p9.0; productions = p10.0; batches = p11.0; words = p11.1 }

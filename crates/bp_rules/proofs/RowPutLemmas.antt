@@ -1,16 +1,16 @@
 -- Puts of changed rows: the kept rows of a matter, with the put of a row that is changed or gone, are those of the matter after it.
-use Rattle.std.proofs.Common.{◌≡◌, ℕ, ◌+◌, ◌*◌, ◌≤◌, ◌<◌, Bool, true, false, cond, not, eqb, leb, ltb, List, [], ◌∷◌, ◌++◌, map, Option, Some, None, refl, sym, ap, ◌∙◌, arith, inl, inr}
-use Rattle.std.specs.List.{filter}
+use Rattle.std.proofs.Common.{◌≡◌, ℕ, ◌+◌, ◌*◌, ◌≤◌, ◌<◌, true, eqb, leb, ltb, List, [], ◌∷◌, ◌++◌, map, Some, refl, sym, ap, ◌∙◌, arith, inl, inr}
 use Rattle.std.proofs.lemmas.Bool.{and_parts, cases_Bool, eqb-true, eqb-false, eq-eqb, ne_eqb, leb-true, ltb-true, ltb-false, lt-ltb, le-ltb}
 use Rattle.bp_core.specs.Sorted.{ascends, find_key, put, row_key, two_keys, without}
 use Rattle.bp_core.proofs.SortedLemmas.{ascends-lower, without-above}
 use Rattle.bp_core.specs.declared.kept.Row.{Row}
 use Rattle.bp_matter.specs.KeptRows.{batch_kept, box_kept, call_kept, doc_kept, entry_kept, field_kept, held_kept, page_kept, prefix_kept, production_kept, rows_of, staff_kept, words_kept}
-use Rattle.bp_matter.specs.Matter.{Matter, box_key, call_key, entry_key, held_key}
+use Rattle.bp_matter.specs.Matter.{Matter, box_key, call_key, entry_key, held_key, prefix_key}
 use Rattle.bp_matter.specs.declared.rows.CallRow.{CallRow}
 use Rattle.bp_matter.specs.declared.rows.DocBox.{DocBox}
 use Rattle.bp_matter.specs.declared.rows.DocEntry.{DocEntry}
 use Rattle.bp_matter.specs.declared.rows.DocHeld.{DocHeld}
+use Rattle.bp_matter.specs.declared.rows.PrefixRow.{PrefixRow}
 use Rattle.bp_rules.specs.Calling.{with_box, with_call, with_entry, with_held, without_box, without_call, without_held}
 use Rattle.bp_rules.proofs.PutLemmas.{put-first, put-later}
 
@@ -135,6 +135,9 @@ held_order a b = (less_same (held_key a) (held_key b) (row_key (held_kept a)) (r
 entry_order : SameOrder entry_kept entry_key
 entry_order a b = (less_same (entry_key a) (entry_key b) (row_key (entry_kept a)) (row_key (entry_kept b)) (λ h. omega arith) (λ h. omega arith), equal_same (entry_key a) (entry_key b) (row_key (entry_kept a)) (row_key (entry_kept b)) (λ h. omega arith) (λ h. omega arith))
 
+prefix_order : SameOrder prefix_kept prefix_key
+prefix_order a b = (less_same (prefix_key a) (prefix_key b) (row_key (prefix_kept a)) (row_key (prefix_kept b)) (λ h. omega arith) (λ h. omega arith), equal_same (prefix_key a) (prefix_key b) (row_key (prefix_kept a)) (row_key (prefix_kept b)) (λ h. omega arith) (λ h. omega arith))
+
 -- ---- of the matter
 
 -- the kinds before the calls
@@ -159,8 +162,11 @@ gone-before_calls m k before after p =
     (gone-past k fields (docs ++ (pages ++ before)) (docs ++ (pages ++ after)) (gone-past k docs (pages ++ before) (pages ++ after) (gone-past k pages before after p)))
 
 -- the kinds after the log entries, and so on
+abbrev behind_prefixes : Matter → List Row
+behind_prefixes m = map production_kept m.productions ++ (map batch_kept m.batches ++ map words_kept m.words)
+
 abbrev behind_entries : Matter → List Row
-behind_entries m = map prefix_kept m.prefixes ++ (map production_kept m.productions ++ (map batch_kept m.batches ++ map words_kept m.words))
+behind_entries m = map prefix_kept m.prefixes ++ behind_prefixes m
 
 abbrev behind_held : Matter → List Row
 behind_held m = map entry_kept m.entries ++ behind_entries m
@@ -200,6 +206,24 @@ entry-put m row up =
     let after = map entry_kept (put entry_key row m.entries) ++ behind_entries m in
     (before_calls m (entry_kept row) (calls ++ (boxes ++ (held ++ before))) (calls ++ (boxes ++ (held ++ after)))
     (past (entry_kept row) calls (boxes ++ (held ++ before)) (boxes ++ (held ++ after)) (past (entry_kept row) boxes (held ++ before) (held ++ after) (past (entry_kept row) held before after (within entry_kept entry_key entry_order row m.entries (behind_entries m))))) 0 up).0
+
+-- the matter with a prefix put among its own
+abbrev pub with_prefix : PrefixRow → Matter → Matter
+with_prefix row m = record m { prefixes = put prefix_key row m.prefixes }
+
+pub prefix-put : (m : Matter) (row : PrefixRow) → ascends row_key 0 (rows_of (with_prefix row m)) ≡ true → put row_key (prefix_kept row) (rows_of m) ≡ rows_of (with_prefix row m)
+prefix-put m row up =
+    let calls = map call_kept m.calls in
+    let boxes = map box_kept m.boxes in
+    let held = map held_kept m.held in
+    let entries = map entry_kept m.entries in
+    let before = map prefix_kept m.prefixes ++ behind_prefixes m in
+    let after = map prefix_kept (put prefix_key row m.prefixes) ++ behind_prefixes m in
+    (before_calls m (prefix_kept row) (calls ++ (boxes ++ (held ++ (entries ++ before)))) (calls ++ (boxes ++ (held ++ (entries ++ after))))
+    (past (prefix_kept row) calls (boxes ++ (held ++ (entries ++ before))) (boxes ++ (held ++ (entries ++ after)))
+    (past (prefix_kept row) boxes (held ++ (entries ++ before)) (held ++ (entries ++ after))
+    (past (prefix_kept row) held (entries ++ before) (entries ++ after)
+    (past (prefix_kept row) entries before after (within prefix_kept prefix_key prefix_order row m.prefixes (behind_prefixes m)))))) 0 up).0
 
 pub call-gone : (m : Matter) (doc : ℕ) (row : CallRow) → find_key call_key doc m.calls ≡ Some row → ascends row_key 0 (rows_of m) ≡ true → without row_key (5 * 18446744073709551616 + two_keys doc 0) (rows_of m) ≡ rows_of (without_call doc m)
 call-gone m doc row found up =

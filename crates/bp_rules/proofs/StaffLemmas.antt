@@ -1,16 +1,14 @@
 -- A matter stays valid where a member of the staff comes.
-use Rattle.std.proofs.Common.{◌≡◌, ℕ, ◌+◌, ◌≤◌, ◌<◌, ◌^◌, Bool, true, false, not, eqb, leb, ltb, ◌&&◌, List, [], ◌∷◌, ◌++◌, length, Option, Some, None, refl, sym, ap, ◌∙◌, arith}
-use Rattle.std.specs.List.{find, list_all, list_any}
+use Rattle.std.proofs.Common.{◌≡◌, ℕ, ◌+◌, ◌≤◌, ◌<◌, ◌^◌, true, not, eqb, ◌&&◌, List, [], ◌∷◌, ◌++◌, length, None, refl, arith}
+use Rattle.std.specs.List.{list_all, list_any}
 use Rattle.std.specs.Str.{all_scalars, bytes_eq}
-use Rattle.std.proofs.lemmas.Bool.{and_parts, and_from, leb-true, le-leb, lt-ltb, eq-eqb}
+use Rattle.std.proofs.lemmas.Bool.{and_parts, and_from, le-leb, lt-ltb, eq-eqb}
 use Rattle.std.proofs.lemmas.List.{length-append}
 use Rattle.bp_core.specs.Sorted.{find_key}
 use Rattle.bp_matter.specs.Confirming.{boxes_on, confirm_rule, held_on, is_entered, state_holds}
 use Rattle.bp_matter.specs.LookUps.{staff_with}
 use Rattle.bp_matter.specs.Matter.{Matter, staff_key}
 use Rattle.bp_matter.specs.Texts.{is_text}
-use Rattle.bp_matter.specs.Treatments.{is_ground}
-use Rattle.bp_matter.specs.Texts.{is_designation}
 use Rattle.bp_matter.specs.Valid.{IsValid}
 use Rattle.bp_matter.specs.ValidCalls.{call_fits, state_fits}
 use Rattle.bp_matter.specs.ValidRows.{names}

@@ -1,6 +1,6 @@
 -- Worked examples of a step, each run by the check: the roles, one document of one page under review, and what is refused.
-use Rattle.std.proofs.Common.{◌≡◌, ℕ, true, false, List, [], ◌∷◌, Some, None, refl, replicate}
-use Rattle.std.specs.Prelude.{codes, Result, Ok, Err}
+use Rattle.std.proofs.Common.{◌≡◌, ℕ, true, false, List, [], ◌∷◌, None, refl, replicate}
+use Rattle.std.specs.Prelude.{codes, Ok, Err}
 use Rattle.bp_core.specs.Rules.{bare_rule}
 use Rattle.bp_core.specs.declared.review.Basis.{Basis}
 use Rattle.bp_core.specs.declared.review.Basis.TheVariants.{Ac, Pi, Ts}
@@ -8,23 +8,16 @@ use Rattle.bp_core.specs.declared.review.Role.{Role}
 use Rattle.bp_core.specs.declared.review.Role.TheVariants.{Clerk, Lead, Receiver, Reviewer, Second}
 use Rattle.bp_core.specs.declared.review.Treatment.{Treatment}
 use Rattle.bp_core.specs.declared.review.Treatment.TheVariants.{Produce, Redact, Withhold}
-use Rattle.bp_core.specs.declared.rules.Rule.{Rule}
 use Rattle.bp_core.specs.declared.rules.RuleKind.TheVariants as kinds
 use Rattle.bp_rows.specs.Image.{Image, white_image}
 use Rattle.bp_rows.specs.declared.resolution.Unit.TheVariants.{Inch}
 use Rattle.bp_matter.specs.Matter.{Matter}
 use Rattle.bp_matter.specs.declared.calls.Call.{Call}
-use Rattle.bp_matter.specs.declared.calls.Call.TheVariants.{AddStaff, Confirm, DropBox, FreeField, HoldField, PutBox, PutEntry, SeeDoc, SeePage, SeeWords, SendBack, SetCall}
+use Rattle.bp_matter.specs.declared.calls.Call.TheVariants.{AddStaff, Confirm, DropBox, FreeField, HoldField, PutBox, PutEntry, SeeDoc, SeePage, SendBack, SetCall}
 use Rattle.bp_matter.specs.declared.calls.Reply.TheVariants as replies
-use Rattle.bp_matter.specs.declared.rows.BoxRow.{BoxRow}
 use Rattle.bp_matter.specs.declared.rows.CallRow.{CallRow}
 use Rattle.bp_matter.specs.declared.rows.DocBox.{DocBox}
-use Rattle.bp_matter.specs.declared.rows.DocEntry.{DocEntry}
 use Rattle.bp_matter.specs.declared.rows.DocRow.{DocRow}
-use Rattle.bp_matter.specs.declared.rows.Entry.{Entry}
-use Rattle.bp_matter.specs.declared.rows.FieldRow.{FieldRow}
-use Rattle.bp_matter.specs.declared.rows.PageRow.{PageRow}
-use Rattle.bp_matter.specs.declared.rows.PageWords.{PageWords}
 use Rattle.bp_matter.specs.declared.rows.StaffRow.{StaffRow}
 use Rattle.bp_matter.specs.declared.rows.State.{State}
 use Rattle.bp_matter.specs.declared.rows.State.TheVariants.{Confirmed, First, Uncalled}
@@ -32,8 +25,9 @@ use Rattle.bp_rules.specs.Limits.{full_rule}
 use Rattle.bp_rules.specs.Refusing.{no_document, no_page, staff_there}
 use Rattle.bp_rules.specs.Roles.{may}
 use Rattle.bp_rules.specs.Running.{run_of}
-use Rattle.bp_rules.specs.Stepping.{Stepped, done, step_of, told}
+use Rattle.bp_rules.specs.Stepping.{done, step_of, told}
 use Rattle.bp_rules.specs.declared.running.Asked.{Asked}
+use Rattle.bp_rules.specs.declared.running.Asked.TheVariants as asks
 
 -- ---- a matter of one document of one page, 8 by 1 and white
 
@@ -84,7 +78,7 @@ abbrev send_back : Call
 send_back = SendBack (record { 0 = 1 })
 
 abbrev by : ℕ → Call → Asked
-by n call = record { key = key n; call = call }
+by n call = asks.Call (key n) call
 
 -- the call of the document, as it stands
 abbrev call_row : Treatment → State → CallRow

@@ -2,7 +2,6 @@
 use Rattle.std.specs.Prelude.{Bool, List, [], ◌∷◌, ◌++◌, false, length, map, Option, Some, None, ℕ, ◌+◌}
 use Rattle.bp_core.specs.Sorted.{find_key, put, two_keys, without}
 use Rattle.bp_core.specs.declared.numbers.StaffNo.{StaffNo}
-use Rattle.bp_core.specs.declared.review.Role.{Role}
 use Rattle.bp_core.specs.declared.review.Treatment.{Treatment}
 use Rattle.bp_core.specs.declared.review.Treatment.TheVariants.{Produce}
 use Rattle.bp_text.specs.declared.words.Word.{Word}

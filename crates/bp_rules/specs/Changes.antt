@@ -4,18 +4,20 @@ use Rattle.bp_core.specs.Sorted.{put, two_keys, without}
 use Rattle.bp_core.specs.declared.kept.Put.{Put}
 use Rattle.bp_core.specs.declared.kept.Row.{Row}
 use Rattle.bp_keep.specs.Puts.{put_all}
-use Rattle.bp_matter.specs.KeptRows.{batch_kept, box_kept, call_kept, doc_kept, entry_kept, field_kept, held_kept, page_kept, rows_of, staff_kept, words_kept}
-use Rattle.bp_matter.specs.Matter.{Matter, box_key, call_key, entry_key, held_key}
+use Rattle.bp_matter.specs.KeptRows.{batch_kept, box_kept, call_kept, doc_kept, entry_kept, field_kept, held_kept, page_kept, prefix_kept, production_kept, rows_of, staff_kept, words_kept}
+use Rattle.bp_matter.specs.Matter.{Matter, box_key, call_key, entry_key, held_key, prefix_key}
 use Rattle.bp_matter.specs.Valid.{IsValid}
 use Rattle.bp_matter.specs.declared.rows.CallRow.{CallRow}
 use Rattle.bp_matter.specs.declared.rows.DocBox.{DocBox}
 use Rattle.bp_matter.specs.declared.rows.DocEntry.{DocEntry}
 use Rattle.bp_matter.specs.declared.rows.DocHeld.{DocHeld}
+use Rattle.bp_matter.specs.declared.rows.PrefixRow.{PrefixRow}
+use Rattle.bp_matter.specs.declared.rows.ProductionRow.{ProductionRow}
 use Rattle.bp_rules.specs.Calling.{with_staff}
 use Rattle.bp_rules.specs.declared.changes.CallEdit.{CallEdit}
 use Rattle.bp_rules.specs.declared.changes.CallEdit.TheVariants as call_edits
 use Rattle.bp_rules.specs.declared.changes.Edit.{Edit}
-use Rattle.bp_rules.specs.declared.changes.Edit.TheVariants.{Import, Nothing, Review, Staff}
+use Rattle.bp_rules.specs.declared.changes.Edit.TheVariants.{Import, Nothing, Produced, Review, Staff}
 use Rattle.bp_rules.specs.declared.changes.MarkEdit.{MarkEdit}
 use Rattle.bp_rules.specs.declared.changes.MarkEdit.TheVariants as mark_edits
 use Rattle.bp_rules.specs.declared.changes.ImportRows.{ImportRows}
@@ -52,11 +54,20 @@ abbrev pub entries_after : MarkEdit → List DocEntry → List DocEntry
 entries_after (mark_edits.PutEntry row) entries = put entry_key row entries
 entries_after _ entries = entries
 
+-- the matter with a prefix, in place of the one of its number, and a production behind its own
+abbrev pub with_produced : PrefixRow → ProductionRow → Matter → Matter
+with_produced prefix row m =
+    record m {
+      prefixes = put prefix_key prefix m.prefixes;
+      productions = m.productions ++ row ∷ [];
+    }
+
 -- the matter after a change
 abbrev pub after : Matter → Edit → Matter
 after m Nothing = m
 after m (Import rows) = with_rows m rows
 after m (Staff row) = with_staff row m
+after m (Produced prefix row) = with_produced prefix row m
 after m (Review call mark) =
     record m {
       calls = calls_after call m.calls;
@@ -99,6 +110,8 @@ abbrev pub puts_of : Edit → List Put
 puts_of Nothing = []
 puts_of (Import rows) = map put_of (rows_kept rows)
 puts_of (Staff row) = put_of (staff_kept row) ∷ []
+puts_of (Produced prefix row) =
+    put_of (prefix_kept prefix) ∷ put_of (production_kept row) ∷ []
 puts_of (Review call mark) = call_puts call ++ mark_puts mark
 
 -- a change that can be made: the matter after it is valid, and its puts turn the kept rows of the

@@ -1,5 +1,5 @@
 -- What deciding a call gives.
-use Rattle.std.specs.Prelude.{◌≡◌, ℕ, [], Bool, false, true, IsTrue, is_some, length, List, Result, Ok, Err}
+use Rattle.std.specs.Prelude.{◌≡◌, [], Bool, true, IsTrue, is_some, length, Result, Ok, Err}
 use Rattle.std.specs.Str.{all_scalars}
 use Rattle.bp_core.specs.Sorted.{find_key}
 use Rattle.bp_core.specs.declared.refusals.Refusal.{Refusal}
@@ -10,8 +10,6 @@ use Rattle.bp_matter.specs.Matter.{Matter, staff_key}
 use Rattle.bp_matter.specs.Valid.{IsValid}
 use Rattle.bp_matter.specs.ValidRows.{names}
 use Rattle.bp_matter.specs.ValidStaff.{checker_there, is_checker}
-use Rattle.bp_matter.specs.declared.calls.Call.{Call}
-use Rattle.bp_matter.specs.declared.calls.Call.TheVariants.{Freeze, GetProduction}
 use Rattle.bp_matter.specs.declared.rows.Entry.{Entry}
 use Rattle.bp_matter.specs.declared.rows.StaffRow.{StaffRow}
 use Rattle.bp_rules.specs.Calling.{box_with, held_with}
@@ -23,12 +21,6 @@ use Rattle.bp_rules.specs.declared.changes.Edit.TheVariants.{Review}
 use Rattle.bp_rules.specs.declared.changes.MarkEdit.{MarkEdit}
 use Rattle.bp_rules.specs.declared.changes.MarkEdit.TheVariants as mark_edits
 use Rattle.bp_rules.specs.declared.deciding.Decided.{Decided}
-
--- a call of review: one that isn't about productions
-abbrev pub is_review : Call → Bool
-is_review (Freeze _) = false
-is_review (GetProduction _) = false
-is_review _ = true
 
 -- the reply, and the matter after the change
 abbrev pub stepped_of : Matter → Decided → Stepped

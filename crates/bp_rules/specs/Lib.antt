@@ -4,6 +4,7 @@ pub mod Changes
 pub mod Deciding
 pub mod Importing
 pub mod ImportRows
+pub mod Keeping
 pub mod Limits
 pub mod Loading
 pub mod Refusing

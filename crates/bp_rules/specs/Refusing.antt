@@ -1,12 +1,10 @@
 -- What a call may be refused for.
-use Rattle.std.specs.Prelude.{Bool, false, List, length, nat_le, Option, Some, None, Result, Err, not, ◌==◌, ◌&&◌, ◌||◌, ℕ, ◌+◌}
+use Rattle.std.specs.Prelude.{Bool, false, List, length, Option, Some, None, Result, Err, not, ◌==◌, ◌&&◌, ◌||◌, ℕ, ◌+◌}
 use Rattle.bp_core.specs.Rules.{bare_rule}
-use Rattle.bp_core.specs.declared.review.Treatment.{Treatment}
 use Rattle.bp_core.specs.declared.rules.Rule.{Rule}
 use Rattle.bp_core.specs.declared.rules.RuleKind.{RuleKind}
-use Rattle.bp_core.specs.declared.rules.RuleKind.TheVariants.{MatterFull, NoDocument, NoPage, StaffThere}
+use Rattle.bp_core.specs.declared.rules.RuleKind.TheVariants.{NoDocument, NoPage, StaffThere}
 use Rattle.bp_matter.specs.Confirming.{boxes_on, held_on}
-use Rattle.bp_matter.specs.LookUps.{doc_with, page_with}
 use Rattle.bp_matter.specs.Matter.{Matter}
 use Rattle.bp_matter.specs.Texts.{is_text}
 use Rattle.bp_matter.specs.Treatments.{is_redact}

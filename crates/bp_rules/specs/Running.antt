@@ -1,80 +1,151 @@
--- Calls in turn on a matter.
-use Rattle.std.specs.Prelude.{◌≡◌, ℕ, Bool, false, true, IsTrue, List, [], ◌∷◌, ◌++◌, is_some, Result, Ok, Err, IfSome}
-use Rattle.std.specs.Result.{IsOk}
+-- Calls and imports in turn on a matter, with what is answered to each.
+use Rattle.std.specs.Prelude.{◌≡◌, ℕ, Bool, false, true, IsTrue, not, List, [], ◌∷◌, ◌++◌, is_some, Result, Ok, Err, IfSome}
 use Rattle.bp_core.specs.Counts.{risen}
 use Rattle.bp_core.specs.declared.rules.Rule.{Rule}
 use Rattle.bp_keep.specs.Keeper.{KeeperView}
 use Rattle.bp_matter.specs.Matter.{Matter, Shown}
 use Rattle.bp_matter.specs.Valid.{IsValid}
 use Rattle.bp_matter.specs.declared.calls.Reply.{Reply}
-use Rattle.bp_rules.specs.Deciding.{is_review}
+use Rattle.bp_rules.specs.Changes.{after}
+use Rattle.bp_rules.specs.Importing.{import_of}
 use Rattle.bp_rules.specs.Loading.{LoadsTables}
 use Rattle.bp_rules.specs.Stepping.{Stepped, step_of}
-use Rattle.bp_rules.specs.Steps.{Keeps}
+use Rattle.bp_rules.specs.Steps.{Keeps, Stays, counted_of}
+use Rattle.bp_rules.specs.declared.importing.Imported.{Imported}
+use Rattle.bp_rules.specs.declared.running.Answer.{Answer}
+use Rattle.bp_rules.specs.declared.running.Answer.TheVariants as answers
 use Rattle.bp_rules.specs.declared.running.Asked.{Asked}
+use Rattle.bp_rules.specs.declared.running.Asked.TheVariants as asks
+use Rattle.bp_rules.specs.declared.stepping.Counted.{Counted}
 use Rattle.bp_rules.specs.declared.stepping.StepRefusal.{StepRefusal}
 use Rattle.bp_rules.specs.declared.stepping.StepRefusal.TheVariants as stops
 
--- what a step leaves: a refused call changes nothing
-abbrev pub left_by : Matter → Result Stepped Rule → Matter
-left_by m (Ok stepped) = stepped.matter
-left_by m (Err rule) = m
+-- what is answered, and the matter after it
+pub record Answered : Type 0 where
+  pub answer : Answer
+  pub matter : Matter
 
--- the matter after these calls
+-- a broken rule is the answer, and changes nothing
+abbrev pub refused_by : Matter → Rule → Answered
+refused_by m rule = record { answer = answers.Refused rule; matter = m }
+
+-- to the step of a call
+abbrev pub to_call : Matter → Result Stepped Rule → Answered
+to_call m (Ok stepped) =
+    record { answer = answers.Replied stepped.reply; matter = stepped.matter }
+to_call m (Err rule) = refused_by m rule
+
+-- and to an import
+abbrev pub to_import : Matter → Result Imported Rule → Answered
+to_import m (Ok imported) =
+    record { answer = answers.Counted (counted_of imported); matter = after m imported.change }
+to_import m (Err rule) = refused_by m rule
+
+-- what is answered to one that is asked
+abbrev pub answered : Matter → Asked → Answered
+answered m (asks.Call key call) = to_call m (step_of m key call)
+answered m (asks.Import batch) = to_import m (import_of m batch)
+
+-- the matter after all that is asked in turn
 abbrev pub run_of : Matter → List Asked → Matter
 run_of m [] = m
-run_of m (asked ∷ more) = run_of (left_by m (step_of m asked.key asked.call)) more
+run_of m (asked ∷ more) = run_of (answered m asked).matter more
 
--- what is asked is a call of review
-abbrev pub asks_review : Asked → Bool
-asks_review asked = is_review asked.call
+-- and the answers, in order
+abbrev pub answers_of : Matter → List Asked → List Answer
+answers_of m [] = []
+answers_of m (asked ∷ more) =
+    (answered m asked).answer ∷ answers_of (answered m asked).matter more
 
--- a run goes on past a broken rule
-abbrev pub goes_on : Result Reply StepRefusal → Result (Unit {0}) StepRefusal
-goes_on (Err stops.KeeperFault) = Err stops.KeeperFault
-goes_on (Err stops.OutOfMemory) = Err stops.OutOfMemory
-goes_on _ = Ok tt
+-- a matter, its keeper, and the answers that were given
+pub record Book : Type 0 where
+  pub matter : Matter
+  pub keeper : KeeperView
+  pub answers : List Answer
 
--- these calls were made in turn, refused ones among them: a keeper that kept the matter keeps the
--- matter after them, and it tells rows only where it told them before
-pub record Ran (m : Matter) (calls : List Asked) (keeper : KeeperView) (count : ℕ) (m' : Matter)
-    (keeper' : KeeperView) : Type 0 where
-  pub matter : m' ≡ run_of m calls
-  pub kept : Keeps keeper m → Keeps keeper' m'
-  pub told : IfSome keeper'.rows (λ _. IsTrue (is_some keeper.rows))
-  pub faults : keeper'.faults ≡ count
-  pub sure : keeper'.sure ≡ keeper.sure
+abbrev pub book_of : Matter → KeeperView → List Answer → Book
+book_of m keeper told = record { matter = m; keeper = keeper; answers = told }
 
--- a run stops at a call that breaks no rule where the keeper fails, and at no broken rule
-abbrev pub StopsAt : StepRefusal → Result Stepped Rule → Type 0
-StopsAt (stops.Rule rule) step = ⊥
-StopsAt stops.KeeperFault step = IsOk step
-StopsAt stops.OutOfMemory step = Unit {0}
+-- all of this was asked in turn and answered, broken rules among the answers: a keeper that kept the
+-- matter keeps the matter after it, and it tells rows only where it told them before
+pub record Ran (before : Book) (asked : List Asked) (count : ℕ) (now : Book) : Type 0 where
+  pub matter : now.matter ≡ run_of before.matter asked
+  pub answers : now.answers ≡ before.answers ++ answers_of before.matter asked
+  pub kept : Keeps before.keeper before.matter → Keeps now.keeper now.matter
+  pub told : IfSome now.keeper.rows (λ _. IsTrue (is_some before.keeper.rows))
+  pub faults : now.keeper.faults ≡ count
+  pub sure : now.keeper.sure ≡ before.keeper.sure
+
+-- a broken rule is answered
+abbrev pub is_broken : Answer → Bool
+is_broken (answers.Refused rule) = true
+is_broken _ = false
+
+-- a run stops where the keeper fails at what breaks no rule, and at no broken rule
+abbrev pub StopsAt : StepRefusal → Answer → Type 0
+StopsAt (stops.Rule rule) answer = ⊥
+StopsAt stops.KeeperFault answer = IsTrue (not (is_broken answer))
+StopsAt stops.OutOfMemory answer = Unit {0}
 
 -- only a fault of the keeper raises its count
 abbrev pub faults_stopped : ℕ → StepRefusal → ℕ
 faults_stopped faults stops.KeeperFault = risen faults
 faults_stopped faults _ = faults
 
--- the calls before one were made, and that one and those behind it weren't
-pub record Stopped (m : Matter) (calls : List Asked) (keeper : KeeperView) (refusal : StepRefusal)
-    (m' : Matter) (keeper' : KeeperView) : Type 0 where
+-- what was asked before was made and answered, and the next and those behind it weren't
+pub record Stopped (before : Book) (asked : List Asked) (refusal : StepRefusal) (now : Book)
+    : Type 0 where
   pub first : List Asked
   pub next : Asked
   pub others : List Asked
-  pub parts : calls ≡ first ++ next ∷ others
-  pub ran : Ran m first keeper (faults_stopped keeper.faults refusal) m' keeper'
-  pub reason : StopsAt refusal (step_of m' next.key next.call)
+  pub parts : asked ≡ first ++ next ∷ others
+  pub ran : Ran before first (faults_stopped before.keeper.faults refusal) now
+  pub reason : StopsAt refusal (answered now.matter next).answer
 
--- what a run gives: all calls made in turn, or those before the one that it stopped at
-abbrev pub Runs : Matter → List Asked → KeeperView → Result (Unit {0}) StepRefusal → Matter
+-- what a run gives: all made and answered in turn, or what was asked before the one that it
+-- stopped at
+abbrev pub Runs : Book → List Asked → Result (Unit {0}) StepRefusal → Book → Type 0
+Runs before asked (Ok _) now = Ran before asked before.keeper.faults now
+Runs before asked (Err refusal) now = Stopped before asked refusal now
+
+-- ---- one of a run
+
+-- a broken rule is an answer, and the run goes on
+abbrev pub refusal_answer : StepRefusal → Result Answer StepRefusal
+refusal_answer (stops.Rule rule) = Ok (answers.Refused rule)
+refusal_answer stops.KeeperFault = Err stops.KeeperFault
+refusal_answer stops.OutOfMemory = Err stops.OutOfMemory
+
+abbrev pub reply_answer : Result Reply StepRefusal → Result Answer StepRefusal
+reply_answer (Ok reply) = Ok (answers.Replied reply)
+reply_answer (Err refusal) = refusal_answer refusal
+
+abbrev pub counted_answer : Result Counted StepRefusal → Result Answer StepRefusal
+counted_answer (Ok counted) = Ok (answers.Counted counted)
+counted_answer (Err refusal) = refusal_answer refusal
+
+-- one that is asked was made, or broke a rule, with this answer
+pub record OneAnswered (m : Matter) (asked : Asked) (keeper : KeeperView) (answer : Answer)
+    (m' : Matter) (keeper' : KeeperView) : Type 0 where
+  pub answered : answered m asked ≡ record { answer = answer; matter = m' }
+  pub kept : Keeps keeper m → Keeps keeper' m'
+  pub told : IfSome keeper'.rows (λ _. IsTrue (is_some keeper.rows))
+  pub faults : keeper'.faults ≡ keeper.faults
+  pub sure : keeper'.sure ≡ keeper.sure
+
+-- what it gives: the answer; or a fault of the keeper or want of memory, which leave all
+abbrev pub AnswersOne : Matter → Asked → KeeperView → Result Answer StepRefusal → Matter
     → KeeperView → Type 0
-Runs m calls keeper (Ok _) m' keeper' = Ran m calls keeper keeper.faults m' keeper'
-Runs m calls keeper (Err refusal) m' keeper' = Stopped m calls keeper refusal m' keeper'
+AnswersOne m asked keeper (Ok answer) m' keeper' = OneAnswered m asked keeper answer m' keeper'
+AnswersOne m asked keeper (Err refusal) m' keeper' =
+    StopsAt refusal (answered m asked).answer
+    × Stays m keeper (faults_stopped keeper.faults refusal) m' keeper'
+
+-- ---- loaded after a run
 
 -- where the rows of a matter are told, what is loaded from them after a run is the matter after it
 abbrev pub RunLoads : Type 0
-RunLoads = (m m' : Matter) (calls : List Asked) (before after loaded : KeeperView) (count : ℕ)
-    (tables : Shown) → Keeps before m → Ran m calls before count m' after → IsValid m'
-    → IsTrue (is_some after.rows) → LoadsTables after (Ok tables) loaded
-    → tables.matter ≡ run_of m calls
+RunLoads = (before now : Book) (asked : List Asked) (loaded : KeeperView) (count : ℕ)
+    (tables : Shown) → Keeps before.keeper before.matter → Ran before asked count now
+    → IsValid now.matter → IsTrue (is_some now.keeper.rows)
+    → LoadsTables now.keeper (Ok tables) loaded → tables.matter ≡ run_of before.matter asked

@@ -18,7 +18,7 @@ use Rattle.bp_matter.specs.Treatments.{is_ground, is_redact}
 use Rattle.bp_matter.specs.ValidEntries.{entry_fits}
 use Rattle.bp_matter.specs.ValidPages.{inside_page}
 use Rattle.bp_matter.specs.declared.calls.Call.{Call}
-use Rattle.bp_matter.specs.declared.calls.Call.TheVariants.{AddStaff, Confirm, DropBox, FreeField, HoldField, PutBox, PutEntry, SeeDoc, SeePage, SeeWords, SendBack, SetCall}
+use Rattle.bp_matter.specs.declared.calls.Call.TheVariants.{AddStaff, Confirm, DropBox, FreeField, Freeze, GetProduction, HoldField, PutBox, PutEntry, SeeDoc, SeePage, SeeWords, SendBack, SetCall}
 use Rattle.bp_matter.specs.declared.calls.Reply.{Reply}
 use Rattle.bp_matter.specs.declared.calls.Reply.TheVariants as replies
 use Rattle.bp_matter.specs.declared.limits.TheConstants.{MAX_STAFF}
@@ -27,10 +27,13 @@ use Rattle.bp_matter.specs.declared.rows.DocBox.{DocBox}
 use Rattle.bp_matter.specs.declared.rows.DocEntry.{DocEntry}
 use Rattle.bp_matter.specs.declared.rows.FieldRow.{FieldRow}
 use Rattle.bp_matter.specs.declared.rows.PageRow.{PageRow}
+use Rattle.bp_matter.specs.declared.rows.Production.{Production}
 use Rattle.bp_matter.specs.declared.rows.StaffRow.{StaffRow}
 use Rattle.bp_matter.specs.declared.rows.State.TheVariants.{First}
+use Rattle.bp_freeze.specs.Freezing.{freeze_of, kept_production}
+use Rattle.bp_freeze.specs.Keeping.{frozen_matter}
 use Rattle.bp_rules.specs.Calling.{box_with, confirmed_by, edited, held_with, next_staff, view_of, with_box, with_call, with_entry, with_held, with_staff, without_box, without_call, without_held, words_in}
-use Rattle.bp_rules.specs.Refusing.{has_marks, is_box, is_called_redact, is_staff_name, no_document, on_doc, on_page, refused, staff_full, staff_there}
+use Rattle.bp_rules.specs.Refusing.{has_marks, is_box, is_called_redact, is_staff_name, on_doc, on_page, refused, staff_full, staff_there}
 use Rattle.bp_rules.specs.Roles.{may}
 
 -- what a call replies, and the matter after it
@@ -118,6 +121,16 @@ confirm m caller doc (Some row) =
     confirm_unless m caller row (confirm_rule row (editor_of row.state) (boxes_on doc m.boxes)
     (held_on doc m.held) (is_entered doc m.entries) caller.0)
 
+-- the production that a request gives is kept and told; a kept id changes nothing
+abbrev pub freeze : Matter → Result Production Rule → Result Stepped Rule
+freeze m (Ok f) = Ok (record { reply = replies.Produced f; matter = frozen_matter f m })
+freeze m (Err rule) = Err rule
+
+-- the production that is kept under an id
+abbrev pub get_production : Matter → Option Production → Result Stepped Rule
+get_production m None = refused kinds.NoProduction
+get_production m (Some f) = told m (replies.Produced f)
+
 -- a call of this person, which their role may make
 abbrev pub step_by : Matter → StaffNo → Call → Result Stepped Rule
 step_by m caller (AddStaff name role digest) =
@@ -164,8 +177,8 @@ step_by m caller (Confirm doc) =
     on_doc doc.0 (doc_with doc.0 m) (λ _. confirm m caller doc.0 (call_with doc.0 m))
 step_by m caller (SendBack doc) =
     on_doc doc.0 (doc_with doc.0 m) (λ _. done (without_call doc.0 m))
--- Freeze and GetProduction come later: of them nothing is said yet
-step_by m caller _ = done m
+step_by m caller (Freeze request) = freeze m (freeze_of m request)
+step_by m caller (GetProduction id) = get_production m (kept_production m.productions id)
 
 -- a call of who has the key
 abbrev pub step_for : Matter → Option StaffRow → Call → Result Stepped Rule

@@ -1,11 +1,11 @@
 -- The rows of a change have a writing.
 use Rattle.std.specs.Prelude.{Bool, IsTrue, true}
 use Rattle.std.specs.List.{list_all}
-use Rattle.bp_matter.specs.Written.{batch_written, box_written, call_written, doc_written, entry_written, field_written, held_written, page_written, staff_written, words_written}
+use Rattle.bp_matter.specs.Written.{batch_written, box_written, call_written, doc_written, entry_written, field_written, held_written, page_written, prefix_written, production_written, staff_written, words_written}
 use Rattle.bp_rules.specs.declared.changes.CallEdit.{CallEdit}
 use Rattle.bp_rules.specs.declared.changes.CallEdit.TheVariants as call_edits
 use Rattle.bp_rules.specs.declared.changes.Edit.{Edit}
-use Rattle.bp_rules.specs.declared.changes.Edit.TheVariants.{Import, Nothing, Review, Staff}
+use Rattle.bp_rules.specs.declared.changes.Edit.TheVariants.{Import, Nothing, Produced, Review, Staff}
 use Rattle.bp_rules.specs.declared.changes.ImportRows.{ImportRows}
 use Rattle.bp_rules.specs.declared.changes.MarkEdit.{MarkEdit}
 use Rattle.bp_rules.specs.declared.changes.MarkEdit.TheVariants as mark_edits
@@ -34,4 +34,6 @@ abbrev pub EditWritten : Edit → Type 0
 EditWritten Nothing = Unit {0}
 EditWritten (Import rows) = RowsWritten rows
 EditWritten (Staff row) = IsTrue (staff_written row)
+EditWritten (Produced prefix row) =
+    IsTrue (prefix_written prefix) × IsTrue (production_written row)
 EditWritten (Review call mark) = IsTrue (call_edit_written call) × IsTrue (mark_edit_written mark)

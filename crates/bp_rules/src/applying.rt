@@ -1,18 +1,18 @@
 // Making a decided change.
 ghost use Rattle.std.specs.Prelude.{[], ◌≡◌, ◌≤◌, ◌++◌, ◌∷◌, length, IsTrue, OnOk};
 ghost use Rattle.bp_core.specs.Sorted.{ascends, put};
-ghost use Rattle.bp_matter.specs.Matter.{call_key};
+ghost use Rattle.bp_matter.specs.Matter.{call_key, prefix_key};
 ghost use Rattle.bp_matter.specs.Valid.{IsValid};
 ghost use Rattle.bp_rules.specs.Calling.{with_staff};
-ghost use Rattle.bp_rules.specs.Changes.{after, boxes_after, call_puts, calls_after, entries_after, held_after, mark_puts, puts_of, rows_kept, with_rows};
+ghost use Rattle.bp_rules.specs.Changes.{after, boxes_after, call_puts, calls_after, entries_after, held_after, mark_puts, puts_of, rows_kept, with_produced, with_rows};
 ghost use Rattle.bp_rules.specs.Room.{HasRoom, HasRoomForEdit, HasRoomForFour, HasRoomForRows, ListsAscend};
 ghost use Rattle.bp_rules.specs.declared.changes.Edit.TheVariants.{Review};
 
 use crate::changes::{CallEdit, Change, Edit, ImportRows, MarkEdit};
 use bp_core::{Keyed, ListOf, OutOfMemory, put_row, remove_row, two_keys};
 use bp_matter::{
-    BatchRow, CallRow, DocBox, DocEntry, DocHeld, DocRow, FieldRow, PageRow, PageWords, StaffRow,
-    Tables,
+    BatchRow, CallRow, DocBox, DocEntry, DocHeld, DocRow, FieldRow, PageRow, PageWords, PrefixRow,
+    ProductionRow, StaffRow, Tables,
 };
 
 /// Makes room in each list for as many rows as the change has puts. The contents stay as they are.
@@ -76,6 +76,7 @@ pub fn apply(tables: &mut Tables, change: Change)
         Edit::Nothing => {}
         Edit::Import(rows) => add_rows(tables, rows),
         Edit::Staff(row) => add_staff(tables, row),
+        Edit::Produced(prefix, row) => add_production(tables, prefix, row),
         Edit::Review(call, mark) => edit_rows(tables, call, mark),
     }
 }
@@ -93,6 +94,31 @@ fn push_staff(staff: &mut Vec<StaffRow>, row: StaffRow)
     ensures { staff.new.items ≡ staff.old.items ++ row ∷ [] }
 {
     let _ = staff.push(row);
+}
+
+// Adds a production, and puts its prefix. Between the lists the tables need not be valid.
+fn add_production(tables: &mut Tables, prefix: PrefixRow, row: ProductionRow)
+    requires valid { IsValid (with_produced prefix row tables.old.matter) }
+    requires room { 2 ≤ tables.old.spare }
+    ensures { tables.new.matter ≡ with_produced prefix row tables.old.matter }
+{
+    produce(&mut tables.prefixes, &mut tables.productions, prefix, row);
+}
+
+fn produce(
+    prefixes: &mut Vec<PrefixRow>,
+    productions: &mut Vec<ProductionRow>,
+    prefix: PrefixRow,
+    row: ProductionRow,
+)
+    requires order { IsTrue (ascends prefix_key 0 prefixes.old.items) }
+    requires prefix_room { HasRoom 1 prefixes.old }
+    requires row_room { HasRoom 1 productions.old }
+    ensures prefixes { prefixes.new.items ≡ put prefix_key prefix prefixes.old.items }
+    ensures productions { productions.new.items ≡ productions.old.items ++ row ∷ [] }
+{
+    put_in(prefixes, prefix);
+    let _ = productions.push(row);
 }
 
 // Changes the rows of a document. Between the lists the tables need not be valid.

@@ -1,15 +1,15 @@
 // Changes of a matter, and the puts that keep them.
 ghost use Rattle.std.specs.Prelude.{◌≡◌, ◌++◌, ◌∷◌, [], IfOk, OnOk, IsTrue, map};
 ghost use Rattle.std.specs.List.{list_all};
-ghost use Rattle.bp_matter.specs.KeptRows.{staff_kept};
-ghost use Rattle.bp_matter.specs.Written.{staff_written};
+ghost use Rattle.bp_matter.specs.KeptRows.{prefix_kept, production_kept, staff_kept};
+ghost use Rattle.bp_matter.specs.Written.{prefix_written, production_written, staff_written};
 ghost use Rattle.bp_rules.specs.Changes.{call_puts, gone, mark_puts, put_of, puts_of, rows_kept};
 ghost use Rattle.bp_rules.specs.Written.{EditWritten, RowsWritten, call_edit_written, mark_edit_written};
 
 use bp_core::{DocNo, ListOf, OutOfMemory, Put, PutList, Row};
 use bp_matter::{
     BatchRow, CallRow, DocBox, DocEntry, DocHeld, DocRow, FieldRow, Kind, PageRow, PageWords,
-    StaffRow,
+    PrefixRow, ProductionRow, StaffRow,
 };
 use std::alloc::Global;
 use std::marker::Model;
@@ -55,6 +55,8 @@ pub enum Edit {
     Import(ImportRows),
     /// A member of the staff comes.
     Staff(StaffRow),
+    /// A production comes. Its prefix takes the place of the one of its number, or comes with it.
+    Produced(PrefixRow, ProductionRow),
     /// The call of a document changes, a mark of it, or both.
     Review(CallEdit, MarkEdit),
 }
@@ -113,6 +115,7 @@ fn puts_of(alloc: Global, edit: &Edit) -> Result<PutList, OutOfMemory>
         Edit::Nothing => Ok(ListOf::new(alloc)),
         Edit::Import(rows) => import_puts(alloc, rows),
         Edit::Staff(row) => staff_puts(alloc, row),
+        Edit::Produced(prefix, row) => produced_puts(alloc, prefix, row),
         Edit::Review(call, mark) => review_puts(alloc, call, mark),
     }
 }
@@ -122,6 +125,22 @@ fn staff_puts(alloc: Global, row: &StaffRow) -> Result<PutList, OutOfMemory>
     ensures { IfOk result (λ puts. puts ≡ put_of (staff_kept row.now) ∷ []) }
 {
     let mut puts = Vec::new(alloc);
+    push_put(alloc, &mut puts, row)?;
+    Ok(ListOf::from_vec(puts))
+}
+
+fn produced_puts(
+    alloc: Global,
+    prefix: &PrefixRow,
+    row: &ProductionRow,
+) -> Result<PutList, OutOfMemory>
+    requires prefix { IsTrue (prefix_written prefix.now) }
+    requires row { IsTrue (production_written row.now) }
+    ensures { IfOk result (λ puts. puts
+        ≡ put_of (prefix_kept prefix.now) ∷ put_of (production_kept row.now) ∷ []) }
+{
+    let mut puts = Vec::new(alloc);
+    push_put(alloc, &mut puts, prefix)?;
     push_put(alloc, &mut puts, row)?;
     Ok(ListOf::from_vec(puts))
 }

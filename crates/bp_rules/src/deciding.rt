@@ -1,7 +1,7 @@
 // Deciding a call.
 ghost use Rattle.std.specs.Prelude.{◌≡◌, IsTrue};
 ghost use Rattle.bp_rules.specs.Changes.{after};
-ghost use Rattle.bp_rules.specs.Deciding.{CanBeReviewed, Decides, IsCaller, is_review};
+ghost use Rattle.bp_rules.specs.Deciding.{CanBeReviewed, Decides, IsCaller};
 ghost use Rattle.bp_rules.specs.Roles.{may};
 ghost use Rattle.bp_rules.specs.Stepping.{done, step_by, step_of, told};
 ghost use Rattle.bp_rules.specs.declared.changes.Edit.TheVariants.{Review};
@@ -9,6 +9,7 @@ ghost use Rattle.bp_rules.specs.declared.changes.Edit.TheVariants.{Review};
 use crate::calling::{confirm, send_back, set_call};
 use crate::changes::{CallEdit, Change, Edit, MarkEdit};
 use crate::entering::put_entry;
+use crate::freezing::{freeze_call, get_production};
 use crate::holding::{free_field, hold_field};
 use crate::marking::{drop_box, put_box};
 use crate::members::add_staff;
@@ -28,7 +29,6 @@ pub struct Decided {
 
 /// Decides a call that was made with this key: what it changes and what is replied, or the first
 /// rule that it breaks. A call that changes nothing has no puts.
-// Freeze and GetProduction come later, and then nothing is asked of the caller.
 #[tactic(auto, unfolding(crate::specs::Stepping::step_of))]
 pub fn decide(
     alloc: Global,
@@ -36,7 +36,6 @@ pub fn decide(
     key: &[u8; 32],
     call: &Call,
 ) -> Result<Decided, Refusal>
-    requires { IsTrue (is_review call.now) }
     ensures { Decides tables.now.matter (step_of tables.now.matter key.now call.now) result }
 {
     tables.know_valid();
@@ -119,8 +118,8 @@ fn decide_by(
         ),
         Call::Confirm { doc } => confirm(alloc, tables, by, *doc),
         Call::SendBack { doc } => send_back(alloc, tables, by, *doc),
-        // None of these comes here: `decide` asks for it.
-        Call::Freeze { .. } | Call::GetProduction { .. } => told(alloc, tables, Reply::Done),
+        Call::Freeze { request } => freeze_call(alloc, tables, request),
+        Call::GetProduction { id } => get_production(alloc, tables, id),
     }
 }
 

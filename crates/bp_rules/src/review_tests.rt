@@ -1,6 +1,4 @@
 // A review of one document of one page, over a keeper in memory, with ample memory.
-ghost use Rattle.std.specs.Prelude.{◌≡◌, IfOk, IsTrue};
-ghost use Rattle.bp_rules.specs.Deciding.{is_review};
 
 use crate::{Asked, StepRefusal, load_tables, step, step_all};
 use bp_core::{
@@ -140,9 +138,7 @@ fn put_entry(
     step(alloc, tables, keeper, &[staff; 32], &call)
 }
 
-fn entry(alloc: Global) -> Result<Call, OutOfMemory>
-    ensures { IfOk result (λ call. IsTrue (is_review call)) }
-{
+fn entry(alloc: Global) -> Result<Call, OutOfMemory> {
     Ok(Call::PutEntry {
         doc: DOCUMENT,
         date: text(alloc, "2026")?,
@@ -152,11 +148,9 @@ fn entry(alloc: Global) -> Result<Call, OutOfMemory>
     })
 }
 
-fn asked(staff: u8, call: Call) -> Asked
-    ensures { result.call ≡ call }
-{
+fn asked(staff: u8, call: Call) -> Asked {
     let key = [staff; 32];
-    Asked { key, call }
+    Asked::Call { key, call }
 }
 
 fn is_done(reply: Result<Reply, StepRefusal>) -> bool {
@@ -250,10 +244,12 @@ fn a_run_goes_on_past_a_refused_call(rt: HostRuntime) -> Result<(), Fail> {
     let confirm = Call::Confirm { doc: DOCUMENT };
     let back = Call::SendBack { doc: DOCUMENT };
     let calls = [asked(2, confirm), asked(3, back)];
-    let stopped = step_all(alloc, t, k, &calls);
+    let mut answers = Vec::new(alloc);
+    let stopped = step_all(alloc, t, k, &calls, &mut answers);
     assert!(rt; matches!(stopped, Err(StepRefusal::KeeperFault)));
     assert!(rt; t.state(DOCUMENT) == Some(State::First(StaffNo(2))));
-    assert!(rt; step_all(alloc, t, k, &calls).is_ok());
+    assert!(rt; step_all(alloc, t, k, &calls, &mut answers).is_ok());
+    assert_eq!(rt; answers.len(), 3);
     assert!(rt; t.state(DOCUMENT) == Some(State::Uncalled));
     assert_eq!(rt; k.load(alloc)?.len(), 8);
     Ok(())

@@ -1,34 +1,51 @@
-// Calls in turn.
-ghost use Rattle.std.specs.Prelude.{◌≡◌, [], ◌∷◌, IsTrue};
-ghost use Rattle.std.specs.List.{list_all};
-ghost use Rattle.bp_rules.specs.Running.{RunLoads, Runs, asks_review, goes_on};
+// Calls and imports in turn.
+ghost use Rattle.std.specs.Prelude.{◌≡◌, [], ◌∷◌};
+ghost use Rattle.bp_rules.specs.Keeping.{StepKeeps};
+ghost use Rattle.bp_rules.specs.Running.{AnswersOne, RunLoads, Runs, book_of, counted_answer, refusal_answer, reply_answer};
 
-use crate::stepping::{StepRefusal, step};
+use crate::stepping::{Counted, StepRefusal, step, step_import};
+use bp_core::Rule;
 use bp_keep::Keeper;
-use bp_matter::{Call, Reply, Tables};
+use bp_matter::{Batch, Call, Reply, Tables};
 use std::alloc::Global;
 
-/// A call, and the digest of the key that it is made with.
+/// What is asked of a matter.
 #[derive(Debug, Drop)]
-pub struct Asked {
-    pub key: [u8; 32],
-    pub call: Call,
+pub enum Asked {
+    /// A call, with the SHA-256 of the key that it is made with.
+    Call { key: [u8; 32], call: Call },
+    /// The import of a batch.
+    Import { batch: Batch },
 }
 
-/// Makes these calls in turn. A call that breaks a rule changes nothing, and the next one is made;
-/// a fault of the keeper and want of memory end the run, with the calls before made and kept.
+/// What is answered.
+#[derive(Debug, Drop)]
+pub enum Answer {
+    /// The reply to a call.
+    Replied(Reply),
+    /// How many documents and pages a batch has.
+    Counted(Counted),
+    /// This rule was broken, and nothing changed.
+    Refused(Rule),
+}
+
+/// Makes all that is asked in turn, and adds the answers, in order, to those that were given. What
+/// breaks a rule changes nothing, and the next is made; a fault of the keeper and want of memory
+/// end the run, with all that was asked before made, kept and answered.
 pub fn step_all<K: Keeper>(
     alloc: Global,
     tables: &mut Tables,
     keeper: &mut K,
-    calls: &[Asked],
+    asked: &[Asked],
+    answers: &mut Vec<Answer>,
 ) -> Result<(), StepRefusal>
-    requires { IsTrue (list_all asks_review calls.now) }
-    ensures { Runs tables.old.matter calls.now (K.shows keeper.old) result tables.new.matter
-        (K.shows keeper.new) }
+    ensures run { let before = book_of tables.old.matter (K.shows keeper.old) answers.old.items in
+        let now = book_of tables.new.matter (K.shows keeper.new) answers.new.items in
+        Runs before asked.now result now }
+    ensures kept { StepKeeps tables.old.matter tables.new.matter }
 {
-    for asked in calls {
-        match make_call(alloc, tables, keeper, asked) {
+    for one in asked {
+        match answer_next(alloc, tables, keeper, one, answers) {
             Ok(()) => {}
             Err(refusal) => return Err(refusal),
         }
@@ -36,27 +53,73 @@ pub fn step_all<K: Keeper>(
     Ok(())
 }
 
-// Makes one call of a run, which goes on where the call breaks a rule.
-fn make_call<K: Keeper>(
+// Makes the next of a run. Room for its answer is there before it is made.
+fn answer_next<K: Keeper>(
     alloc: Global,
     tables: &mut Tables,
     keeper: &mut K,
     asked: &Asked,
+    answers: &mut Vec<Answer>,
 ) -> Result<(), StepRefusal>
-    requires { IsTrue (asks_review asked.now) }
-    ensures { Runs tables.old.matter (asked.now ∷ []) (K.shows keeper.old) result
-        tables.new.matter (K.shows keeper.new) }
+    ensures run { let before = book_of tables.old.matter (K.shows keeper.old) answers.old.items in
+        let now = book_of tables.new.matter (K.shows keeper.new) answers.new.items in
+        Runs before (asked.now ∷ []) result now }
+    ensures kept { StepKeeps tables.old.matter tables.new.matter }
 {
-    go_on(step(alloc, tables, keeper, &asked.key, &asked.call))
+    if answers.reserve(1).is_err() {
+        return Err(StepRefusal::OutOfMemory);
+    }
+    let answer = match make_one(alloc, tables, keeper, asked) {
+        Ok(answer) => answer,
+        Err(refusal) => return Err(refusal),
+    };
+    let _ = answers.push(answer);
+    Ok(())
 }
 
-// Whether a run goes on.
-fn go_on(made: Result<Reply, StepRefusal>) -> Result<(), StepRefusal>
-    ensures { result ≡ goes_on made }
+// Makes one that is asked, and answers it.
+fn make_one<K: Keeper>(
+    alloc: Global,
+    tables: &mut Tables,
+    keeper: &mut K,
+    asked: &Asked,
+) -> Result<Answer, StepRefusal>
+    ensures made { AnswersOne tables.old.matter asked.now (K.shows keeper.old) result
+        tables.new.matter (K.shows keeper.new) }
+    ensures kept { StepKeeps tables.old.matter tables.new.matter }
+{
+    match asked {
+        Asked::Call { key, call } => reply_answer(step(alloc, tables, keeper, key, call)),
+        Asked::Import { batch } => counted_answer(step_import(alloc, tables, keeper, batch)),
+    }
+}
+
+fn reply_answer(made: Result<Reply, StepRefusal>) -> Result<Answer, StepRefusal>
+    ensures { result ≡ reply_answer made }
 {
     match made {
-        Ok(_) | Err(StepRefusal::Rule(_)) => Ok(()),
-        Err(refusal) => Err(refusal),
+        Ok(reply) => Ok(Answer::Replied(reply)),
+        Err(refusal) => refusal_answer(refusal),
+    }
+}
+
+fn counted_answer(made: Result<Counted, StepRefusal>) -> Result<Answer, StepRefusal>
+    ensures { result ≡ counted_answer made }
+{
+    match made {
+        Ok(counted) => Ok(Answer::Counted(counted)),
+        Err(refusal) => refusal_answer(refusal),
+    }
+}
+
+// A broken rule is an answer, and the run goes on.
+fn refusal_answer(refusal: StepRefusal) -> Result<Answer, StepRefusal>
+    ensures { result ≡ refusal_answer refusal }
+{
+    match refusal {
+        StepRefusal::Rule(rule) => Ok(Answer::Refused(rule)),
+        StepRefusal::KeeperFault => Err(StepRefusal::KeeperFault),
+        StepRefusal::OutOfMemory => Err(StepRefusal::OutOfMemory),
     }
 }
 

@@ -1,7 +1,10 @@
 // Steps: decided, kept and made.
 ghost use Rattle.std.specs.Prelude.{◌≡◌, IsTrue};
-ghost use Rattle.bp_rules.specs.Deciding.{is_review};
+ghost use Rattle.bp_matter.specs.ValidProductions.{itself};
+ghost use Rattle.bp_matter.specs.ValidRows.{all_differ};
+ghost use Rattle.bp_freeze.specs.Numbers.{AreTakenOnce, all_labels};
 ghost use Rattle.bp_rules.specs.Changes.{CanBeMade};
+ghost use Rattle.bp_rules.specs.Keeping.{StepKeeps};
 ghost use Rattle.bp_rules.specs.Steps.{Makes, StepsCall, StepsImport};
 
 use crate::applying::{apply, make_room};
@@ -9,6 +12,7 @@ use crate::changes::Change;
 use crate::deciding::{Decided, decide};
 use crate::importing::{Imported, decide_import};
 use bp_core::{OutOfMemory, Refusal, Rule};
+use bp_freeze::numbers_are_taken_once;
 use bp_keep::{KeepRefusal, Keeper};
 use bp_matter::{Batch, Call, Reply, Tables};
 use std::alloc::Global;
@@ -36,15 +40,18 @@ pub enum StepRefusal {
 }
 
 /// Imports a batch: the tables and the kept rows are those after it. Room is made before the rows
-/// are committed, so after the commit nothing can fail. A refusal leaves tables and rows.
+/// are committed, so after the commit nothing can fail. A refusal leaves tables and rows. Stored
+/// productions stay kept, and what comes stands behind the fields, documents, pages and words that
+/// were there.
 pub fn step_import<K: Keeper>(
     alloc: Global,
     tables: &mut Tables,
     keeper: &mut K,
     batch: &Batch,
 ) -> Result<Counted, StepRefusal>
-    ensures { StepsImport tables.old.matter batch.now (K.shows keeper.old) result
+    ensures made { StepsImport tables.old.matter batch.now (K.shows keeper.old) result
         tables.new.matter (K.shows keeper.new) }
+    ensures kept { StepKeeps tables.old.matter tables.new.matter }
 {
     let Imported {
         change,
@@ -64,8 +71,9 @@ pub fn step_import<K: Keeper>(
 
 /// Makes a call with this key: the tables and the kept rows are those after it. Room is made before
 /// the rows are committed, so after the commit nothing can fail; where there are no puts nothing is
-/// committed. A refusal leaves tables and rows.
-// Freeze and GetProduction come later, and then nothing is asked of the caller.
+/// committed. A refusal leaves tables and rows. Stored productions stay kept, and fields, documents,
+/// pages and words stay as they were. Under each prefix the label numbers of all productions are 1 up
+/// to its next number, each once, and no two labels are alike.
 pub fn step<K: Keeper>(
     alloc: Global,
     tables: &mut Tables,
@@ -73,20 +81,34 @@ pub fn step<K: Keeper>(
     key: &[u8; 32],
     call: &Call,
 ) -> Result<Reply, StepRefusal>
-    requires { IsTrue (is_review call.now) }
-    ensures { StepsCall tables.old.matter key.now call.now (K.shows keeper.old) result
+    ensures made { StepsCall tables.old.matter key.now call.now (K.shows keeper.old) result
         tables.new.matter (K.shows keeper.new) }
+    ensures kept { StepKeeps tables.old.matter tables.new.matter }
+    ensures numbers { AreTakenOnce tables.new.matter }
+    ensures labels { IsTrue (all_differ itself (all_labels tables.new.matter.productions)) }
 {
+    know_numbers(tables);
     let Decided { change, reply } = match decide(alloc, tables, key, call) {
         Ok(decided) => decided,
         Err(Refusal::Rule(rule)) => return Err(StepRefusal::Rule(rule)),
         Err(Refusal::OutOfMemory) => return Err(StepRefusal::OutOfMemory),
     };
-    match make(alloc, tables, keeper, change) {
+    let made = make(alloc, tables, keeper, change);
+    know_numbers(tables);
+    match made {
         Ok(()) => Ok(reply),
         Err(KeepRefusal::Failed) => Err(StepRefusal::KeeperFault),
         Err(KeepRefusal::OutOfMemory) => Err(StepRefusal::OutOfMemory),
     }
+}
+
+// Says that the label numbers under each prefix are taken once, and that no two labels are alike.
+fn know_numbers(tables: &Tables)
+    ensures numbers { AreTakenOnce tables.now.matter }
+    ensures labels { IsTrue (all_differ itself (all_labels tables.now.matter.productions)) }
+{
+    tables.know_valid();
+    numbers_are_taken_once();
 }
 
 // Keeps a decided change and makes it. Without puts there is nothing to do.
@@ -97,8 +119,9 @@ fn make<K: Keeper>(
     change: Change,
 ) -> Result<(), KeepRefusal>
     requires { CanBeMade tables.old.matter change }
-    ensures { Makes tables.old.matter (K.shows keeper.old) change result tables.new.matter
+    ensures made { Makes tables.old.matter (K.shows keeper.old) change result tables.new.matter
         (K.shows keeper.new) }
+    ensures kept { StepKeeps tables.old.matter tables.new.matter }
 {
     if change.puts().is_empty() {
         return Ok(());

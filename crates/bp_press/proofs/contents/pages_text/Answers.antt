@@ -1,4 +1,4 @@
-use Rattle.std.proofs.Common.{ap, ◌∙◌, rules, arith}
+use Rattle.std.proofs.Common.{rules}
 use Rattle.bp_press.specs.Contents.{kept_text}
 use Rattle.bp_press.proofs.ContentLemmas.{page_written}
 use Rattle.bp_press.proofs.contents.pages_text.Goals as goal

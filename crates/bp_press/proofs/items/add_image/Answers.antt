@@ -1,7 +1,4 @@
-use Rattle.std.proofs.Common.{rules, ◌≡◌, ◌+◌, ◌∙◌}
-use Rattle.bp_core.specs.Characters.{solidus}
-use Rattle.bp_press.specs.Paths.{image_path}
-use Rattle.bp_press.specs.Pressing.{image_at}
+use Rattle.std.proofs.Common.{rules, ◌≡◌}
 use Rattle.bp_press.proofs.ItemLemmas.{adds_same, cut_same, line_same, image_row}
 use Rattle.bp_press.proofs.items.add_image.Goals as goal
 

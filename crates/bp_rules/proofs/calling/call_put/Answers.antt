@@ -1,4 +1,4 @@
-use Rattle.std.proofs.Common.{◌≡◌, refl}
+use Rattle.std.proofs.Common.{refl}
 use Rattle.bp_rules.proofs.ReviewingLemmas.{again-call, call-stands}
 use Rattle.bp_rules.proofs.calling.call_put.Goals as goal
 

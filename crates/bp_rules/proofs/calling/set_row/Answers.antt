@@ -1,4 +1,3 @@
-use Rattle.std.proofs.Common.{◌≡◌, sym, ◌∙◌}
 use Rattle.bp_rules.specs.Calling.{with_call}
 use Rattle.bp_rules.proofs.ReviewingLemmas.{can-call, doc-named, set-can}
 use Rattle.bp_rules.proofs.calling.set_row.Goals as goal

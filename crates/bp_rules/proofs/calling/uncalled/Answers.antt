@@ -1,5 +1,4 @@
-use Rattle.std.proofs.Common.{◌≡◌, Option, Some, None, sym, ◌∙◌}
-use Rattle.bp_matter.specs.declared.rows.CallRow.{CallRow}
+use Rattle.std.proofs.Common.{sym, ◌∙◌}
 use Rattle.bp_rules.proofs.ReviewingLemmas.{call-absent, still-uncalled}
 use Rattle.bp_rules.proofs.calling.uncalled.Goals as goal
 

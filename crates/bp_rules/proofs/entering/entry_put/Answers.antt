@@ -1,4 +1,4 @@
-use Rattle.std.proofs.Common.{◌≡◌, refl}
+use Rattle.std.proofs.Common.{refl}
 use Rattle.bp_rules.proofs.ReviewingLemmas.{again-entry, entry-stands}
 use Rattle.bp_rules.proofs.entering.entry_put.Goals as goal
 

@@ -1,4 +1,4 @@
-use Rattle.std.proofs.Common.{◌≡◌, refl}
+use Rattle.std.proofs.Common.{refl}
 use Rattle.bp_rules.proofs.ReviewingLemmas.{again-held, held-stands}
 use Rattle.bp_rules.proofs.holding.held_put.Goals as goal
 

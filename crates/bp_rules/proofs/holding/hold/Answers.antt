@@ -1,4 +1,4 @@
-use Rattle.std.proofs.Common.{ap, sym, ◌∙◌, length}
+use Rattle.std.proofs.Common.{ap, ◌∙◌, length}
 use Rattle.bp_matter.specs.ValidRows.{names}
 use Rattle.bp_rules.specs.Calling.{edited, with_held}
 use Rattle.bp_rules.proofs.CallLemmas.{edited-valid}

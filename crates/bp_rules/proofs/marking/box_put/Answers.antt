@@ -1,4 +1,4 @@
-use Rattle.std.proofs.Common.{◌≡◌, refl}
+use Rattle.std.proofs.Common.{refl}
 use Rattle.bp_rules.proofs.ReviewingLemmas.{again-box, box-stands}
 use Rattle.bp_rules.proofs.marking.box_put.Goals as goal
 

@@ -1,5 +1,4 @@
 use Rattle.std.proofs.Common.{◌≡◌, map, take}
-use Rattle.bp_matter.specs.declared.rows.BoxRow.{BoxRow}
 use Rattle.bp_rules.proofs.seeing.shown_boxes.Given as goal
 
 -- those so far

@@ -1,0 +1,151 @@
+-- What writing the files of a production needs is given by a valid matter that keeps it.
+use Rattle.std.proofs.Common.{◌≡◌, ℕ, suc, ◌+◌, ◌*◌, ◌≤◌, ◌||◌, not, true, List, [], ◌∷◌, length, get_or, All, Option, Some, None, nat_le, is_none, refl, ap, ◌∙◌, arith}
+use Rattle.std.specs.List.{list_all}
+use Rattle.std.proofs.lemmas.Bool.{and_from, and_parts, leb-true}
+use Rattle.std.proofs.lemmas.Bool.Decides.{nat_tests}
+use Rattle.std.proofs.lemmas.List.FromFn.{length-map-range_with_len}
+use Rattle.std.proofs.lemmas.List.Sums.{list_all-from_AllPass}
+use Rattle.bp_core.specs.declared.review.Basis.{Basis}
+use Rattle.bp_core.specs.declared.review.Treatment.{Treatment}
+use Rattle.bp_core.specs.declared.review.Treatment.TheVariants.{Produce, Redact, Withhold}
+use Rattle.bp_bates.specs.Spans.{largest_of}
+use Rattle.bp_burn.specs.Drawn.{has_glyph}
+use Rattle.bp_bates.specs.Prefixes.{is_allowed}
+use Rattle.bp_matter.specs.Matter.{Matter}
+use Rattle.bp_matter.specs.Texts.{is_designation_character}
+use Rattle.bp_matter.specs.Valid.{IsValid}
+use Rattle.bp_matter.specs.Treatments.{is_redact}
+use Rattle.bp_matter.specs.ValidItems.{has_marks, is_logged, item_texts_fit, numbers_due, optional_fits}
+use Rattle.bp_matter.specs.declared.rows.Item.{Item}
+use Rattle.bp_matter.specs.declared.rows.Production.{Production}
+use Rattle.bp_matter.specs.declared.rows.Request.{Request}
+use Rattle.bp_freeze.specs.Keeping.{Keeps}
+use Rattle.bp_freeze.specs.Log.{CanBeLogged, entry_stands, label_in, span_fits}
+use Rattle.bp_freeze.specs.Seeing.{page_count}
+use Rattle.bp_press.specs.Contents.{content_by, ground_of, image_in, part_of, produced_page}
+use Rattle.bp_press.specs.Pressing.{AreLabels, CanAllBePlaced, CanBePlaced, count_by}
+use Rattle.bp_press.proofs.CharacterLemmas.{all-wider, glyph-allowed, glyph-designation, label_allowed}
+use Rattle.bp_press.proofs.KeptItemLemmas.{ItemStands, KeptNumbers, items-few, items-stand, kept-numbers}
+use Rattle.bp_press.proofs.KeptPageLemmas.{IsScan, pages-there}
+use Rattle.bp_press.proofs.SpanLemmas.{SpanLies}
+
+-- ---- one item
+
+count_due : (m : Matter) (i : Item) (t : Treatment) → count_by m i (ground_of t) ≡ numbers_due t (page_count m i.doc.0)
+count_due m i Produce = refl
+count_due m i Redact = refl
+count_due m i (Withhold basis) = refl
+
+due_some : (t : Treatment) (pages : ℕ) → 1 ≤ pages → 1 ≤ numbers_due t pages
+due_some Produce pages l = l
+due_some Redact pages l = l
+due_some (Withhold basis) pages l = omega arith
+
+due_few : (t : Treatment) (pages most : ℕ) → 1 ≤ pages → pages ≤ most → numbers_due t pages ≤ most
+due_few Produce pages most some l = l
+due_few Redact pages most some l = l
+due_few (Withhold basis) pages most some l = omega arith
+
+-- an item has as many images as labels
+pub count_is : (m : Matter) (i : Item) → ItemStands m i → (pages : ℕ) → count_by m i (ground_of i.treatment) ≡ numbers_due i.treatment pages → 1 ≤ pages → pages ≤ 20000
+    → (1 ≤ count_by m i (ground_of i.treatment)) × (count_by m i (ground_of i.treatment) ≤ 20000)
+count_is m i stands pages is some few = (omega (arith, is, due_some i.treatment pages some), omega (arith, is, due_few i.treatment pages 20000 some few))
+
+-- so many, which is at most the pages of a matter
+pub record CountFits (m : Matter) (i : Item) : Type 0 where
+  pub some : 1 ≤ count_by m i (ground_of i.treatment)
+  pub few : count_by m i (ground_of i.treatment) ≤ 20000
+  pub span : i.span.last + 1 ≡ i.span.first + count_by m i (ground_of i.treatment)
+
+pub count_fits : (m : Matter) → IsValid m → (i : Item) → ItemStands m i → CountFits m i
+count_fits m valid i stands =
+    let is : count_by m i (ground_of i.treatment) ≡ numbers_due i.treatment stands.row.pages = count_due m i i.treatment ∙ ap (numbers_due i.treatment) stands.pages in
+    let most = leb-true _ 20000 valid.pages.few in
+    let both = count_is m i stands stands.row.pages is stands.some (omega (arith, stands.few, most)) in
+    record { some = both.0; few = both.1; span = omega (arith, stands.span, is) }
+
+are_labels : (f : Production) → KeptNumbers f → (first count : ℕ) → 1 ≤ first → first + count ≤ largest_of f.request.prefix.width + 1 → AreLabels f.request first count
+are_labels f numbers first count from to = record {
+  prefix = numbers.good;
+  from = from;
+  to = to;
+  drawn = λ k l.
+      all-wider is_allowed has_glyph (label_in f.request.prefix (first + k)) glyph-allowed
+      (label_allowed f.request.prefix.text f.request.prefix.width (first + k) numbers.good);
+}
+
+-- the scans of an item
+abbrev AreSound : Matter → Item → Type 0
+AreSound m i = (page : ℕ) → 1 ≤ page → page ≤ page_count m i.doc.0 → IsScan (image_in m i.doc.0 page)
+
+can_be_placed : (m : Matter) → IsValid m → (f : Production) (numbers : KeptNumbers f) (i : Item) → SpanLies 1 numbers.next i → ItemStands m i → AreSound m i → CanBePlaced f.request m i
+can_be_placed m valid f numbers i lies stands sound =
+    let fits = count_fits m valid i stands in
+    record {
+      doc = stands.doc;
+      there = stands.there;
+      labels = are_labels f numbers i.span.first (count_by m i (ground_of i.treatment)) lies.low (omega (arith, fits.span, lies.high, numbers.most));
+      some = fits.some;
+      designation = all-wider is_designation_character has_glyph i.designation glyph-designation (and_parts _ (list_all is_designation_character i.designation) stands.designation).1;
+      scans = λ page low high. (sound page low high).sides;
+    }
+
+-- ---- all items
+
+images_counted : (q : Request) (m : Matter) (i : Item) (ground : Option Basis) → length (content_by q m i ground).images ≡ count_by m i ground
+images_counted q m i None = length-map-range_with_len (produced_page q m i) 1 (page_count m i.doc.0)
+images_counted q m i (Some basis) = refl
+
+pub image_count-part : (q : Request) (m : Matter) (i : Item) → length (part_of q m i).content.images ≡ count_by m i (ground_of i.treatment)
+image_count-part q m i = images_counted q m i (ground_of i.treatment)
+
+all_placed : (q : Request) (m : Matter) (place : ℕ) (items : List Item) → All (CanBePlaced q m) items → All (CountFits m) items → place + 20000 * length items ≤ 20000 * 10000 → CanAllBePlaced q m place items
+all_placed q m place [] placed fit few = tt
+all_placed q m place (i ∷ items) placed fit few =
+    let one = fit 0 i (omega arith) in (
+      placed 0 i (omega arith),
+      (
+        omega arith,
+        all_placed q m (place + length (part_of q m i).content.images) items (λ k d l. placed (suc k) d (omega arith)) (λ k d l. fit (suc k) d (omega arith))
+            (omega (arith, one.few, image_count-part q m i)),
+      ),
+    )
+
+pub kept-placed : (m : Matter) → IsValid m → (f : Production) → Keeps m f → CanAllBePlaced f.request m 0 f.items
+kept-placed m valid f kept =
+    let numbers = kept-numbers m valid f kept in
+    let stand = items-stand m valid f kept in
+    all_placed f.request m 0 f.items
+    (λ k d l. can_be_placed m valid f numbers (get_or f.items k d) (numbers.lie k d l) (stand k d l) (pages-there m valid f kept k d l))
+    (λ k d l. count_fits m valid (get_or f.items k d) (stand k d l))
+    (omega (arith, items-few m valid f kept, leb-true (length m.docs) 10000 valid.docs.few))
+
+-- ---- the log
+
+span_stands : (f : Production) (numbers : KeptNumbers f) (i : Item) → SpanLies 1 numbers.next i → span_fits f.request.prefix.width i ≡ true
+span_stands f numbers i lies =
+    let low = lies.low in
+    let order = lies.order in
+    let high = lies.high in
+    let most = numbers.most in
+    let a : nat_le 1 i.span.first ≡ true = leb-from (omega arith) in
+    and_from _ _ (and_from _ _ (and_from _ _ a (leb-from (omega arith))) (leb-from (omega arith))) (leb-from (omega arith))
+  where
+    leb-from : {a b : ℕ} → a ≤ b → nat_le a b ≡ true
+    leb-from {a = a} {b = b} l = grind (arith, nat_tests)
+
+entry_stands_by : (i : Item) → item_texts_fit i ≡ true → entry_stands i ≡ true
+entry_stands_by i fits =
+    let outer = and_parts _ (optional_fits i.entry) fits in
+    let inner = and_parts (is_redact i.treatment || not (has_marks i)) (not (is_logged i) || not (is_none i.entry)) outer.0 in
+    and_from (not (is_logged i) || not (is_none i.entry)) (optional_fits i.entry) inner.1 outer.1
+
+pub kept-logged : (m : Matter) → IsValid m → (f : Production) → Keeps m f → CanBeLogged f
+kept-logged m valid f kept =
+    let numbers = kept-numbers m valid f kept in
+    let stand = items-stand m valid f kept in
+    record {
+      prefix = numbers.good;
+      spans = list_all-from_AllPass (span_fits f.request.prefix.width) f.items (λ k d l. span_stands f numbers (get_or f.items k d) (numbers.lie k d l));
+      entries = list_all-from_AllPass entry_stands f.items (λ k d l. entry_stands_by (get_or f.items k d) (stand k d l).texts);
+    }

@@ -1,0 +1,57 @@
+-- The volume of a production that a valid matter keeps can be pressed.
+use Rattle.std.proofs.Common.{◌≡◌, ℕ, suc, ◌*◌, ◌≤◌, ◌<◌, true, List, [], ◌∷◌, length, get_or, All, refl, arith}
+use Rattle.std.specs.List.{list_any}
+use Rattle.std.proofs.lemmas.Bool.{eq-eqb, leb-true}
+use Rattle.std.proofs.lemmas.List.Folds.{list_any_at}
+use Rattle.bp_matter.specs.Matter.{Matter}
+use Rattle.bp_matter.specs.Valid.{IsValid}
+use Rattle.bp_matter.specs.declared.rows.Item.{Item}
+use Rattle.bp_matter.specs.declared.rows.Production.{Production}
+use Rattle.bp_matter.specs.declared.rows.Request.{Request}
+use Rattle.bp_freeze.specs.Keeping.{Keeps}
+use Rattle.bp_press.specs.Needs.{CanBeListed, CanBePressed, IsLabelled}
+use Rattle.bp_press.specs.Pressing.{image_total}
+use Rattle.bp_press.proofs.FamilyLemmas.{LiesBelow, family-first, family-last, is_of}
+use Rattle.bp_press.proofs.KeptItemLemmas.{KeptNumbers, items-few, items-stand, kept-numbers}
+use Rattle.bp_press.proofs.LoadRowLemmas.{dat-even, dat-writable, opt-writable}
+use Rattle.bp_press.proofs.PlacedLemmas.{CountFits, count_fits, image_count-part, kept-logged, kept-placed}
+
+-- what lies below the next number has a label
+labelled : (f : Production) (numbers : KeptNumbers f) (n : ℕ) → LiesBelow numbers.next n → IsLabelled f.request.prefix.width n
+labelled f numbers n lies = record { from = lies.from; to = omega (arith, lies.to, numbers.most) }
+
+listed : (f : Production) (numbers : KeptNumbers f) (k : ℕ) (d : Item) → k < length f.items → CanBeListed f (get_or f.items k d)
+listed f numbers k d l =
+    let i : Item = get_or f.items k d in
+    let p : ℕ = i.parent.0 in
+    let lies = numbers.lie k d l in
+    let any : list_any (is_of p) f.items ≡ true = list_any_at (is_of p) f.items k d l (eq-eqb p p refl) in
+    record {
+      first = record { from = lies.low; to = omega (arith, lies.order, lies.high, numbers.most) };
+      last = record { from = omega (arith, lies.low, lies.order); to = omega (arith, lies.high, numbers.most) };
+      family_first = labelled f numbers _ (family-first numbers.next p f.items numbers.lie any);
+      family_last = labelled f numbers _ (family-last numbers.next p f.items numbers.lie any);
+    }
+
+-- the images of so many items
+images_few : (q : Request) (m : Matter) (items : List Item) → All (CountFits m) items → image_total q m items ≤ 20000 * length items
+images_few q m [] fit = omega arith
+images_few q m (i ∷ items) fit = omega (arith, (fit 0 i (omega arith)).few, image_count-part q m i, images_few q m items (λ k d l. fit (suc k) d (omega arith)))
+
+pub kept-pressed : (m : Matter) → IsValid m → (f : Production) → Keeps m f → CanBePressed f m
+kept-pressed m valid f kept =
+    let numbers = kept-numbers m valid f kept in
+    let stand = items-stand m valid f kept in
+    let docs = leb-true (length m.docs) 10000 valid.docs.few in
+    let few = items-few m valid f kept in
+    record {
+      placed = kept-placed m valid f kept;
+      listed = listed f numbers;
+      families = λ k d l. (stand k d l).parent;
+      even = dat-even f m;
+      writable = dat-writable m valid f kept;
+      lines = opt-writable m valid f kept;
+      logged = kept-logged m valid f kept;
+      documents = omega (arith, docs);
+      files = omega (arith, few, docs, images_few f.request m f.items (λ k d l. count_fits m valid (get_or f.items k d) (stand k d l)));
+    }

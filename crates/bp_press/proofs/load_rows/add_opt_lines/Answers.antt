@@ -1,0 +1,12 @@
+use Rattle.std.proofs.Common.{rules}
+use Rattle.bp_press.specs.LoadFiles.{opt_line}
+use Rattle.bp_press.specs.Pressing.{placed_at}
+use Rattle.bp_press.proofs.GatherLemmas.{line_step}
+use Rattle.bp_press.proofs.load_rows.add_opt_lines.Goals as goal
+
+pub loop-page-preserved : goal.loop-page-preserved
+loop-page-preserved c = record {
+  so_far = line_step (opt_line c.args.request.now (placed_at c.args.request.now c.args.tables.now.matter c.args.item.now c.args.place)) c.loop-page.page c.args.count c.loop-page.lines.items _ _ _ (search rules)
+      c.in_ok-opt_line.ensures (search rules) c.loop-page.invariant.so_far;
+  within = search rules;
+}

@@ -1,0 +1,219 @@
+// The load files of a volume: the DAT with a line an item, and the OPT with a line an image.
+ghost use Rattle.std.specs.Prelude.{◌≡◌, ◌≤◌, ◌<◌, ◌+◌, ◌++◌, ◌∷◌, ◌^◌, [], IfOk, IsTrue, OnOk, length, map};
+ghost use Rattle.std.specs.Char.{is_ascii};
+ghost use Rattle.std.specs.List.{flat_map, list_all};
+ghost use Rattle.bp_bates.specs.Prefixes.{is_good_prefix};
+ghost use Rattle.bp_freeze.specs.Selecting.{first_number, last_number};
+ghost use Rattle.bp_matter.specs.Texts.{columns};
+ghost use Rattle.bp_press.specs.Contents.{part_of};
+ghost use Rattle.bp_press.specs.LoadFiles.{dat_bytes, dat_row, family_of, opt_bytes, opt_lines};
+ghost use Rattle.bp_press.specs.Needs.{AreFamilyNumbers, CanBeListed, CanBePressed, IsInFamily};
+ghost use Rattle.bp_press.specs.Pressing.{CanAllBePlaced, placed_at};
+ghost use Rattle.bp_press.specs.Volume.{placed_items};
+
+use crate::families::{first_numbers, last_numbers};
+use crate::load_rows::{add_opt_lines, dat_row};
+use crate::volumes::image_count;
+use bp_bates::Span;
+use bp_core::{Bytes, ListOf, OutOfMemory, Text, TextList};
+use bp_load::{Dat, OptLine, OptList, TextTable, write_dat, write_opt};
+use bp_matter::{Item, Production, Request, Tables};
+use std::alloc::Global;
+
+// ---- the OPT
+
+// Adds the lines of the next item, and tells how many images it has.
+fn add_item_lines(
+    alloc: Global,
+    tables: &Tables,
+    request: &Request,
+    item: &Item,
+    others: &[Item],
+    place: u64,
+    lines: &mut Vec<OptLine>,
+) -> Result<u32, OutOfMemory>
+    requires { CanAllBePlaced request.now tables.now.matter place (item.now ∷ others.now) }
+    ensures lines { let p = placed_at request.now tables.now.matter item.now place in
+        OnOk result (lines.new.items ≡ lines.old.items ++ opt_lines request.now p) }
+    ensures count { IfOk result (λ count.
+        count ≡ length (part_of request.now tables.now.matter item.now).content.images) }
+{
+    let _others = others;
+    let count = image_count(tables, request, item);
+    add_opt_lines(alloc, tables, request, item, place, count, lines)?;
+    Ok(count)
+}
+
+// The lines of all items.
+fn opt_list(alloc: Global, tables: &Tables, production: &Production) -> Result<OptList, OutOfMemory>
+    requires { CanAllBePlaced production.now.request tables.now.matter 0 production.now.items }
+    ensures { let f = production.now in
+        IfOk result (λ lines.
+        lines ≡ flat_map (opt_lines f.request) (placed_items f tables.now.matter)) }
+{
+    let request = &production.request;
+    let mut lines = Vec::new(alloc);
+    let mut rest = production.items.as_slice();
+    let mut place = 0;
+    while let Some((item, others)) = rest.split_first() {
+        let count = add_item_lines(alloc, tables, request, item, others, place, &mut lines)?;
+        place += u64::from(count);
+        rest = others;
+    }
+    Ok(ListOf::from_vec(lines))
+}
+
+// The bytes of the OPT.
+pub(crate) fn opt_bytes(
+    alloc: Global,
+    tables: &Tables,
+    production: &Production,
+) -> Result<Bytes, OutOfMemory>
+    requires { CanBePressed production.now tables.now.matter }
+    ensures { let f = production.now in
+        IfOk result (λ bytes. bytes ≡ opt_bytes f.request (placed_items f tables.now.matter)) }
+{
+    write_opt(alloc, &opt_list(alloc, tables, production)?)
+}
+
+// ---- the DAT
+
+// Adds a name in ASCII.
+fn add_name(alloc: Global, name: &str, names: &mut Vec<Text>) -> Result<(), OutOfMemory>
+    requires { IsTrue (list_all is_ascii name.now) }
+    ensures { OnOk result (names.new.items ≡ names.old.items ++ name.now ∷ []) }
+{
+    names.push(Text::from_string(String::from_str(alloc, name)?))?;
+    Ok(())
+}
+
+// The names of the columns that each DAT has.
+fn own_columns(alloc: Global) -> Result<Vec<Text>, OutOfMemory>
+    ensures { IfOk result (λ names. names.items ≡ columns) }
+{
+    let mut names = Vec::new(alloc);
+    add_name(alloc, "BEGDOC", &mut names)?;
+    add_name(alloc, "ENDDOC", &mut names)?;
+    add_name(alloc, "BEGATTACH", &mut names)?;
+    add_name(alloc, "ENDATTACH", &mut names)?;
+    add_name(alloc, "PAGECOUNT", &mut names)?;
+    add_name(alloc, "DESIGNATION", &mut names)?;
+    add_name(alloc, "WITHHELD", &mut names)?;
+    add_name(alloc, "TEXTPATH", &mut names)?;
+    Ok(names)
+}
+
+// The names of all columns.
+fn columns(alloc: Global, request: &Request) -> Result<TextList, OutOfMemory>
+    ensures { IfOk result (λ names. names ≡ columns ++ request.now.fields) }
+{
+    let mut names = own_columns(alloc)?;
+    let mut rest = request.fields.as_slice();
+    while let Some((name, others)) = rest.split_first() {
+        names.push(name.clone()?)?;
+        rest = others;
+    }
+    Ok(ListOf::from_vec(names))
+}
+
+// The first and the last number of the family of an item.
+fn family_of(
+    tables: &Tables,
+    production: &Production,
+    item: &Item,
+    firsts: &[u64],
+    lasts: &[u64],
+) -> Span
+    requires numbers { AreFamilyNumbers production.now (length tables.now.matter.docs)
+        firsts.now lasts.now }
+    requires family { IsInFamily (length tables.now.matter.docs) item.now }
+    ensures first { result.first ≡ first_number (family_of production.now item.now) }
+    ensures last { result.last ≡ last_number (family_of production.now item.now) }
+{
+    let _tables = tables;
+    let _production = production;
+    let parent = item.parent.0 as usize;
+    Span {
+        first: firsts[parent],
+        last: lasts[parent],
+    }
+}
+
+// Adds the row of the next item, and tells how many images it has.
+fn add_item_row(
+    alloc: Global,
+    tables: &Tables,
+    production: &Production,
+    item: &Item,
+    others: &[Item],
+    place: u64,
+    family: Span,
+    rows: &mut Vec<TextList>,
+) -> Result<u32, OutOfMemory>
+    requires placed { let items = item.now ∷ others.now in
+        CanAllBePlaced production.now.request tables.now.matter place items }
+    requires listed { CanBeListed production.now item.now }
+    requires first { family.first ≡ first_number (family_of production.now item.now) }
+    requires last { family.last ≡ last_number (family_of production.now item.now) }
+    ensures rows { let f = production.now in
+        let p = placed_at f.request tables.now.matter item.now place in
+        OnOk result (rows.new.items ≡ rows.old.items ++ dat_row f p ∷ []) }
+    ensures count { let part = part_of production.now.request tables.now.matter item.now in
+        IfOk result (λ count. count ≡ length part.content.images) }
+{
+    let _others = others;
+    rows.push(dat_row(alloc, tables, production, item, place, family)?)?;
+    Ok(image_count(tables, &production.request, item))
+}
+
+// The rows of all items, with the first and the last number of each family.
+fn dat_rows(
+    alloc: Global,
+    tables: &Tables,
+    production: &Production,
+    firsts: &[u64],
+    lasts: &[u64],
+) -> Result<TextTable, OutOfMemory>
+    requires pressed { CanBePressed production.now tables.now.matter }
+    requires numbers { AreFamilyNumbers production.now (length tables.now.matter.docs)
+        firsts.now lasts.now }
+    ensures { let f = production.now in
+        IfOk result (λ rows. rows ≡ map (dat_row f) (placed_items f tables.now.matter)) }
+{
+    let mut rows = Vec::new(alloc);
+    let mut rest = production.items.as_slice();
+    let mut place = 0;
+    while let Some((item, others)) = rest.split_first() {
+        let family = family_of(tables, production, item, firsts, lasts);
+        let count = add_item_row(
+            alloc, tables, production, item, others, place, family, &mut rows,
+        )?;
+        place += u64::from(count);
+        rest = others;
+    }
+    Ok(ListOf::from_vec(rows))
+}
+
+// The bytes of the DAT.
+pub(crate) fn dat_bytes(
+    alloc: Global,
+    tables: &Tables,
+    production: &Production,
+) -> Result<Bytes, OutOfMemory>
+    requires { CanBePressed production.now tables.now.matter }
+    ensures { let f = production.now in
+        IfOk result (λ bytes. bytes ≡ dat_bytes f (placed_items f tables.now.matter)) }
+{
+    let items = production.items.as_slice();
+    let firsts = first_numbers(alloc, tables.docs.len(), items)?;
+    let lasts = last_numbers(alloc, tables.docs.len(), items)?;
+    let rows = dat_rows(
+        alloc,
+        tables,
+        production,
+        firsts.as_slice(),
+        lasts.as_slice(),
+    )?;
+    let names = columns(alloc, &production.request)?;
+    write_dat(alloc, &Dat::new(names, rows))
+}

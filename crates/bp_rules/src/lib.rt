@@ -2,9 +2,10 @@
 //!
 //! A change is decided on tables (`decide`, `decide_import`), room is made for it (`make_room`),
 //! its puts are committed to the keeper, and it is made (`apply`), which can't fail; `step` and
-//! `step_import` do all of it, and `step_all` of calls in turn. What a call does to a matter is
-//! `step_of` of specs/Stepping.antt, that of calls in turn `run_of` of specs/Running.antt, and
-//! what an import does `import_of` of specs/Importing.antt. `may` says who may make a call.
+//! `step_import` do all of it, and `step_all` of calls and imports in turn. What a call does to a
+//! matter is `step_of` of specs/Stepping.antt, what an import does `import_of` of
+//! specs/Importing.antt, and what both do in turn `run_of` and `answers_of` of
+//! specs/Running.antt. `may` says who may make a call.
 #![tactic(auto)]
 
 mod applying;

@@ -199,7 +199,7 @@ fn ran_on(alloc: Global, line: &str, keeper: MemKeeper, failing: &Failing<'_>) -
 }
 
 fn bytes_at<'a>(folder: &'a MemFolder, path: &str) -> Result<&'a [u8], Fail> {
-    let found = folder.files().as_slice().iter().find(|file| file.path.as_str() == path);
+    let found = folder.files().iter().find(|file| file.path.as_str() == path);
     match found {
         Some(file) => Ok(file.bytes.as_slice()),
         None => Err(Fail::from("a file is missing")),
@@ -227,7 +227,7 @@ fn a_volume_is_produced(rt: HostRuntime) -> Result<(), Fail> {
     let seen = ran_on(alloc, PRODUCE, decided(alloc, SMITH)?, &NOTHING_FAILS)?;
     assert!(rt; seen.status == 0);
     assert!(rt; seen.out.written() == line_of(alloc, &seen.folder)?.as_bytes());
-    let files = seen.folder.files().as_slice();
+    let files = seen.folder.files();
     assert!(rt; files.len() == PATHS.len());
     for (file, path) in files.iter().zip(PATHS) {
         assert!(rt; file.path.as_str() == path, "{path}");
@@ -346,10 +346,10 @@ fn a_fault_of_the_folder_leaves_first_files(rt: HostRuntime) -> Result<(), Fail>
     };
     let cut = ran_on(alloc, PRODUCE, decided(alloc, SMITH)?, &failing)?;
     assert!(rt; cut.status == 4);
-    assert!(rt; cut.out.written() == b"folder fault\n");
-    let files: &[FileRow] = cut.folder.files().as_slice();
+    assert!(rt; cut.out.written() == b"folder fault\n".as_slice());
+    let files: &[FileRow] = cut.folder.files();
     assert!(rt; files.len() == 5);
-    for (file, other) in files.iter().zip(whole.folder.files().as_slice()).take(4) {
+    for (file, other) in files.iter().zip(whole.folder.files()).take(4) {
         assert!(rt; file == other);
     }
     let rest = ran_on(alloc, "press R-1", cut.keeper, &NOTHING_FAILS)?;

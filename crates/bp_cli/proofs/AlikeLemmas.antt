@@ -19,20 +19,26 @@ use Rattle.bp_tiff.proofs.OneAnswerLemmas.{OneAnswer}
 use Rattle.bp_cli.specs.declared.burn.TheConstants.{FILE_LIMIT}
 use Rattle.std.specs.Prelude.{IfSome}
 use Rattle.bp_core.specs.declared.kept.Row.{Row}
-use Rattle.bp_cli.specs.Endings.{Outcome, World, refused}
+use Rattle.bp_cli.specs.Endings.{Outcome, World, done, refused}
 use Rattle.std.specs.Str.{chars}
 use Rattle.bp_import.specs.Batch.{BatchAnswers}
 use Rattle.bp_matter.specs.Batches.{BatchShown}
 use Rattle.bp_matter.specs.KeptRows.{rows_of}
 use Rattle.bp_matter.specs.Matter.{Matter as Kept}
 use Rattle.bp_matter.specs.Valid.{IsValid}
-use Rattle.bp_cli.specs.Import.{MatterAnswers, ImportOutcome, import_gives}
+use Rattle.bp_cli.specs.Import.{ImportOutcome, import_gives}
+use Rattle.bp_cli.specs.Kept.{MatterAnswers, OfTwo, RowsOutcome}
+use Rattle.bp_cli.specs.Press.{KeepSame, ShowSame, log_gives, press_gives}
+use Rattle.bp_cli.specs.Produce.{produce_gives}
 use Rattle.bp_cli.specs.Init.{init_gives}
+use Rattle.bp_freeze.specs.Alike.{Alike}
 use Rattle.bp_cli.proofs.ImportLemmas.{SomeBatch}
 use Rattle.bp_cli.specs.Runs.{Tells}
 use Rattle.bp_cli.specs.Words.{◌>>=◌}
 use Rattle.bp_cli.specs.Burn.{BurnLine, BurnPaths, HasPage, BurnAlike, lacks_a_side, burn_page, burn_read, burn_gives, paths_of, path_refused, FileAnswers, PathAnswers, BurnsAt, BurnComes}
-use Rattle.bp_cli.specs.Commands.{CommandLine, Matter, burn, init, import, uses_of, AreKnown, AlikeFor, ComesTo, IsOutcome}
+use Rattle.bp_cli.specs.Commands.{CommandLine, Matter, burn, init, import, produce, press, log, uses_of, AreKnown, AlikeFor, ComesTo, IsOutcome, RowsAlike, ShowAlike}
+use Rattle.bp_cli.proofs.ProduceLemmas.{same_frozen, same_logged, same_pressed, some_rows}
+use Rattle.bp_cli.proofs.RunLemmas.{AlikeOutcome}
 
 -- each file is read as a page, or breaks a rule
 abbrev pub SomeAnswer : Type 0
@@ -90,10 +96,17 @@ import_one laws name matter o o' x y =
     sym x.gives ∙ ap (λ (t : Result Kept Rule). import_gives name t x.batch) (matter_one laws.rows matter.rows x.tables y.tables x.kept y.kept)
     ∙ ap (import_gives name y.tables) (laws.one_batch matter.files (chars name) x.batch y.batch x.found y.found) ∙ y.gives
 
+-- kept rows give one outcome
+rows_one : RowsLaw → (gives : Result Kept Rule → Outcome) (rows : List Row) (o o' : Outcome) → RowsOutcome gives (Some rows) o → RowsOutcome gives (Some rows) o' → o ≡ o'
+rows_one law gives rows o o' x y = sym x.given ∙ ap gives (matter_one law rows x.tables y.tables x.kept y.kept) ∙ y.given
+
 pub one_outcome : Laws → (c : CommandLine) (matter : Matter) (o o' : Outcome) → ComesTo c matter o → ComesTo c matter o' → o ≡ o'
 one_outcome laws (burn b) matter o o' x y = comes_one laws.one b (paths_of b) matter.files o o' x y
 one_outcome laws (init digest) matter o o' x y = sym x ∙ y
 one_outcome laws (import name) matter o o' x y = import_one laws name matter o o' x y
+one_outcome laws (produce q) matter o o' x y = rows_one laws.rows (produce_gives q) matter.rows o o' x y
+one_outcome laws (press id) matter o o' x y = rows_one laws.rows (press_gives id) matter.rows o o' x y
+one_outcome laws (log id) matter o o' x y = rows_one laws.rows (log_gives id) matter.rows o o' x y
 
 -- ---- and there is one
 
@@ -117,6 +130,9 @@ some_outcome laws (init digest) matter known = (init_gives digest matter.rows, r
 some_outcome laws (import name) matter known =
     let found = laws.some_batch matter.files (chars name) in
     (import_gives name known.0 found.0, record { tables = known.0; kept = known.1; batch = found.0; found = found.1; gives = refl })
+some_outcome laws (produce q) matter known = (produce_gives q known.0, record { tables = known.0; kept = known.1; given = refl })
+some_outcome laws (press id) matter known = (press_gives id known.0, record { tables = known.0; kept = known.1; given = refl })
+some_outcome laws (log id) matter known = (log_gives id known.0, record { tables = known.0; kept = known.1; given = refl })
 
 -- ---- two matters
 
@@ -168,13 +184,44 @@ comes_alike one b (Some f) None files files' o named alike comes = comes
 comes_alike one b (Some f) (Some t) files files' o named alike comes =
     burns_alike one b (record { from = f; to = t }) files files' o named alike comes
 
-pub outcome_alike : OneAnswer → (c : CommandLine) (matter matter' : Matter) (outcome : Outcome) → AlikeFor c matter matter' → ComesTo c matter' outcome → ComesTo c matter outcome
-outcome_alike one (burn b) matter matter' outcome alike comes =
-    comes_alike one b (path_in b.from) (path_in b.to) matter.files matter'.files outcome refl alike comes
-outcome_alike one (init digest) matter matter' outcome alike comes = ap (init_gives digest) alike ∙ comes
-outcome_alike one (import name) matter matter' outcome alike comes =
-    subst (λ (files : FileMap). ImportOutcome name (Some files) (Some matter.rows) outcome) (sym alike.0)
-    (subst (λ (rows : List Row). ImportOutcome name (Some matter'.files) (Some rows) outcome) (sym alike.1) comes)
+-- the same outcome shows the same
+shows_itself : (c : CommandLine) (o : Outcome) → ((rows : Option (List Row)) → RowsAlike c rows rows) → ShowAlike c o o
+shows_itself c (done line files rows) same = (refl, refl, same rows)
+shows_itself c (refused rule) same = refl
+
+same_comes : (c : CommandLine) (matter : Matter) (other : Outcome) → ((rows : Option (List Row)) → RowsAlike c rows rows) → ComesTo c matter other → AlikeOutcome c matter other
+same_comes c matter other same comes = record { outcome = other; comes = comes; same = shows_itself c other same }
+
+-- rows of a valid matter are known to be its
+rows_answer : (rows : List Row) (m : Kept) → IsValid m → rows ≡ rows_of m → MatterAnswers rows (Ok m)
+rows_answer [] m valid is = absurd (some_rows m valid is)
+rows_answer (row ∷ rows) m valid is = (valid, is)
+
+-- rows of two matters, which show the same, give outcomes that show the same
+rows_alike : RowsLaw → (c : CommandLine) (P : Kept → Kept → Type 0) (gives : Result Kept Rule → Outcome) (rows rows' : List Row) (other : Outcome) (both : OfTwo P rows rows') → RowsOutcome gives (Some rows') other
+    → ShowAlike c (gives (Ok both.one)) (gives (Ok both.two)) → (o : Outcome) × (RowsOutcome gives (Some rows) o × ShowAlike c o other)
+rows_alike law c P gives rows rows' other both comes shows =
+    let is : gives (Ok both.two) ≡ other = rows_one law gives rows' (gives (Ok both.two)) other (record { tables = Ok both.two; kept = rows_answer rows' both.two both.valid' both.kept'; given = refl }) comes in
+    (gives (Ok both.one), (record { tables = Ok both.one; kept = rows_answer rows both.one both.valid both.kept; given = refl }, subst (λ (o : Outcome). ShowAlike c (gives (Ok both.one)) o) is shows))
+
+pub outcome_alike : Laws → (c : CommandLine) (matter matter' : Matter) (other : Outcome) → AlikeFor c matter matter' → ComesTo c matter' other → AlikeOutcome c matter other
+outcome_alike laws (burn b) matter matter' other alike comes =
+    same_comes (burn b) matter other (λ rows. refl) (comes_alike laws.one b (path_in b.from) (path_in b.to) matter.files matter'.files other refl alike comes)
+outcome_alike laws (init digest) matter matter' other alike comes =
+    same_comes (init digest) matter other (λ rows. refl) (ap (init_gives digest) alike ∙ comes)
+outcome_alike laws (import name) matter matter' other alike comes =
+    same_comes (import name) matter other (λ rows. refl)
+    (subst (λ (files : FileMap). ImportOutcome name (Some files) (Some matter.rows) other) (sym alike.0)
+    (subst (λ (rows : List Row). ImportOutcome name (Some matter'.files) (Some rows) other) (sym alike.1) comes))
+outcome_alike laws (produce q) matter matter' other both comes =
+    let there = rows_alike laws.rows (produce q) (Alike q) (produce_gives q) matter.rows matter'.rows other both comes (same_frozen (produce q) q both.one both.two both.holds (λ rows rows'. tt)) in
+    record { outcome = there.0; comes = there.1.0; same = there.1.1 }
+outcome_alike laws (press id) matter matter' other both comes =
+    let there = rows_alike laws.rows (press id) (ShowSame id) (press_gives id) matter.rows matter'.rows other both comes (same_pressed (press id) id both.one both.two both.holds refl) in
+    record { outcome = there.0; comes = there.1.0; same = there.1.1 }
+outcome_alike laws (log id) matter matter' other both comes =
+    let there = rows_alike laws.rows (log id) (KeepSame id) (log_gives id) matter.rows matter'.rows other both comes (same_logged (log id) id both.one both.two both.holds refl) in
+    record { outcome = there.0; comes = there.1.0; same = there.1.1 }
 
 -- ---- what is told
 
@@ -191,3 +238,6 @@ told_outcome (init digest) before matter outcome files rows is =
 told_outcome (import name) before matter outcome files rows is =
     subst (λ (o : Option FileMap). ImportOutcome name o (Some matter.rows) outcome) files
     (subst (λ (o : Option (List Row)). ImportOutcome name before.source.files o outcome) rows is)
+told_outcome (produce q) before matter outcome files rows is = subst (λ (o : Option (List Row)). RowsOutcome (produce_gives q) o outcome) rows is
+told_outcome (press id) before matter outcome files rows is = subst (λ (o : Option (List Row)). RowsOutcome (press_gives id) o outcome) rows is
+told_outcome (log id) before matter outcome files rows is = subst (λ (o : Option (List Row)). RowsOutcome (log_gives id) o outcome) rows is

@@ -32,7 +32,8 @@ use Rattle.bp_cli.specs.declared.stops.Stop.TheVariants as stops
 use Rattle.bp_cli.specs.declared.burn.TheConstants.{FILE_LIMIT}
 use Rattle.bp_core.specs.declared.kept.Row.{Row}
 use Rattle.bp_keep.specs.Keeper.{KeeperView, SameRows}
-use Rattle.bp_cli.specs.Endings.{Outcome, done, refused, Ending, World, world, failed_folder, KeeperLeft, AddsPart, Makes, Ends, partly, untouched}
+use Rattle.bp_press.specs.Writing.{AddsPart}
+use Rattle.bp_cli.specs.Endings.{Outcome, done, refused, Ending, World, world, failed_folder, KeeperLeft, Makes, Ends, partly, untouched}
 use Rattle.bp_core.specs.declared.rectangle.Rect.{Rect}
 use Rattle.bp_core.specs.declared.rules.RuleKind.{RuleKind}
 use Rattle.bp_core.specs.declared.refusals.Refusal.{Refusal}

@@ -22,7 +22,8 @@ use Rattle.bp_matter.specs.Fields.{word}
 use Rattle.bp_matter.specs.Matter.{Matter}
 use Rattle.bp_rules.specs.Beginning.{begun}
 use Rattle.bp_rules.specs.Importing.{import_of}
-use Rattle.bp_cli.specs.Import.{MatterAnswers, import_gives}
+use Rattle.bp_cli.specs.Import.{import_gives}
+use Rattle.bp_cli.specs.Kept.{MatterAnswers}
 use Rattle.bp_cli.specs.Init.{digest_of, init_gives}
 use Rattle.bp_cli.specs.Commands.{burn, init, import, command_of}
 use Rattle.bp_cli.specs.Endings.{done, refused, status_of, text_of}

@@ -37,25 +37,17 @@ use Rattle.bp_cli.specs.declared.stops.Stop.{Stop}
 use Rattle.bp_cli.specs.declared.stops.Stop.TheVariants as stops
 use Rattle.bp_cli.specs.Commands.{import, uses_of, IsOutcome}
 use Rattle.bp_cli.specs.Endings.{Ending, world, done, KeeperLeft, Ends, untouched, kept}
-use Rattle.bp_cli.specs.Import.{MatterAnswers, ImportOutcome, imported_line, step_gives}
+use Rattle.bp_cli.specs.Import.{ImportOutcome, imported_line, step_gives}
+use Rattle.bp_cli.specs.Kept.{MatterAnswers}
 use Rattle.bp_cli.specs.Stops.{StopsForLoad, StopsForBatch, StopsForStep}
+use Rattle.bp_cli.proofs.KeptLemmas.{by_stop, calm_by, count_left, keeps_matter, kept_matter, kept_rule, load_calm, load_left, stays_left}
 
 -- import, and the folder that it doesn't use
 abbrev pub ImportEnds : List ℕ → SourceView → KeeperView → Ending → SourceView → KeeperView → Type 0
 ImportEnds name s k r s' k' = (folder : FolderView)
     → Ends (uses_of (import name)) (IsOutcome (import name) (world s k folder)) (world s k folder) r (world s' k' folder)
 
--- what a `?` hands on, by what the refusal became
-by_stop : (P : Ending → Type 0) (Q : Stop → Type 0) (r : Ending) → IsErr r → IsErrAnd r Q → ((stop : Stop) → Q stop → P (Err stop)) → P r
-by_stop P Q (Ok line) is stop give = absurd stop
-by_stop P Q (Err s) is stop give = give s stop
-
 -- ---- which rules raise no count
-
-load_calm : (source : SourceView) (kind : RuleKind) → IsLoadRule kind → source ≡ after_kind source kind
-load_calm source kinds.NoMatter is = refl
-load_calm source kinds.KeptRowBad is = refl
-load_calm source other is = absurd is
 
 pick : (t : Bool) (r rule : Rule) (rest : Option Rule) → r.kind ≡ kinds.MatterFull → (rest ≡ Some rule → rule.kind ≡ kinds.MatterFull) → cond t (Some r) rest ≡ Some rule → rule.kind ≡ kinds.MatterFull
 pick true r rule rest own others is = let same : r ≡ rule = cc in ap (λ (x : Rule). x.kind) (sym same) ∙ own
@@ -85,9 +77,6 @@ limit_kind m b rule is =
     (pick (nat_lt MAX_FIELDS (fields_after m b)) (full_rule fields_limit (fields_after m b)) rule (from_batches m) refl
     (pick (nat_lt MAX_BATCHES (batches_after m)) (full_rule batches_limit (batches_after m)) rule None refl (no_limit rule))))) is
 
-calm_by : (source : SourceView) (kind known : RuleKind) → known ≡ kind → source ≡ after_kind source known → source ≡ after_kind source kind
-calm_by source kind known same calm = calm ∙ ap (after_kind source) same
-
 full_calm : (source : SourceView) (m : Matter) (b : BatchShown) (o : Option Rule) (rule : Rule) → limit_passed m b ≡ o → unless_full m b o ≡ Err rule → source ≡ after_kind source rule.kind
 full_calm source m b None rule passed is = cc
 full_calm source m b (Some r) rule passed is =
@@ -115,32 +104,6 @@ SomeBatch = (files : FileMap) (name : List ℕ) → (answer : Result BatchShown 
 some_found : SomeBatch → (told : Option FileMap) (name : List ℕ) → (answer : Result BatchShown Rule) × IfSome told (λ there. BatchAnswers there name answer)
 some_found some None name = (Err (bare_rule kinds.NoMatter), tt)
 some_found some (Some files) name = some files name
-
-kept_rule : (told : Option (List Row)) (rule : Rule) → IfSome told (λ rows. LoadedFrom rows (Err (loads.Rule rule))) → IfSome told (λ rows. MatterAnswers rows (Err rule))
-kept_rule None rule loaded = tt
-kept_rule (Some []) rule loaded = ap (λ (r : Rule). Err r) loaded
-kept_rule (Some (row ∷ rows)) rule loaded = loaded
-
-kept_matter : (told : Option (List Row)) (tables : Shown) → IsValid tables.matter → IfSome told (λ rows. LoadedFrom rows (Ok tables)) → IfSome told (λ rows. MatterAnswers rows (Ok tables.matter))
-kept_matter None tables valid loaded = tt
-kept_matter (Some []) tables valid loaded = absurd loaded
-kept_matter (Some (row ∷ rows)) tables valid loaded = (valid, loaded.0)
-
--- rows that were loaded are those of the matter
-keeps_matter : (told : Option (List Row)) (tables : Shown) → IfSome told (λ rows. LoadedFrom rows (Ok tables)) → IfSome told (λ rows. rows ≡ rows_of tables.matter)
-keeps_matter None tables loaded = tt
-keeps_matter (Some []) tables loaded = absurd loaded
-keeps_matter (Some (row ∷ rows)) tables loaded = loaded.0
-
--- rows that one step left and the next kept
-rows_same : (was mid now : Option (List Row)) → SameRows was mid → IfSome now (λ rows. mid ≡ Some rows) → SameRows was now
-rows_same None mid now same left = tt
-rows_same (Some rows) mid None same left = tt
-rows_same (Some rows) None (Some here) same left = let no : None ≡ Some here = left in cc
-rows_same (Some rows) (Some there) (Some here) same left = let is : Some there ≡ Some here = left in let e : there ≡ here = cc in sym e ∙ same
-
-load_left : (before mid : KeeperView) (r : Result Shown LoadRefusal) (count : ℕ) → LoadsTables before r mid → mid.faults ≡ count → KeeperLeft None count before mid
-load_left before mid r count loads faults = record { rows = loads.same; faults = faults; sure = loads.sure }
 
 -- ---- loading stopped
 
@@ -227,13 +190,6 @@ outcome_of name text s before mid tables b answer named valid loaded told is = r
   found = subst (λ (t : List ℕ). IfSome s.files (λ there. BatchAnswers there t (Ok b))) named (told_batch s.files text b told);
   gives = ap (step_gives name tables.matter) is;
 }
-
-stays_left : (before mid k' : KeeperView) (tables : Shown) (m m' : Matter) (count : ℕ) → LoadsTables before (Ok tables) mid → Stays m mid count m' k' → KeeperLeft None count before k'
-stays_left before mid k' tables m m' count loaded stays =
-    record { rows = rows_same before.rows mid.rows k'.rows loaded.same stays.rows; faults = stays.faults; sure = stays.sure ∙ loaded.sure }
-
-count_left : (before after : KeeperView) (count count' : ℕ) → count ≡ count' → KeeperLeft None count before after → KeeperLeft None count' before after
-count_left before after count count' same left = record { rows = left.rows; faults = left.faults ∙ same; sure = left.sure }
 
 step_stops : (name text : List ℕ) (s s' : SourceView) (before mid k' : KeeperView) (tables : Shown) (b : BatchShown) (m' : Matter) (refusal : StepRefusal) → text ≡ chars name → IsValid tables.matter → LoadsTables before (Ok tables) mid
     → IfSome s.files (λ files. Comes {X = BatchShown} (λ x. x) (BatchAnswers files text) (Ok b)) → s' ≡ s → StepsImport tables.matter b mid (Err refusal) m' k'

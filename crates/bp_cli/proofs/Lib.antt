@@ -1,11 +1,17 @@
 mod ArgumentLemmas
 mod AlikeLemmas
 mod BurnLemmas
+mod CalmLemmas
 mod Examples
 mod ImportLemmas
 mod InitLemmas
+mod KeptLemmas
+mod LabelLemmas
+mod LeadLemmas
 mod OperandLemmas
 mod PrintingLemmas
+mod ProduceLemmas
+mod RowsLemmas
 mod RunLemmas
 mod StatusLemmas
 mod WordLemmas

@@ -11,10 +11,11 @@ use Rattle.bp_outside.specs.Out.{OutView, with_written}
 use Rattle.bp_outside.specs.declared.files.FileRow.{FileRow}
 use Rattle.bp_cli.specs.declared.stops.Stop.TheVariants as stops
 use Rattle.bp_cli.specs.Endings as outcomes
-use Rattle.bp_cli.specs.Endings.{Outcome, Ending, World, status_of, text_of, refused_line, failed_folder, with_files, AddsPart}
-use Rattle.bp_cli.specs.Commands.{CommandLine, Matter, uses_of, IsOutcome, ComesTo, AreKnown, AlikeFor, Works}
+use Rattle.bp_press.specs.Writing.{AddsPart, with_files}
+use Rattle.bp_cli.specs.Endings.{Outcome, Ending, World, status_of, text_of, refused_line, failed_folder}
+use Rattle.bp_cli.specs.Commands.{CommandLine, Matter, uses_of, IsOutcome, ComesTo, AreKnown, AlikeFor, ShowAlike, Works}
 use Rattle.bp_cli.specs.Printing.{Prints, whole, cut, lacking, instead}
-use Rattle.bp_cli.specs.Runs.{Outside, Tells, Asks, Completes, SourceFailed, FolderFailed, KeeperFailed, InputsServed, NoneFailed, uses_by, AreSure, Ended, RanShort, WasCut, Gives, IsAmong, outcome_status, Runs}
+use Rattle.bp_cli.specs.Runs.{Outside, Tells, Asks, Completes, SourceFailed, FolderFailed, KeeperFailed, InputsServed, NoneFailed, uses_by, AreSure, Ended, RanShort, WasCut, Gives, GivesAlike, IsAmong, outcome_status, Runs}
 use Rattle.bp_cli.proofs.StatusLemmas.{rose_at, whole_of, out_rose, out_sure, among_three, among_two, status_known, is_done, is_words_refused, is_broken, is_source_fault, is_folder_fault, is_keeper_fault, lacking_part, cut_part}
 
 -- ---- what an ending says
@@ -305,10 +306,16 @@ module _ (command : Option CommandLine) (before after : Outside) (status : ℕ) 
       let r = run_refused refused in
       refused_gives one told c before after matter outcome asks.files asks.rows comes r.0 (subst (λ (o : Option CommandLine). Works o before.world (Err (stops.Broken r.0)) after.world) asks.words r.1.worked) r.1.printed
 
--- where two matters differ only in what the command withholds, the outcome of one is that of the
--- other
+-- an outcome of this matter that shows the same as that one of another
+pub record AlikeOutcome (c : CommandLine) (matter : Matter) (other : Outcome) : Type 0 where
+  pub outcome : Outcome
+  pub comes : ComesTo c matter outcome
+  pub same : ShowAlike c outcome other
+
+-- where two matters differ only in what the command withholds, the outcome of one shows the same as
+-- that of the other
 abbrev pub TwoMatters : Type 0
-TwoMatters = (c : CommandLine) (matter matter' : Matter) (outcome : Outcome) → AlikeFor c matter matter' → ComesTo c matter' outcome → ComesTo c matter outcome
+TwoMatters = (c : CommandLine) (matter matter' : Matter) (other : Outcome) → AlikeFor c matter matter' → ComesTo c matter' other → AlikeOutcome c matter other
 
 -- what the commands say of their outcomes
 pub record Outcomes : Type 0 where
@@ -350,6 +357,12 @@ runs all command before after status e worked printed laws = record {
   complete = run_complete command before after status e worked printed all.one all.some all.told;
   unfailing = λ sure. sure_printing (text_of e) (status_of e) before.out after.out status sure.out laws.out
       (sure_ending command before.world after.world e (sure_world command before after sure laws) worked) printed;
-  alike = λ c matter matter' outcome asks alike comes ended_so.
-      run_gives command before after status e worked printed all.one all.told c matter outcome asks (all.two c matter matter' outcome alike comes) ended_so;
+  alike = λ c matter matter' other asks alike comes ended_so.
+      let there = all.two c matter matter' other alike comes in
+      record {
+        outcome = there.outcome;
+        comes = there.comes;
+        same = there.same;
+        gives = run_gives command before after status e worked printed all.one all.told c matter there.outcome asks there.comes ended_so;
+      };
 }

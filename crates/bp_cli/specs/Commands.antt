@@ -3,30 +3,41 @@
 use Rattle.std.specs.Prelude.{◌≡◌, ℕ, ◌⊎◌, true, false, Option, Some, None, List, [], ◌∷◌, codes, Result, Err, if◌then◌else◌}
 use Rattle.std.specs.List.{list_any}
 use Rattle.std.specs.Option.{option_map}
-use Rattle.std.specs.Str.{bytes_eq}
+use Rattle.std.specs.Str.{bytes_eq, chars}
 use Rattle.bp_core.specs.declared.kept.Row.{Row}
 use Rattle.bp_core.specs.declared.rules.Rule.{Rule}
 use Rattle.bp_outside.specs.Source.{FileMap}
 use Rattle.bp_matter.specs.Matter.{Matter as Kept}
+use Rattle.bp_matter.specs.declared.rows.Request.{Request}
+use Rattle.bp_freeze.specs.Alike.{Alike}
 use Rattle.bp_cli.specs.declared.commands.Command.{Command}
 use Rattle.bp_cli.specs.declared.commands.Command.TheVariants as commands
 use Rattle.bp_cli.specs.declared.stops.Stop.TheVariants as stops
 use Rattle.bp_cli.specs.Words.{is_bad_word}
-use Rattle.bp_cli.specs.Endings.{Outcome, Ending, World, Uses, Ends}
+use Rattle.bp_cli.specs.Endings.{Outcome, Ending, World, Uses, Ends, done, refused}
 use Rattle.bp_cli.specs.Burn.{BurnLine, burn_seen, burn_of, BurnComes, BurnOutcome, BurnAlike}
-use Rattle.bp_cli.specs.Import.{batch_named, MatterAnswers, ImportOutcome}
+use Rattle.bp_cli.specs.Import.{batch_named, ImportOutcome}
 use Rattle.bp_cli.specs.Init.{init_of, init_gives, InitOutcome}
+use Rattle.bp_cli.specs.Kept.{MatterAnswers, OfTwo, RowsOutcome}
+use Rattle.bp_cli.specs.Press.{KeepSame, ShowSame, id_named, log_gives, press_gives}
+use Rattle.bp_cli.specs.Produce.{produce_gives, request_of}
 
 -- a command with its operands
 pub data CommandLine : Type 0 where
   burn : BurnLine → CommandLine
   init : List ℕ → CommandLine
   import : List ℕ → CommandLine
+  produce : Request → CommandLine
+  press : List ℕ → CommandLine
+  log : List ℕ → CommandLine
 
 abbrev pub command_seen : Command → CommandLine
 command_seen (commands.Burn b) = burn (burn_seen b)
 command_seen (commands.Init digest) = init digest
 command_seen (commands.Import name) = import name.now
+command_seen (commands.Produce request) = produce request
+command_seen (commands.Press id) = press (chars id.now)
+command_seen (commands.Log id) = log (chars id.now)
 
 -- by the first word
 abbrev pub named_command : List (List ℕ) → Option CommandLine
@@ -35,7 +46,10 @@ named_command (name ∷ operands) =
     if bytes_eq name (codes "burn") then option_map burn (burn_of operands)
     else (if bytes_eq name (codes "init") then option_map init (init_of operands)
     else (if bytes_eq name (codes "import") then option_map import (batch_named operands)
-    else None))
+    else (if bytes_eq name (codes "produce") then option_map produce (request_of operands)
+    else (if bytes_eq name (codes "press") then option_map press (id_named operands)
+    else (if bytes_eq name (codes "log") then option_map log (id_named operands)
+    else None)))))
 
 -- the command that the words are a line of, if they are one
 abbrev pub command_of : List (List ℕ) → Option CommandLine
@@ -46,6 +60,9 @@ abbrev pub uses_of : CommandLine → Uses
 uses_of (burn b) = record { files = true; rows = false }
 uses_of (init digest) = record { files = false; rows = true }
 uses_of (import name) = record { files = true; rows = true }
+uses_of (produce q) = record { files = false; rows = true }
+uses_of (press id) = record { files = false; rows = true }
+uses_of (log id) = record { files = false; rows = true }
 
 -- all that the outcome of a command may depend on: the files of the source, the rows of the keeper
 pub record Matter : Type 0 where
@@ -58,6 +75,9 @@ ComesTo (burn b) matter outcome = BurnComes b matter.files outcome
 ComesTo (init digest) matter outcome = init_gives digest matter.rows ≡ outcome
 ComesTo (import name) matter outcome =
     ImportOutcome name (Some matter.files) (Some matter.rows) outcome
+ComesTo (produce q) matter outcome = RowsOutcome (produce_gives q) (Some matter.rows) outcome
+ComesTo (press id) matter outcome = RowsOutcome (press_gives id) (Some matter.rows) outcome
+ComesTo (log id) matter outcome = RowsOutcome (log_gives id) (Some matter.rows) outcome
 
 -- the outcome over the matter that the outside tells, or over one that it doesn't tell
 abbrev pub IsOutcome : CommandLine → World → Outcome → Type 0
@@ -65,20 +85,48 @@ IsOutcome (burn b) world outcome = BurnOutcome b world.source.files outcome
 IsOutcome (init digest) world outcome = InitOutcome digest world.keeper.rows outcome
 IsOutcome (import name) world outcome =
     ImportOutcome name world.source.files world.keeper.rows outcome
+IsOutcome (produce q) world outcome = RowsOutcome (produce_gives q) world.keeper.rows outcome
+IsOutcome (press id) world outcome = RowsOutcome (press_gives id) world.keeper.rows outcome
+IsOutcome (log id) world outcome = RowsOutcome (log_gives id) world.keeper.rows outcome
 
--- the rows that `import` reads come to a matter, or to a rule: they are those of a valid matter, or
--- there is none that has them. No other command reads what rows hold
+-- the rows come to a matter, or to a rule: they are those of a valid matter, or there is none that
+-- has them
+abbrev pub RowsKnown : Matter → Type 0
+RowsKnown matter = (answer : Result Kept Rule) × MatterAnswers matter.rows answer
+
+-- where a command reads what rows hold, they come to a matter, or to a rule
 abbrev pub AreKnown : CommandLine → Matter → Type 0
 AreKnown (burn b) matter = Unit {0}
 AreKnown (init digest) matter = Unit {0}
-AreKnown (import name) matter = (answer : Result Kept Rule) × MatterAnswers matter.rows answer
+AreKnown (import name) matter = RowsKnown matter
+AreKnown (produce q) matter = RowsKnown matter
+AreKnown (press id) matter = RowsKnown matter
+AreKnown (log id) matter = RowsKnown matter
 
--- what the command doesn't withhold is the same in both; `init` and `import` withhold nothing
+-- what the command doesn't withhold is the same in both; `init` and `import` withhold nothing.
+-- `produce` withholds what the decisions hold back that it freezes, and `press` what those held back
+-- that it froze; a log is of these decisions alone
 abbrev pub AlikeFor : CommandLine → Matter → Matter → Type 0
 AlikeFor (burn b) matter matter' = BurnAlike b matter.files matter'.files
 AlikeFor (init digest) matter matter' = matter.rows ≡ matter'.rows
 AlikeFor (import name) matter matter' =
     (matter.files ≡ matter'.files) × (matter.rows ≡ matter'.rows)
+AlikeFor (produce q) matter matter' = OfTwo (Alike q) matter.rows matter'.rows
+AlikeFor (press id) matter matter' = OfTwo (ShowSame id) matter.rows matter'.rows
+AlikeFor (log id) matter matter' = OfTwo (KeepSame id) matter.rows matter'.rows
+
+-- the rows that are kept are the same in both, but for `produce`: then each matter keeps its own
+abbrev pub RowsAlike : CommandLine → Option (List Row) → Option (List Row) → Type 0
+RowsAlike (produce q) rows rows' = Unit {0}
+RowsAlike c rows rows' = rows ≡ rows'
+
+-- both outcomes show the same: one line and the same files, or one rule
+abbrev pub ShowAlike : CommandLine → Outcome → Outcome → Type 0
+ShowAlike c (done line files rows) (done line' files' rows') =
+    (line ≡ line') × (files ≡ files') × RowsAlike c rows rows'
+ShowAlike c (refused rule) (refused rule') = rule ≡ rule'
+ShowAlike c (done line files rows) (refused rule) = ⊥
+ShowAlike c (refused rule) (done line files rows) = ⊥
 
 -- words that are no command are refused, or memory to read them lacks; all stays as it was
 pub record RefusesWords (before : World) (ending : Ending) (after : World) : Type 0 where

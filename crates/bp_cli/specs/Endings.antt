@@ -6,10 +6,11 @@ use Rattle.bp_core.specs.Characters.{newline}
 use Rattle.bp_core.specs.Rules.{rule_text}
 use Rattle.bp_outside.specs.Counts.{risen}
 use Rattle.bp_outside.specs.Source.{SourceView}
-use Rattle.bp_outside.specs.Folder.{FolderView, with_file, PutsPart}
+use Rattle.bp_outside.specs.Folder.{FolderView}
 use Rattle.bp_outside.specs.declared.files.FileRow.{FileRow}
 use Rattle.bp_import.specs.Importing.{after_kind}
 use Rattle.bp_keep.specs.Keeper.{KeeperView, SameRows}
+use Rattle.bp_press.specs.Writing.{AddsPart, with_files}
 use Rattle.bp_cli.specs.declared.stops.Stop.{Stop}
 use Rattle.bp_cli.specs.declared.stops.Stop.TheVariants as stops
 use Rattle.bp_cli.specs.declared.statuses.TheConstants.{DONE, WORDS_REFUSED, RULE_BROKEN, SOURCE_FAULT, FOLDER_FAULT, KEEPER_FAULT, OUT_OF_MEMORY}
@@ -87,19 +88,6 @@ pub record KeeperLeft (kept : Option (List Row)) (count : ℕ) (before after : K
   pub faults : after.faults ≡ count
   pub sure : after.sure ≡ before.sure
 
--- the folder with these files at its end
-abbrev pub with_files : FolderView → List FileRow → FolderView
-with_files folder [] = folder
-with_files folder (row ∷ rows) = with_files (with_file folder row.path row.bytes false) rows
-
--- some first files were added, and of the next one nothing or a part
-pub record AddsPart (folder : FolderView) (files : List FileRow) (after : FolderView) : Type 0 where
-  pub before : List FileRow
-  pub next : FileRow
-  pub rest : List FileRow
-  pub files_are : files ≡ before ++ next ∷ rest
-  pub part : PutsPart (with_files folder before) next.path next.bytes after
-
 -- Below, Comes says which outcomes the command may come to.
 
 -- the rows and the files of the outcome stand, and nothing else changed
@@ -145,7 +133,7 @@ pub record FailsToAdd (Comes : Outcome → Type 0) (before after : World) : Type
   pub folder : AddsPart (failed_folder before.folder) files after.folder
 
 -- memory ran out before rows were kept and a file was begun; or between the two; or while files
--- were added
+-- were added; or for the line, when all stood
 pub data LacksMemory (Comes : Outcome → Type 0) (before after : World) : Type 0 where
   untouched : after.source ≡ before.source
       → KeeperLeft None before.keeper.faults before.keeper after.keeper
@@ -162,6 +150,12 @@ pub data LacksMemory (Comes : Outcome → Type 0) (before after : World) : Type 
       → after.source ≡ before.source
       → KeeperLeft rows before.keeper.faults before.keeper after.keeper
       → AddsPart before.folder files after.folder
+      → LacksMemory Comes before after
+  wholly : (line : List ℕ) (files : List FileRow) (rows : Option (List Row))
+      → Comes (done line files rows)
+      → after.source ≡ before.source
+      → KeeperLeft rows before.keeper.faults before.keeper after.keeper
+      → after.folder ≡ with_files before.folder files
       → LacksMemory Comes before after
 
 -- what the steps before the first file leave in the source: what is made there gives an outcome

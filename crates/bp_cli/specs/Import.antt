@@ -3,22 +3,18 @@ use Rattle.std.specs.Prelude.{ℕ, ◌≡◌, ◌==◌, Option, Some, None, Resu
 use Rattle.std.specs.Fmt.{decimal}
 use Rattle.std.specs.Str.{chars}
 use Rattle.bp_core.specs.declared.kept.Row.{Row}
-use Rattle.bp_core.specs.declared.refusals.Refusal.TheVariants as refusals
 use Rattle.bp_core.specs.declared.rules.Rule.{Rule}
-use Rattle.bp_core.specs.declared.rules.RuleKind.TheVariants as kinds
-use Rattle.bp_core.specs.Rules.{bare_rule}
 use Rattle.bp_outside.specs.Source.{FileMap}
 use Rattle.bp_matter.specs.Batches.{BatchShown}
 use Rattle.bp_matter.specs.KeptRows.{rows_of}
 use Rattle.bp_matter.specs.Matter.{Matter}
-use Rattle.bp_matter.specs.ReadTables.{ReadsTables}
-use Rattle.bp_matter.specs.Valid.{IsValid}
 use Rattle.bp_import.specs.Batch.{BatchAnswers}
 use Rattle.bp_rules.specs.Changes.{after}
 use Rattle.bp_rules.specs.Importing.{import_of}
 use Rattle.bp_rules.specs.Steps.{counted_of}
 use Rattle.bp_rules.specs.declared.importing.Imported.{Imported}
 use Rattle.bp_rules.specs.declared.stepping.Counted.{Counted}
+use Rattle.bp_cli.specs.Kept.{MatterAnswers}
 use Rattle.bp_cli.specs.Words.{word_of}
 use Rattle.bp_cli.specs.Endings.{Outcome, done, refused, line_of}
 
@@ -35,13 +31,6 @@ imported_line name counted =
     ++ codes " pages " ++ decimal counted.pages)
 
 -- ---- what it comes to
-
--- the valid matter that these rows are kept for; or the first rule: there is no row, or no valid
--- matter has these
-abbrev pub MatterAnswers : List Row → Result Matter Rule → Type 0
-MatterAnswers [] answer = answer ≡ Err (bare_rule kinds.NoMatter)
-MatterAnswers (row ∷ rows) (Ok m) = IsValid m × (row ∷ rows ≡ rows_of m)
-MatterAnswers (row ∷ rows) (Err rule) = ReadsTables (row ∷ rows) (Err (refusals.Rule rule))
 
 -- the rows of the matter after the import stand, and its numbers are told; or a rule is met
 abbrev pub step_gives : List ℕ → Matter → Result Imported Rule → Outcome

@@ -5,7 +5,11 @@ pub mod Commands
 pub mod Endings
 pub mod Import
 pub mod Init
+pub mod Kept
+pub mod Press
 pub mod Printing
+pub mod Produce
+pub mod Producing
 pub mod Runs
 pub mod Stops
 pub mod Words

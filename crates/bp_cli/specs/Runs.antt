@@ -12,8 +12,9 @@ use Rattle.bp_keep.specs.Keeper.{KeeperView}
 use Rattle.bp_cli.specs.declared.stops.Stop.TheVariants as stops
 use Rattle.bp_cli.specs.declared.statuses.TheConstants.{DONE, WORDS_REFUSED, RULE_BROKEN, SOURCE_FAULT, FOLDER_FAULT, KEEPER_FAULT, OUT_OF_MEMORY, OUT_FAULT}
 use Rattle.bp_cli.specs.Endings as outcomes
-use Rattle.bp_cli.specs.Endings.{Outcome, Ending, World, world, Uses, RowsLeft, with_files, status_of, text_of, memory_line, refused_line}
-use Rattle.bp_cli.specs.Commands.{CommandLine, Matter, uses_of, ComesTo, AreKnown, AlikeFor, Works}
+use Rattle.bp_press.specs.Writing.{with_files}
+use Rattle.bp_cli.specs.Endings.{Outcome, Ending, World, world, Uses, RowsLeft, status_of, text_of, memory_line, refused_line}
+use Rattle.bp_cli.specs.Commands.{CommandLine, Matter, uses_of, ComesTo, AreKnown, AlikeFor, ShowAlike, Works}
 use Rattle.bp_cli.specs.Printing.{failed_out, MayLackItsLine, WritesPart}
 
 -- what is known of all that is outside, at a moment
@@ -120,6 +121,14 @@ outcome_status (outcomes.refused rule) = RULE_BROKEN
 abbrev pub IsAmong : ℕ → List ℕ → Type 0
 IsAmong n ns = IsTrue (list_any (λ m. m == n) ns)
 
+-- what came out is an outcome of this matter, and shows the same as that one of another
+pub record GivesAlike (c : CommandLine) (matter : Matter) (other : Outcome)
+    (before after : Outside) : Type 0 where
+  pub outcome : Outcome
+  pub comes : ComesTo c matter outcome
+  pub same : ShowAlike c outcome other
+  pub gives : Gives outcome before after
+
 -- there is an outcome, and the status is its own, or that memory ran out
 pub record Completes (c : CommandLine) (matter : Matter) (status : ℕ) : Type 0 where
   pub outcome : Outcome
@@ -177,11 +186,11 @@ pub record Runs (command : Option CommandLine) (before after : Outside) (status 
       → IsAmong status (DONE ∷ WORDS_REFUSED ∷ RULE_BROKEN ∷ OUT_OF_MEMORY ∷ [])
   -- ---- two matters
 
-  -- what comes out is the outcome of every other matter that differs only in what the command
-  -- withholds
-  pub alike : (c : CommandLine) (matter matter' : Matter) (outcome : Outcome)
+  -- what comes out shows the same as the outcome of every other matter that differs only in what
+  -- the command withholds: the same line and the same files, or the same rule
+  pub alike : (c : CommandLine) (matter matter' : Matter) (other : Outcome)
       → Asks command before c matter
       → AlikeFor c matter matter'
-      → ComesTo c matter' outcome
+      → ComesTo c matter' other
       → (status ≡ DONE) ⊎ (status ≡ RULE_BROKEN)
-      → Gives outcome before after
+      → GivesAlike c matter other before after

@@ -14,6 +14,8 @@ use Rattle.bp_import.specs.declared.refusals.ImportRefusal.{ImportRefusal}
 use Rattle.bp_import.specs.declared.refusals.ImportRefusal.TheVariants as imports
 use Rattle.bp_rules.specs.declared.loading.LoadRefusal.{LoadRefusal}
 use Rattle.bp_rules.specs.declared.loading.LoadRefusal.TheVariants as loads
+use Rattle.bp_press.specs.declared.pressing.PressRefusal.{PressRefusal}
+use Rattle.bp_press.specs.declared.pressing.PressRefusal.TheVariants as presses
 use Rattle.bp_rules.specs.declared.stepping.StepRefusal.{StepRefusal}
 use Rattle.bp_rules.specs.declared.stepping.StepRefusal.TheVariants as steps
 use Rattle.bp_cli.specs.declared.stops.Stop.{Stop}
@@ -45,6 +47,10 @@ abbrev pub StopsForStep : StepRefusal → Stop → Type 0
 StopsForStep (steps.Rule rule) stop = stop ≡ stops.Broken rule
 StopsForStep steps.KeeperFault stop = stop ≡ stops.KeeperFault
 StopsForStep steps.OutOfMemory stop = stop ≡ stops.OutOfMemory
+
+abbrev pub StopsForPress : PressRefusal → Stop → Type 0
+StopsForPress presses.FolderFault stop = stop ≡ stops.FolderFault
+StopsForPress presses.OutOfMemory stop = stop ≡ stops.OutOfMemory
 
 -- the stop that a refusal of a read becomes
 abbrev pub read_stop : ReadRefusal → Stop

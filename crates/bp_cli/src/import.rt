@@ -1,7 +1,6 @@
 // The command `import`.
 ghost use Rattle.std.specs.Prelude.{◌≡◌, IfOk};
 ghost use Rattle.std.specs.Option.{option_map};
-ghost use Rattle.std.specs.Str.{chars};
 ghost use Rattle.bp_outside.specs.Folder.{FolderView};
 ghost use Rattle.bp_cli.specs.Words.{words_lent};
 ghost use Rattle.bp_cli.specs.Import.{batch_named, imported_line};
@@ -9,8 +8,8 @@ ghost use Rattle.bp_cli.specs.Commands.{import, uses_of, IsOutcome};
 ghost use Rattle.bp_cli.specs.Endings.{world, Ends};
 
 use crate::stops::Stop;
-use crate::words::word_at;
-use bp_core::{Bytes, OutOfMemory, Text};
+use crate::words::{text_of, word_at};
+use bp_core::{Bytes, OutOfMemory};
 use bp_import::{one_batch, read_batch};
 use bp_keep::Keeper;
 use bp_outside::Source;
@@ -48,12 +47,6 @@ pub fn import_batch<S: Source, K: Keeper>(
     let batch = read_batch(alloc, source, &folder)?;
     let counted = step_import(alloc, &mut tables, keeper, &batch)?;
     Ok(line_of_counts(alloc, name, counted)?)
-}
-
-fn text_of(alloc: Global, word: &str) -> Result<Text, OutOfMemory>
-    ensures { IfOk result (λ text. text ≡ chars word.now) }
-{
-    Ok(Text::from_string(String::from_str(alloc, word)?))
 }
 
 // `batch NAME documents N pages N`

@@ -9,12 +9,15 @@ mod commands;
 mod import;
 mod init;
 mod operands;
+mod press;
 mod printing;
+mod produce;
 mod run;
 mod statuses;
 mod stops;
 #[cfg(test)]
 mod tests;
+mod volumes;
 mod words;
 
 use bp_core::{NumberList, RowList};

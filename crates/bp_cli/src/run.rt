@@ -11,7 +11,9 @@ use crate::burn::burn_box;
 use crate::commands::{Command, command_in};
 use crate::import::import_batch;
 use crate::init::make_matter;
+use crate::press::{log_kept, press_kept};
 use crate::printing::finish;
+use crate::produce::produce_volume;
 use crate::stops::Stop;
 use bp_core::Bytes;
 use bp_import::one_batch;
@@ -100,5 +102,8 @@ fn work<S: Source, K: Keeper, F: Folder>(
         Some(Command::Burn(asked)) => burn_box(alloc, &asked, source, folder),
         Some(Command::Init(digest)) => make_matter(alloc, digest, keeper),
         Some(Command::Import(name)) => import_batch(alloc, name, source, keeper),
+        Some(Command::Produce(request)) => produce_volume(alloc, request, keeper, folder),
+        Some(Command::Press(id)) => press_kept(alloc, id, keeper, folder),
+        Some(Command::Log(id)) => log_kept(alloc, id, keeper),
     }
 }

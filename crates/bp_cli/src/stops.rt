@@ -3,6 +3,7 @@ use bp_core::{OutOfMemory, Refusal, Rule};
 use bp_import::ImportRefusal;
 use bp_keep::KeepRefusal;
 use bp_outside::FolderRefusal;
+use bp_press::PressRefusal;
 use bp_rules::{LoadRefusal, StepRefusal};
 use std::alloc::AllocError;
 use std::convert::From;
@@ -101,6 +102,19 @@ impl From<StepRefusal> for Stop {
             StepRefusal::Rule(rule) => Stop::Broken(rule),
             StepRefusal::KeeperFault => Stop::KeeperFault,
             StepRefusal::OutOfMemory => Stop::OutOfMemory,
+        }
+    }
+}
+
+impl From<PressRefusal> for Stop {
+    ghost use Rattle.bp_cli.specs.Stops.{StopsForPress};
+
+    ghost from_gives = { StopsForPress };
+
+    fn from(refusal: PressRefusal) -> Stop {
+        match refusal {
+            PressRefusal::FolderFault => Stop::FolderFault,
+            PressRefusal::OutOfMemory => Stop::OutOfMemory,
         }
     }
 }

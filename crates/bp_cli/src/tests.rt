@@ -1,6 +1,7 @@
 // Runs of the program over objects in memory.
 mod matters;
 mod page_files;
+mod productions;
 
 use crate::run::{Ended, run, run_arguments};
 use bp_core::{Bytes, NumberList, RowList, Text};

@@ -1,9 +1,13 @@
 // The words of a command line: which may stand in one, and the numbers among them.
-ghost use Rattle.std.specs.Prelude.{◌≡◌, ◌<◌, length};
+ghost use Rattle.std.specs.Prelude.{◌≡◌, ◌<◌, IfOk, length};
 ghost use Rattle.std.specs.Char.{is_ascii_digit};
 ghost use Rattle.std.specs.List.{list_all, list_any};
+ghost use Rattle.std.specs.Str.{chars};
 ghost use Rattle.std.specs.String.{string_bytes};
 ghost use Rattle.bp_cli.specs.Words.{is_number as number_word, number_of, is_bad_word, word_of, words_lent};
+
+use bp_core::{OutOfMemory, Text};
+use std::alloc::Global;
 
 /// The most digits of a number.
 pub const MAX_DIGITS: usize = 9;
@@ -52,4 +56,11 @@ fn all_digits(word: &[u8]) -> bool
     ensures { result ≡ list_all is_ascii_digit word.now }
 {
     word.iter().all(|digit| digit.is_ascii_digit())
+}
+
+/// The characters of a word.
+pub fn text_of(alloc: Global, word: &str) -> Result<Text, OutOfMemory>
+    ensures { IfOk result (λ text. text ≡ chars word.now) }
+{
+    Ok(Text::from_string(String::from_str(alloc, word)?))
 }

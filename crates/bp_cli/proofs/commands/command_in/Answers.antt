@@ -21,4 +21,4 @@ returns c =
     good_words words (words_lent c.as_slice.result.now) c.as_str.result.now _ some
     (sym (any_of_bytes words) ∙ sym c.has_bad_word.ensures ∙ c.if-has_bad_word.false)
     (c.as_str.ensures.value ∙ first_word words c.index-words-0.result some c.index-words-0.is)
-    (ap words_lent c.as_slice.ensures.value ∙ c.in_ok-operands.ensures) c.command_named.ensures
+    (ap words_lent c.as_slice.ensures.value ∙ c.in_ok-operands.ensures) c.in_ok-command.ensures

@@ -11,7 +11,7 @@ returns g c =
       one_batch = c.one_batch.ensures.only;
       some_batch = c.one_batch.ensures.some;
     } in
-    runs (record { one = one_outcome laws; some = some_outcome laws; told = told_outcome; two = outcome_alike laws.one })
+    runs (record { one = one_outcome laws; some = some_outcome laws; told = told_outcome; two = outcome_alike laws })
     _ _ _ c.finish-status.result c.work-ending.result c.work-ending.ensures c.finish-status.ensures
     (record {
       source = g.met.S.Source.unfailing c.work-ending.new.source;

@@ -5,7 +5,8 @@ use Rattle.bp_cli.specs.declared.commands.Command.TheVariants as commands
 use Rattle.bp_cli.specs.Burn.{burn_seen}
 use Rattle.bp_cli.specs.Words.{word_bytes}
 use Rattle.bp_cli.specs.Endings.{world}
-use Rattle.bp_cli.specs.Commands.{CommandLine, burn, init, import, command_seen, command_of, Works}
+use Rattle.std.specs.Str.{chars}
+use Rattle.bp_cli.specs.Commands.{CommandLine, burn, init, import, produce, press, log, command_seen, command_of, Works}
 use Rattle.bp_cli.proofs.run.work.Goals as goal
 
 pub returns-in-Some-Burn : goal.returns-in-Some-Burn
@@ -35,3 +36,31 @@ returns-in-Some-Import g c =
     let found : c.in_ok-command_in.field-0 ≡ Some (commands.Import c.in-Some-Import.name) = c.in-Some-Import.is ∙ ap (λ (x : Command). Some x) c.in-Some-Import.field-0-is in
     let is : Some (import c.in-Some-Import.name.now) ≡ command_of (word_bytes c.args.words.now) = ap (option_map command_seen) (sym found) ∙ c.in_ok-command_in.ensures in
     subst (λ (o : Option CommandLine). Works o before c.import_batch.result after) is (c.import_batch.ensures folder)
+
+pub returns-in-Some-Produce : goal.returns-in-Some-Produce
+returns-in-Some-Produce g c =
+    let source = g.S.Source.shows c.args.source.now in
+    let before = world source (g.K.Keeper.shows c.args.keeper.now) (g.F.Folder.shows c.args.folder.now) in
+    let after = world source (g.K.Keeper.shows c.produce_volume.new.keeper) (g.F.Folder.shows c.produce_volume.new.folder) in
+    let found : c.in_ok-command_in.field-0 ≡ Some (commands.Produce c.in-Some-Produce.request) = c.in-Some-Produce.is ∙ ap (λ (x : Command). Some x) c.in-Some-Produce.field-0-is in
+    let is : Some (produce c.in-Some-Produce.request) ≡ command_of (word_bytes c.args.words.now) = ap (option_map command_seen) (sym found) ∙ c.in_ok-command_in.ensures in
+    subst (λ (o : Option CommandLine). Works o before c.produce_volume.result after) is (c.produce_volume.ensures source)
+
+pub returns-in-Some-Press : goal.returns-in-Some-Press
+returns-in-Some-Press g c =
+    let source = g.S.Source.shows c.args.source.now in
+    let before = world source (g.K.Keeper.shows c.args.keeper.now) (g.F.Folder.shows c.args.folder.now) in
+    let after = world source (g.K.Keeper.shows c.press_kept.new.keeper) (g.F.Folder.shows c.press_kept.new.folder) in
+    let found : c.in_ok-command_in.field-0 ≡ Some (commands.Press c.in-Some-Press.id) = c.in-Some-Press.is ∙ ap (λ (x : Command). Some x) c.in-Some-Press.field-0-is in
+    let is : Some (press (chars c.in-Some-Press.id.now)) ≡ command_of (word_bytes c.args.words.now) = ap (option_map command_seen) (sym found) ∙ c.in_ok-command_in.ensures in
+    subst (λ (o : Option CommandLine). Works o before c.press_kept.result after) is (c.press_kept.ensures source)
+
+pub returns-in-Some-Log : goal.returns-in-Some-Log
+returns-in-Some-Log g c =
+    let source = g.S.Source.shows c.args.source.now in
+    let folder = g.F.Folder.shows c.args.folder.now in
+    let before = world source (g.K.Keeper.shows c.args.keeper.now) folder in
+    let after = world source (g.K.Keeper.shows c.log_kept.new.keeper) folder in
+    let found : c.in_ok-command_in.field-0 ≡ Some (commands.Log c.in-Some-Log.id) = c.in-Some-Log.is ∙ ap (λ (x : Command). Some x) c.in-Some-Log.field-0-is in
+    let is : Some (log (chars c.in-Some-Log.id.now)) ≡ command_of (word_bytes c.args.words.now) = ap (option_map command_seen) (sym found) ∙ c.in_ok-command_in.ensures in
+    subst (λ (o : Option CommandLine). Works o before c.log_kept.result after) is (c.log_kept.ensures source folder)

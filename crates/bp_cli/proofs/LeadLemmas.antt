@@ -1,0 +1,112 @@
+-- Lemmas of the lead's freeze: the step of Freeze for the key of staff 1 answers as the freeze does,
+-- and what it leaves is what the command `produce` goes on with.
+use Rattle.std.proofs.Common.{ℕ, ◌≡◌, Bool, true, List, [], ◌∷◌, not, Option, Some, None, Result, Ok, Err, refl, sym, ap, subst, ◌∙◌}
+use Rattle.std.specs.Prelude.{IsTrue}
+use Rattle.std.specs.List.{find}
+use Rattle.std.specs.Str.{bytes_eq}
+use Rattle.bp_core.specs.Counts.{risen}
+use Rattle.bp_core.specs.declared.review.Role.{Role}
+use Rattle.bp_core.specs.declared.review.Role.TheVariants.{Lead}
+use Rattle.bp_core.specs.declared.rules.Rule.{Rule}
+use Rattle.bp_keep.specs.Keeper.{KeeperView}
+use Rattle.bp_matter.specs.LookUps.{lead_digest_in, staff_with}
+use Rattle.bp_matter.specs.Matter.{Matter}
+use Rattle.bp_matter.specs.Valid.{IsValid}
+use Rattle.bp_matter.specs.ValidStaff.{begins_with_lead, is_lead}
+use Rattle.bp_matter.specs.declared.calls.Call.TheVariants.{Freeze}
+use Rattle.bp_matter.specs.declared.calls.Reply.{Reply}
+use Rattle.bp_matter.specs.declared.calls.Reply.TheVariants as replies
+use Rattle.bp_matter.specs.declared.rows.Production.{Production}
+use Rattle.bp_matter.specs.declared.rows.Request.{Request}
+use Rattle.bp_matter.specs.declared.rows.StaffRow.{StaffRow}
+use Rattle.bp_freeze.specs.Freezing.{freeze_of}
+use Rattle.bp_freeze.specs.Keeping.{frozen_matter}
+use Rattle.bp_freeze.proofs.PutRowLemmas.{text-same}
+use Rattle.bp_rules.specs.Changes.{after}
+use Rattle.bp_rules.specs.Roles.{is_clerk}
+use Rattle.bp_rules.specs.Stepping.{Stepped, freeze, step_for, step_of}
+use Rattle.bp_rules.specs.Steps.{CallMade, Stays, StepsCall}
+use Rattle.bp_rules.specs.declared.stepping.StepRefusal.{StepRefusal}
+use Rattle.bp_rules.specs.declared.stepping.StepRefusal.TheVariants as steps
+use Rattle.bp_cli.specs.declared.stops.Stop.{Stop}
+use Rattle.bp_cli.specs.declared.stops.Stop.TheVariants as stops
+use Rattle.bp_cli.specs.Producing.{Freezes, Froze, IsProduced}
+use Rattle.bp_cli.specs.Stops.{StopsForStep}
+
+-- ---- the lead
+
+lead_clerk : (role : Role) → is_lead role ≡ true → is_clerk role ≡ true
+lead_clerk Lead is = refl
+lead_clerk other is = absurd cc
+
+-- a lead is found by the digest of staff 1
+lead_found : (staff : List StaffRow) → begins_with_lead staff ≡ true → (row : StaffRow) × (find (λ r. bytes_eq r.digest (lead_digest_in staff)) staff ≡ Some row) × (is_clerk row.role ≡ true)
+lead_found [] lead = absurd cc
+lead_found (row ∷ rows) lead = (row, rw (text-same row.digest row.digest refl) refl, lead_clerk row.role lead)
+
+step_of_clerk : (m : Matter) (q : Request) (row : StaffRow) → is_clerk row.role ≡ true → step_for m (Some row) (Freeze q) ≡ freeze m (freeze_of m q)
+step_of_clerk m q row clerk = rw clerk refl
+
+pub lead_step : (m : Matter) → IsValid m → (q : Request) → step_of m (lead_digest_in m.staff) (Freeze q) ≡ freeze m (freeze_of m q)
+unfolding step_of
+lead_step m valid q =
+    let lead = lead_found m.staff valid.staff.lead_first in
+    ap (λ (o : Option StaffRow). step_for m o (Freeze q)) lead.1 ∙ step_of_clerk m q lead.0 lead.2
+
+-- ---- what it replies
+
+-- the reply to a freeze that is not refused is its production
+record Replied (m : Matter) (answer : Result Production Rule) (stepped : Stepped) : Type 0 where
+  f : Production
+  reply : stepped.reply ≡ replies.Produced f
+  is : answer ≡ Ok f
+  left : stepped.matter ≡ frozen_matter f m
+
+replied : (m : Matter) (answer : Result Production Rule) (stepped : Stepped) → freeze m answer ≡ Ok stepped → Replied m answer stepped
+replied m (Ok f) stepped is =
+    let same : record { reply = replies.Produced f; matter = frozen_matter f m } ≡ stepped = cc in
+    record { f = f; reply = sym (ap (λ (s : Stepped). s.reply) same); is = refl; left = sym (ap (λ (s : Stepped). s.matter) same) }
+replied m (Err rule) stepped is = absurd cc
+
+refused_by : (m : Matter) (answer : Result Production Rule) (rule : Rule) → freeze m answer ≡ Err rule → answer ≡ Err rule
+refused_by m (Ok f) rule is = absurd cc
+refused_by m (Err r) rule is = let same : r ≡ rule = cc in ap (λ (x : Rule). Err x) same
+
+same_production : (f g : Production) → replies.Produced f ≡ replies.Produced g → f ≡ g
+same_production f g is = cc
+
+made_replied : (m : Matter) (q : Request) (key : List ℕ) (keeper : KeeperView) (reply : Reply) (m' : Matter) (keeper' : KeeperView) → IsValid m → key ≡ lead_digest_in m.staff → (made : CallMade m key (Freeze q) keeper reply m' keeper')
+    → Replied m (freeze_of m q) (record { reply = reply; matter = after m made.edit })
+made_replied m q key keeper reply m' keeper' valid lead made =
+    replied m (freeze_of m q) _
+    (sym (lead_step m valid q) ∙ ap (λ (k : List ℕ). step_of m k (Freeze q)) (sym lead) ∙ made.answer)
+
+pub froze : (m : Matter) (q : Request) (key : List ℕ) (keeper : KeeperView) (reply : Reply) (f : Production) (m' : Matter) (keeper' : KeeperView) → IsValid m → key ≡ lead_digest_in m.staff → CallMade m key (Freeze q) keeper reply m' keeper' → reply ≡ replies.Produced f → Froze m q keeper f m' keeper'
+froze m q key keeper reply f m' keeper' valid lead made is =
+    let told = made_replied m q key keeper reply m' keeper' valid lead made in
+    let same : told.f ≡ f = same_production told.f f (sym told.reply ∙ is) in
+    record {
+      answer = told.is ∙ ap (λ (g : Production). Ok g) same;
+      matter = made.made.matter ∙ told.left ∙ ap (λ (g : Production). frozen_matter g m) same;
+      kept = made.made.kept;
+      faults = made.made.faults;
+      sure = made.made.sure;
+    }
+
+-- and it has one
+pub has_production : (m : Matter) (q : Request) (key : List ℕ) (keeper : KeeperView) (reply : Reply) (m' : Matter) (keeper' : KeeperView) → IsValid m → key ≡ lead_digest_in m.staff → CallMade m key (Freeze q) keeper reply m' keeper' → IsProduced reply
+has_production m q key keeper reply m' keeper' valid lead made =
+    let told = made_replied m q key keeper reply m' keeper' valid lead made in
+    subst IsProduced (sym told.reply) tt
+
+-- ---- and where it is refused
+
+pub freeze_stops : (m : Matter) (q : Request) (key : List ℕ) (keeper : KeeperView) (m' : Matter) (keeper' : KeeperView) (refusal : StepRefusal) (stop : Stop) → IsValid m → key ≡ lead_digest_in m.staff
+    → StepsCall m key (Freeze q) keeper (Err refusal) m' keeper' → StopsForStep refusal stop → Freezes m q keeper (Err stop) m' keeper'
+freeze_stops m q key keeper m' keeper' (steps.Rule rule) stop valid lead step is =
+    subst (λ (s : Stop). Freezes m q keeper (Err s) m' keeper') (sym is)
+    (refused_by m (freeze_of m q) rule (sym (lead_step m valid q) ∙ ap (λ (k : List ℕ). step_of m k (Freeze q)) (sym lead) ∙ step.0), step.2)
+freeze_stops m q key keeper m' keeper' steps.KeeperFault stop valid lead step is =
+    subst (λ (s : Stop). Freezes m q keeper (Err s) m' keeper') (sym is) step.1
+freeze_stops m q key keeper m' keeper' steps.OutOfMemory stop valid lead step is =
+    subst (λ (s : Stop). Freezes m q keeper (Err s) m' keeper') (sym is) step

@@ -1,0 +1,37 @@
+-- The matter that kept rows are of: what commands come to that read rows and no files, and which
+-- rows are of two matters.
+use Rattle.std.specs.Prelude.{◌≡◌, Option, Some, None, Result, Ok, Err, List, [], ◌∷◌, IfSome}
+use Rattle.bp_core.specs.declared.kept.Row.{Row}
+use Rattle.bp_core.specs.declared.refusals.Refusal.TheVariants as refusals
+use Rattle.bp_core.specs.declared.rules.Rule.{Rule}
+use Rattle.bp_core.specs.declared.rules.RuleKind.TheVariants as kinds
+use Rattle.bp_core.specs.Rules.{bare_rule}
+use Rattle.bp_matter.specs.KeptRows.{rows_of}
+use Rattle.bp_matter.specs.Matter.{Matter}
+use Rattle.bp_matter.specs.ReadTables.{ReadsTables}
+use Rattle.bp_matter.specs.Valid.{IsValid}
+use Rattle.bp_cli.specs.Endings.{Outcome}
+
+-- the valid matter that these rows are kept for; or the first rule: there is no row, or no valid
+-- matter has these
+abbrev pub MatterAnswers : List Row → Result Matter Rule → Type 0
+MatterAnswers [] answer = answer ≡ Err (bare_rule kinds.NoMatter)
+MatterAnswers (row ∷ rows) (Ok m) = IsValid m × (row ∷ rows ≡ rows_of m)
+MatterAnswers (row ∷ rows) (Err rule) = ReadsTables (row ∷ rows) (Err (refusals.Rule rule))
+
+-- the outcome that the matter of the rows gives which are told, or some matter where none are
+pub record RowsOutcome (gives : Result Matter Rule → Outcome) (rows : Option (List Row))
+    (outcome : Outcome) : Type 0 where
+  pub tables : Result Matter Rule
+  pub kept : IfSome rows (λ there. MatterAnswers there tables)
+  pub given : gives tables ≡ outcome
+
+-- the rows are those of two valid matters of which this holds
+pub record OfTwo (P : Matter → Matter → Type 0) (rows rows' : List Row) : Type 0 where
+  pub one : Matter
+  pub two : Matter
+  pub valid : IsValid one
+  pub valid' : IsValid two
+  pub kept : rows ≡ rows_of one
+  pub kept' : rows' ≡ rows_of two
+  pub holds : P one two

@@ -55,19 +55,40 @@ calm_rules : (d : Decisions) (docs : List Seen) (q : Request) (rule : Rule) → 
 unfolding AreCalm
 calm_rules d docs q rule is =
     let rules : List (Option Rule) = request_rules d q ++ (family_rules d docs q ++ taking_rules d docs q) in
-    let calm : AreCalm rules =
-        (λ r. unless_calm _ _ r (λ source. refl),
-        (λ r. unless_calm _ _ r (λ source. refl),
-        (λ r. unless_calm _ _ r (λ source. refl),
-        (λ r. unless_calm _ _ r (λ source. refl),
-        (λ r. unless_calm _ _ r (λ source. refl),
-        (λ r. width_calm (prefix_row d.prefixes q.prefix.text) q.prefix.width r,
-        (λ r. unless_calm _ _ r (λ source. refl),
-        (λ r. none_calm _ _ r (λ a source. refl),
-        (λ r. none_calm _ _ r (λ a source. refl),
-        (λ r. unless_calm _ _ r (λ source. refl),
-        (λ r. unless_calm _ _ r (λ source. refl),
-        (λ r. unless_calm _ _ r (λ source. refl), tt)))))))))))) in
+    let calm : AreCalm rules = (
+      λ r. unless_calm _ _ r (λ source. refl),
+      (
+        λ r. unless_calm _ _ r (λ source. refl),
+        (
+          λ r. unless_calm _ _ r (λ source. refl),
+          (
+            λ r. unless_calm _ _ r (λ source. refl),
+            (
+              λ r. unless_calm _ _ r (λ source. refl),
+              (
+                λ r. width_calm (prefix_row d.prefixes q.prefix.text) q.prefix.width r,
+                (
+                  λ r. unless_calm _ _ r (λ source. refl),
+                  (
+                    λ r. none_calm _ _ r (λ a source. refl),
+                    (
+                      λ r. none_calm _ _ r (λ a source. refl),
+                      (
+                        λ r. unless_calm _ _ r (λ source. refl),
+                        (
+                          λ r. unless_calm _ _ r (λ source. refl),
+                          (λ r. unless_calm _ _ r (λ source. refl), tt),
+                        ),
+                      ),
+                    ),
+                  ),
+                ),
+              ),
+            ),
+          ),
+        ),
+      ),
+    ) in
     first_calm rules rule calm is
 
 unless_frozen : (o : Option Rule) (f : Production) (rule : Rule) → frozen_unless o f ≡ Err rule → o ≡ Some rule

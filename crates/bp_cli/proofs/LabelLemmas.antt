@@ -29,9 +29,10 @@ item_labels : (width : ℕ) (i : Item) → span_fits width i ≡ true → HasLab
 item_labels width i fits =
     let three = and_parts _ (nat_le i.span.last (largest_of width)) fits in
     let two = and_parts _ (nat_le 1 i.span.last) three.0 in
-    let one = and_parts (nat_le 1 i.span.first) (nat_le i.span.first (largest_of width)) two.0 in
-    (record { from = leb-true 1 i.span.first one.0; to = leb-true i.span.first (largest_of width) one.1 },
-    record { from = leb-true 1 i.span.last two.1; to = leb-true i.span.last (largest_of width) three.1 })
+    let one = and_parts (nat_le 1 i.span.first) (nat_le i.span.first (largest_of width)) two.0 in (
+      record { from = leb-true 1 i.span.first one.0; to = leb-true i.span.first (largest_of width) one.1 },
+      record { from = leb-true 1 i.span.last two.1; to = leb-true i.span.last (largest_of width) three.1 },
+    )
 
 last_label : (width : ℕ) (i : Item) (items : List Item) → list_all (span_fits width) (i ∷ items) ≡ true → HasLabel width (last_number i.span.last items)
 last_label width i [] fits = (item_labels width i (and_parts (span_fits width i) true fits).0).1

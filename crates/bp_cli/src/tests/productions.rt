@@ -1,6 +1,6 @@
 // Runs of the commands of productions, over the kept rows of a matter of two documents. One has a
 // redacted page and a field that is held back, the other is withheld.
-use super::{NOTHING_FAILS, Failing, Seen, numbers, ran_over, row};
+use super::{Failing, NOTHING_FAILS, Seen, numbers, ran_over, row};
 use bp_core::{Basis, DocNo, PageNo, Rect, Role, Text, Treatment};
 use bp_keep::MemKeeper;
 use bp_matter::{Call, Tables};
@@ -14,7 +14,9 @@ use std::process::Abort;
 use std::test::Fail;
 
 const LEAD: [u8; 32] = [1; 32];
+
 const REVIEWER: [u8; 32] = [2; 32];
+
 const SECOND: [u8; 32] = [3; 32];
 
 const PRODUCE: &str = "produce R-1 V1 AB- 4 1 2 AUTHOR";
@@ -86,8 +88,16 @@ fn batch_source(alloc: Global, held: Held<'_>) -> Result<MemSource, Fail> {
         row(alloc, "B1/load.dat", held.dat.as_bytes())?,
         row(alloc, "B1/load.opt", held.opt.as_bytes())?,
         row(alloc, "B1/words.csv", held.words.as_bytes())?,
-        row(alloc, "B1/p.tif", page_file(alloc, held.is_black)?.as_slice())?,
-        row(alloc, "B1/q.tif", page_file(alloc, !held.is_black)?.as_slice())?,
+        row(
+            alloc,
+            "B1/p.tif",
+            page_file(alloc, held.is_black)?.as_slice()
+        )?,
+        row(
+            alloc,
+            "B1/q.tif",
+            page_file(alloc, !held.is_black)?.as_slice()
+        )?,
     ]?;
     let files = FileList::from_vec(rows);
     if !paths_differ(&files) {
@@ -193,13 +203,21 @@ fn decided(alloc: Global, held: Held<'_>) -> Result<MemKeeper, Fail> {
 }
 
 // Runs a line over a source without files.
-fn ran_on(alloc: Global, line: &str, keeper: MemKeeper, failing: &Failing<'_>) -> Result<Seen, Fail> {
+fn ran_on(
+    alloc: Global,
+    line: &str,
+    keeper: MemKeeper,
+    failing: &Failing<'_>,
+) -> Result<Seen, Fail> {
     let source = MemSource::over(FileList::new(alloc), numbers(alloc, &[])?);
     ran_over(alloc, line, source, keeper, failing)
 }
 
 fn bytes_at<'a>(folder: &'a MemFolder, path: &str) -> Result<&'a [u8], Fail> {
-    let found = folder.files().iter().find(|file| file.path.as_str() == path);
+    let found = folder
+        .files()
+        .iter()
+        .find(|file| file.path.as_str() == path);
     match found {
         Some(file) => Ok(file.bytes.as_slice()),
         None => Err(Fail::from("a file is missing")),
@@ -213,7 +231,10 @@ fn line_of(alloc: Global, folder: &MemFolder) -> Result<String, Fail> {
     if hex::encode_to_slice(digest, &mut hex).is_err() {
         return Err(Fail::from("no digits"));
     }
-    let mut line = String::from_str(alloc, "production R-1 labels AB-0001 to AB-0002 files 8 manifest ")?;
+    let mut line = String::from_str(
+        alloc,
+        "production R-1 labels AB-0001 to AB-0002 files 8 manifest ",
+    )?;
     for digit in hex {
         line.push(char::from(digit))?;
     }
@@ -317,10 +338,26 @@ fn refused_requests_write_nothing(rt: HostRuntime) -> Result<(), Fail> {
     for (line, status, printed) in [
         ("press X", 2, "refused 33 NoProduction 0 0 0\n"),
         ("log X", 2, "refused 33 NoProduction 0 0 0\n"),
-        ("produce R-1 V1 AB- 4 1 1 AUTHOR", 2, "refused 28 RequestDiffers 0 0 0\n"),
-        ("produce R-2 V1 AB- 4 1 2", 2, "refused 41 VolumeTaken 0 0 0\n"),
-        ("produce R-2 V2 AB- 5 1 2", 2, "refused 30 PrefixDiffers 0 4 0\n"),
-        ("produce R-2 V2 AB- 4 1 2", 2, "refused 27 NothingResponsive 0 0 0\n"),
+        (
+            "produce R-1 V1 AB- 4 1 1 AUTHOR",
+            2,
+            "refused 28 RequestDiffers 0 0 0\n",
+        ),
+        (
+            "produce R-2 V1 AB- 4 1 2",
+            2,
+            "refused 41 VolumeTaken 0 0 0\n",
+        ),
+        (
+            "produce R-2 V2 AB- 5 1 2",
+            2,
+            "refused 30 PrefixDiffers 0 4 0\n",
+        ),
+        (
+            "produce R-2 V2 AB- 4 1 2",
+            2,
+            "refused 27 NothingResponsive 0 0 0\n",
+        ),
         ("produce R-2 V2 AB- 256 1 2", 1, "words refused\n"),
         ("produce R-2 V2 AB- 4 1", 1, "words refused\n"),
         ("press", 1, "words refused\n"),

@@ -1,7 +1,11 @@
 // Loading the tables of a matter.
-ghost use Rattle.std.specs.Prelude.{◌≡◌};
+ghost use Rattle.std.specs.Prelude.{◌≡◌, IfOk, IsTrue};
+ghost use Rattle.bp_matter.specs.ValidProductions.{itself};
+ghost use Rattle.bp_matter.specs.ValidRows.{all_differ};
+ghost use Rattle.bp_freeze.specs.Numbers.{AreTakenOnce, all_labels};
 ghost use Rattle.bp_rules.specs.Loading.{LoadsTables};
 
+use crate::stepping::know_numbers;
 use bp_core::{OutOfMemory, Refusal, Rule, RuleKind};
 use bp_keep::{KeepRefusal, Keeper};
 use bp_matter::laws::rows_law;
@@ -23,8 +27,25 @@ pub enum LoadRefusal {
     OutOfMemory,
 }
 
-/// The tables that the keeper has the rows of. It leaves the rows.
+/// The tables that the keeper has the rows of. It leaves the rows. Under each prefix the label numbers
+/// of all productions are 1 up to its next number, each once, and no two labels are alike.
 pub fn load_tables<K: Keeper>(alloc: Global, keeper: &mut K) -> Result<Tables, LoadRefusal>
+    ensures loaded { LoadsTables (K.shows keeper.old) result (K.shows keeper.new) }
+    ensures numbers { IfOk result (λ tables. AreTakenOnce tables.matter) }
+    ensures labels { IfOk result (λ tables.
+        IsTrue (all_differ itself (all_labels tables.matter.productions))) }
+{
+    match loaded(alloc, keeper) {
+        Ok(tables) => {
+            know_numbers(&tables);
+            Ok(tables)
+        }
+        Err(refusal) => Err(refusal),
+    }
+}
+
+// The same, by the rows alone.
+fn loaded<K: Keeper>(alloc: Global, keeper: &mut K) -> Result<Tables, LoadRefusal>
     ensures { LoadsTables (K.shows keeper.old) result (K.shows keeper.new) }
 {
     rows_law();

@@ -103,7 +103,7 @@ pub fn step<K: Keeper>(
 }
 
 // Says that the label numbers under each prefix are taken once, and that no two labels are alike.
-fn know_numbers(tables: &Tables)
+pub(crate) fn know_numbers(tables: &Tables)
     ensures numbers { AreTakenOnce tables.now.matter }
     ensures labels { IsTrue (all_differ itself (all_labels tables.now.matter.productions)) }
 {

@@ -18,13 +18,13 @@ pub returns-in_err-tables : goal.returns-in_err-tables
 returns-in_err-tables g c =
     let residual = c.from_residual in
     rows_refused (press_gives (chars c.args.id.now)) (λ rule. refl) (g.K.Keeper.shows c.args.keeper.now) (g.K.Keeper.shows c.load_tables.new.keeper) (g.F.Folder.shows c.args.folder.now)
-    c.in_err-tables.field-0.0 residual.result c.in_err-tables.ensures residual.ensures.0 residual.ensures.1
+    c.in_err-tables.field-0.0 residual.result c.in_err-tables.ensures.loaded residual.ensures.0 residual.ensures.1
 
 pub returns-in_err-id : goal.returns-in_err-id
 returns-in_err-id g c =
     let residual = c.from_residual-in_err-id in
     rows_lacked (press_gives (chars c.args.id.now)) (g.K.Keeper.shows c.args.keeper.now) (g.K.Keeper.shows c.load_tables.new.keeper) (g.F.Folder.shows c.args.folder.now)
-    c.in_ok-tables.tables residual.result c.in_ok-tables.ensures residual.ensures.0 residual.ensures.1
+    c.in_ok-tables.tables residual.result c.in_ok-tables.ensures.loaded residual.ensures.0 residual.ensures.1
 
 pub returns-in-None : goal.returns-in-None
 returns-in-None g c =
@@ -34,7 +34,7 @@ returns-in-None g c =
     let m = c.in_ok-tables.tables.matter in
     let none : kept_production m.productions (chars c.args.id.now) ≡ None = none_found m.productions c.in_ok-id.id (chars c.args.id.now) c.production.result c.production.ensures c.in_ok-id.ensures c.in-None.is in
     subst (λ (r : Rule). RowsEnds (press_gives (chars c.args.id.now)) before folder (Err (stops.Broken r)) mid folder) (sym c.bare.ensures)
-    (rows_rule (press_gives (chars c.args.id.now)) before mid folder c.in_ok-tables.tables (bare_rule NoProduction) c.know_valid.ensures c.in_ok-tables.ensures
+    (rows_rule (press_gives (chars c.args.id.now)) before mid folder c.in_ok-tables.tables (bare_rule NoProduction) c.know_valid.ensures c.in_ok-tables.ensures.loaded
     (ap (kept_gives (λ f. volume_done f (volume_of f m) None)) none) (λ source. refl))
 
 pub put_volume-requires : goal.put_volume-requires
@@ -50,6 +50,6 @@ returns g c =
     let f = c.in-Some.production.now in
     let found : kept_production m.productions (chars c.args.id.now) ≡ Some f = some_found m.productions c.in_ok-id.id (chars c.args.id.now) c.production.result c.in-Some.production c.production.ensures c.in_ok-id.ensures c.in-Some.is in
     rows_volume (press_gives (chars c.args.id.now)) before mid (g.F.Folder.shows c.args.folder.now) (g.F.Folder.shows c.put_volume.new.folder) f (volume_of f m) None c.put_volume.result
-    (matter_outcome (press_gives (chars c.args.id.now)) before mid c.in_ok-tables.tables (volume_done f (volume_of f m) None) c.know_valid.ensures c.in_ok-tables.ensures
+    (matter_outcome (press_gives (chars c.args.id.now)) before mid c.in_ok-tables.tables (volume_done f (volume_of f m) None) c.know_valid.ensures c.in_ok-tables.ensures.loaded
     (ap (kept_gives (λ f. volume_done f (volume_of f m) None)) found))
-    (load_left before mid (Ok c.in_ok-tables.tables) before.faults c.in_ok-tables.ensures c.in_ok-tables.ensures.faults) c.put_volume.ensures
+    (load_left before mid (Ok c.in_ok-tables.tables) before.faults c.in_ok-tables.ensures.loaded c.in_ok-tables.ensures.loaded.faults) c.put_volume.ensures

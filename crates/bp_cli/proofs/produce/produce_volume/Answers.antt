@@ -9,14 +9,14 @@ pub returns-in_err-tables : goal.returns-in_err-tables
 returns-in_err-tables g c =
     let residual = c.from_residual in
     rows_refused (produce_gives c.args.request) (λ rule. refl) (g.K.Keeper.shows c.args.keeper.now) (g.K.Keeper.shows c.load_tables.new.keeper) (g.F.Folder.shows c.args.folder.now)
-    c.in_err-tables.field-0.0 residual.result c.in_err-tables.ensures residual.ensures.0 residual.ensures.1
+    c.in_err-tables.field-0.0 residual.result c.in_err-tables.ensures.loaded residual.ensures.0 residual.ensures.1
 
 pub returns-in_err-production : goal.returns-in_err-production
 returns-in_err-production g c =
     let residual = c.from_residual-in_err-production in
     freeze_refused c.args.request (g.K.Keeper.shows c.args.keeper.now) (g.K.Keeper.shows c.load_tables.new.keeper) (g.K.Keeper.shows c.freeze_for_lead.new.keeper) (g.F.Folder.shows c.args.folder.now)
     c.in_ok-tables.tables c.freeze_for_lead.new.tables.matter c.in_err-production.field-0.0 residual.result
-    c.know_valid.ensures c.in_ok-tables.ensures c.in_err-production.ensures residual.ensures.0 residual.ensures.1
+    c.know_valid.ensures c.in_ok-tables.ensures.loaded c.in_err-production.ensures residual.ensures.0 residual.ensures.1
 
 pub put_volume-requires : goal.put_volume-requires
 put_volume-requires g c =
@@ -28,4 +28,4 @@ pub returns : goal.returns
 returns g c =
     produced_ends c.args.request (g.K.Keeper.shows c.args.keeper.now) (g.K.Keeper.shows c.load_tables.new.keeper) (g.K.Keeper.shows c.freeze_for_lead.new.keeper)
     (g.F.Folder.shows c.args.folder.now) (g.F.Folder.shows c.put_volume.new.folder) c.in_ok-tables.tables c.in_ok-production.production c.freeze_for_lead.new.tables.matter c.put_volume.result
-    c.know_valid.ensures c.in_ok-tables.ensures c.in_ok-production.ensures c.put_volume.ensures
+    c.know_valid.ensures c.in_ok-tables.ensures.loaded c.in_ok-production.ensures c.put_volume.ensures

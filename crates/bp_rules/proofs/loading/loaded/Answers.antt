@@ -1,6 +1,6 @@
 use Rattle.std.proofs.Common.{sym, ◌∙◌}
 use Rattle.bp_rules.proofs.LoadLemmas.{loaded-ok, told-ok}
-use Rattle.bp_rules.proofs.loading.load_tables.Goals as goal
+use Rattle.bp_rules.proofs.loading.loaded.Goals as goal
 
 pub returns-in-Ok-read_tables : goal.returns-in-Ok-read_tables
 returns-in-Ok-read_tables g c =

@@ -29,9 +29,8 @@ use Rattle.bp_matter.specs.Valid.{IsValid}
 use Rattle.bp_cli.specs.Import.{ImportOutcome, import_gives}
 use Rattle.bp_cli.specs.Kept.{MatterAnswers, OfTwo, RowsOutcome}
 use Rattle.bp_cli.specs.Press.{KeepSame, ShowSame, log_gives, press_gives}
-use Rattle.bp_cli.specs.Produce.{produce_gives}
+use Rattle.bp_cli.specs.Produce.{FrozenAlike, produce_gives}
 use Rattle.bp_cli.specs.Init.{init_gives}
-use Rattle.bp_freeze.specs.Alike.{Alike}
 use Rattle.bp_cli.proofs.ImportLemmas.{SomeBatch}
 use Rattle.bp_cli.specs.Runs.{Tells}
 use Rattle.bp_cli.specs.Words.{◌>>=◌}
@@ -214,7 +213,7 @@ outcome_alike laws (import name) matter matter' other alike comes =
     (subst (λ (files : FileMap). ImportOutcome name (Some files) (Some matter.rows) other) (sym alike.0)
     (subst (λ (rows : List Row). ImportOutcome name (Some matter'.files) (Some rows) other) (sym alike.1) comes))
 outcome_alike laws (produce q) matter matter' other both comes =
-    let there = rows_alike laws.rows (produce q) (Alike q) (produce_gives q) matter.rows matter'.rows other both comes (same_frozen (produce q) q both.one both.two both.holds (λ rows rows'. tt)) in
+    let there = rows_alike laws.rows (produce q) (FrozenAlike q) (produce_gives q) matter.rows matter'.rows other both comes (same_frozen (produce q) q both.one both.two both.holds (λ rows rows'. tt)) in
     record { outcome = there.0; comes = there.1.0; same = there.1.1 }
 outcome_alike laws (press id) matter matter' other both comes =
     let there = rows_alike laws.rows (press id) (ShowSame id) (press_gives id) matter.rows matter'.rows other both comes (same_pressed (press id) id both.one both.two both.holds refl) in

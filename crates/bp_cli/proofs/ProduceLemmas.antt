@@ -1,9 +1,11 @@
 -- Lemmas of produce, press and log: that two matters which differ only in what is withheld give
 -- outcomes that show the same.
-use Rattle.std.proofs.Common.{ℕ, ◌≡◌, true, List, [], ◌∷◌, ◌++◌, map, Option, Some, None, Result, Ok, Err, refl, sym, ap, subst, ◌∙◌}
+use Rattle.std.proofs.Common.{ℕ, ◌≡◌, true, List, [], ◌∷◌, ◌++◌, map, Option, Some, None, Result, Ok, Err, refl, sym, ap, subst, inl, inr, cond, Bool, false, ◌∙◌}
 use Rattle.std.specs.Prelude.{IsTrue}
 use Rattle.bp_core.specs.declared.kept.Row.{Row}
+use Rattle.bp_core.specs.Rules.{bare_rule}
 use Rattle.bp_core.specs.declared.rules.Rule.{Rule}
+use Rattle.bp_core.specs.declared.rules.RuleKind.TheVariants.{RequestDiffers}
 use Rattle.bp_outside.specs.declared.files.FileRow.{FileRow}
 use Rattle.bp_matter.specs.KeptRows.{rows_of, staff_kept}
 use Rattle.bp_matter.specs.Matter.{Matter}
@@ -14,9 +16,10 @@ use Rattle.bp_matter.specs.declared.rows.Request.{Request}
 use Rattle.bp_matter.specs.declared.rows.StaffRow.{StaffRow}
 use Rattle.bp_freeze.specs.Agree.{Agree}
 use Rattle.bp_freeze.specs.Alike.{Alike, DecidedAlike}
-use Rattle.bp_freeze.specs.Freezing.{freeze_of, kept_production}
+use Rattle.bp_freeze.specs.Freezing.{freeze_of, frozen_by, kept_production, same_request}
 use Rattle.bp_freeze.specs.Keeping.{after_freeze, frozen_matter}
 use Rattle.bp_freeze.specs.Log.{log_of}
+use Rattle.bp_freeze.specs.Seeing.{decisions_of, seen_of}
 use Rattle.bp_freeze.proofs.AlikeLemmas.{freeze-same}
 use Rattle.bp_press.specs.Contents.{produced_page}
 use Rattle.bp_press.specs.Pressed.{pressed_of}
@@ -25,7 +28,7 @@ use Rattle.bp_press.proofs.SameLemmas.{volume-same}
 use Rattle.bp_cli.specs.Commands.{CommandLine, RowsAlike, ShowAlike}
 use Rattle.bp_cli.specs.Endings.{Outcome, done, refused}
 use Rattle.bp_cli.specs.Press.{KeepSame, ShowSame, kept_gives, log_gives, press_gives}
-use Rattle.bp_cli.specs.Produce.{frozen_gives, produce_gives, volume_done, volume_line}
+use Rattle.bp_cli.specs.Produce.{FrozenAlike, KeptSame, frozen_gives, produce_gives, volume_done, volume_line}
 
 -- ---- a valid matter has rows
 
@@ -57,10 +60,33 @@ frozen_alike c m n (Ok f) agree any =
     (any _ _)
 frozen_alike c m n (Err rule) agree any = refl
 
-pub same_frozen : (c : CommandLine) (q : Request) (m n : Matter) → Alike q m n → ((rows rows' : Option (List Row)) → RowsAlike c rows rows') → ShowAlike c (produce_gives q (Ok m)) (produce_gives q (Ok n))
-same_frozen c q m n alike any =
+frozen_now : (c : CommandLine) (q : Request) (m n : Matter) → Alike q m n → ((rows rows' : Option (List Row)) → RowsAlike c rows rows') → ShowAlike c (produce_gives q (Ok m)) (produce_gives q (Ok n))
+frozen_now c q m n alike any =
     subst (λ (answer : Result Production Rule). ShowAlike c (frozen_gives m (freeze_of m q)) (frozen_gives n answer)) (freeze-same q m n alike.decided)
     (frozen_alike c m n (freeze_of m q) alike.shown any)
+
+-- what a kept production answers
+abbrev repeat : Production → Request → Result Production Rule
+repeat f q = cond (same_request f.request q) (Ok f) (Err (bare_rule RequestDiffers))
+
+repeated : (m : Matter) (q : Request) (f : Production) → kept_production m.productions q.id ≡ Some f → freeze_of m q ≡ repeat f q
+unfolding freeze_of
+repeated m q f kept = ap (λ (o : Option Production). frozen_by o (decisions_of m) (seen_of m q) q) kept
+
+answered : (f g : Production) (same : Bool) → let differs : Result Production Rule = Err (bare_rule RequestDiffers) in cond same (Ok f) differs ≡ Ok g → f ≡ g
+answered f g true is = cc
+answered f g false is = absurd cc
+
+frozen_before : (c : CommandLine) (q : Request) (m n : Matter) → KeptSame q m n → ((rows rows' : Option (List Row)) → RowsAlike c rows rows') → ShowAlike c (produce_gives q (Ok m)) (produce_gives q (Ok n))
+frozen_before c q m n both any =
+    let f : Production = both.f in
+    subst (λ (answer : Result Production Rule). ShowAlike c (frozen_gives m answer) (frozen_gives n (freeze_of n q))) (sym (repeated m q f both.kept))
+    (subst (λ (answer : Result Production Rule). ShowAlike c (frozen_gives m (repeat f q)) (frozen_gives n answer)) (sym (repeated n q f both.kept'))
+    (frozen_alike c m n (repeat f q) (λ g is. subst (λ (h : Production). Agree h m n) (answered f g (same_request f.request q) is) both.shown) any))
+
+pub same_frozen : (c : CommandLine) (q : Request) (m n : Matter) → FrozenAlike q m n → ((rows rows' : Option (List Row)) → RowsAlike c rows rows') → ShowAlike c (produce_gives q (Ok m)) (produce_gives q (Ok n))
+same_frozen c q m n (inl alike) any = frozen_now c q m n alike any
+same_frozen c q m n (inr both) any = frozen_before c q m n both any
 
 -- ---- press
 

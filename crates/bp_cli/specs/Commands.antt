@@ -9,7 +9,6 @@ use Rattle.bp_core.specs.declared.rules.Rule.{Rule}
 use Rattle.bp_outside.specs.Source.{FileMap}
 use Rattle.bp_matter.specs.Matter.{Matter as Kept}
 use Rattle.bp_matter.specs.declared.rows.Request.{Request}
-use Rattle.bp_freeze.specs.Alike.{Alike}
 use Rattle.bp_cli.specs.declared.commands.Command.{Command}
 use Rattle.bp_cli.specs.declared.commands.Command.TheVariants as commands
 use Rattle.bp_cli.specs.declared.stops.Stop.TheVariants as stops
@@ -20,7 +19,7 @@ use Rattle.bp_cli.specs.Import.{batch_named, ImportOutcome}
 use Rattle.bp_cli.specs.Init.{init_of, init_gives, InitOutcome}
 use Rattle.bp_cli.specs.Kept.{MatterAnswers, OfTwo, RowsOutcome}
 use Rattle.bp_cli.specs.Press.{KeepSame, ShowSame, id_named, log_gives, press_gives}
-use Rattle.bp_cli.specs.Produce.{produce_gives, request_of}
+use Rattle.bp_cli.specs.Produce.{FrozenAlike, produce_gives, request_of}
 
 -- a command with its operands
 pub data CommandLine : Type 0 where
@@ -111,7 +110,7 @@ AlikeFor (burn b) matter matter' = BurnAlike b matter.files matter'.files
 AlikeFor (init digest) matter matter' = matter.rows ≡ matter'.rows
 AlikeFor (import name) matter matter' =
     (matter.files ≡ matter'.files) × (matter.rows ≡ matter'.rows)
-AlikeFor (produce q) matter matter' = OfTwo (Alike q) matter.rows matter'.rows
+AlikeFor (produce q) matter matter' = OfTwo (FrozenAlike q) matter.rows matter'.rows
 AlikeFor (press id) matter matter' = OfTwo (ShowSame id) matter.rows matter'.rows
 AlikeFor (log id) matter matter' = OfTwo (KeepSame id) matter.rows matter'.rows
 

@@ -1,5 +1,5 @@
 -- The command `produce`: its line, what it comes to, and what it withholds.
-use Rattle.std.specs.Prelude.{ℕ, ◌≡◌, ◌++◌, Option, Some, None, Result, Ok, Err, List, [], drop, length, map, nat_le, codes, encode_utf8_all, if◌then◌else◌}
+use Rattle.std.specs.Prelude.{ℕ, ◌≡◌, ◌⊎◌, ◌++◌, Option, Some, None, Result, Ok, Err, List, [], drop, length, map, nat_le, codes, encode_utf8_all, if◌then◌else◌}
 use Rattle.std.specs.Fmt.{decimal}
 use Rattle.std.specs.Str.{chars}
 use Rattle.hex.specs.Hex.{encode_lower}
@@ -10,8 +10,9 @@ use Rattle.bp_matter.specs.KeptRows.{rows_of}
 use Rattle.bp_matter.specs.Matter.{Matter}
 use Rattle.bp_matter.specs.declared.rows.Production.{Production}
 use Rattle.bp_matter.specs.declared.rows.Request.{Request}
+use Rattle.bp_freeze.specs.Agree.{Agree}
 use Rattle.bp_freeze.specs.Alike.{Alike}
-use Rattle.bp_freeze.specs.Freezing.{freeze_of}
+use Rattle.bp_freeze.specs.Freezing.{freeze_of, kept_production}
 use Rattle.bp_freeze.specs.Keeping.{frozen_matter}
 use Rattle.bp_freeze.specs.Log.{label_in}
 use Rattle.bp_press.specs.Volume.{volume_of}
@@ -83,3 +84,17 @@ frozen_gives m (Err rule) = refused rule
 abbrev pub produce_gives : Request → Result Matter Rule → Outcome
 produce_gives q (Ok m) = frozen_gives m (freeze_of m q)
 produce_gives q (Err rule) = refused rule
+
+-- ---- what it withholds
+
+-- both keep the production that is asked for once more, and show the same of it, whatever was
+-- decided since
+pub record KeptSame (q : Request) (m n : Matter) : Type 0 where
+  pub f : Production
+  pub kept : kept_production m.productions q.id ≡ Some f
+  pub kept' : kept_production n.productions q.id ≡ Some f
+  pub shown : Agree f m n
+
+-- the same was decided, and what the request freezes shows the same in both; or it was frozen before
+abbrev pub FrozenAlike : Request → Matter → Matter → Type 0
+FrozenAlike q m n = Alike q m n ⊎ KeptSame q m n

@@ -1,5 +1,5 @@
 //! The program: one command of the production press. It reads files below the current folder,
-//! keeps the rows of a matter, writes files below the folder `out`, and prints one line. Begin at
+//! keeps the rows of a matter, writes files below the folder `out`, and prints its line. Begin at
 //! `run`, whose contract promises `Runs`.
 #![tactic(auto)]
 

@@ -58,7 +58,7 @@ pub fn run_arguments<S: Source, K: Keeper, F: Folder, O: Out>(
 }
 
 /// Carries out the command that the words are a line of: it reads from the source, loads the rows
-/// of the keeper and commits to it, writes to the folder and prints one line. The words don't have
+/// of the keeper and commits to it, writes to the folder and prints its line. The words don't have
 /// the program's name. The keeper is handed back. The status: 0 where all was done, 1 where the
 /// words are no command line, 2 where a rule is broken, 3 at a fault of the source, 4 of the
 /// folder, 5 of the keeper, 6 where memory ran out, 7 at a fault of the out.

@@ -5,12 +5,9 @@
 # Needs rt on PATH, python3, and Debian's libtiff-tools and netpbm.
 set -eu
 here=$(CDPATH='' cd -- "$(dirname -- "$0")" && pwd)
-bench=$here/../crates/bp_bench
-log=$(mktemp)
-trap 'rm -f "$log"' EXIT
-(cd "$bench" && rt run -- codes white index 1) < /dev/null > "$log" 2>&1 || { cat "$log"; exit 1; }
+bench=$("$here/build_bench.sh")
 
-pages=$("$bench/out/bp_bench" import "$here" CVI_001 1)
+pages=$("$bench" import "$here" CVI_001 1)
 [ "$pages" = 31 ] || { echo "import_batch.sh: $pages pages came in, and not 31" >&2; exit 1; }
 "$here/check_batch.py" | tail -n 1
 echo "the batch came in: $pages pages"

@@ -5,13 +5,10 @@
 # Needs rt on PATH, python3, and Debian's libtiff-tools and netpbm.
 set -eu
 here=$(CDPATH='' cd -- "$(dirname -- "$0")" && pwd)
-bench=$here/../crates/bp_bench
-log=$(mktemp)
-trap 'rm -f "$log"' EXIT
-(cd "$bench" && rt run -- codes white index 1) < /dev/null > "$log" 2>&1 || { cat "$log"; exit 1; }
+bench=$("$here/build_bench.sh")
 
 rm -rf "$here/out/VOL001"
-files=$("$bench/out/bp_bench" volume "$here" CVI_001 "$here/out")
+files=$("$bench" volume "$here" CVI_001 "$here/out")
 [ "$files" = 37 ] || { echo "produce_batch.sh: the volume has $files files, and not 37" >&2; exit 1; }
 "$here/check_volume.py" "$here/out"
 echo "the volume stands in examples/out/VOL001: $files files"

@@ -9,7 +9,7 @@ use bp_rules::{StepRefusal, step};
 use std::alloc::Global;
 
 /// A call as a table writes it, by the name of the call.
-#[derive(Clone, Copy, Debug)]
+#[derive(Clone, Copy)]
 pub enum Made {
     /// Its last value n stands for the digest of n 32 times.
     AddStaff(&'static str, Role, u8),

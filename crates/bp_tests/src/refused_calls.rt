@@ -273,17 +273,17 @@ fn the_first_rule_of_a_call_is_told(rt: HostRuntime) -> Result<(), Fail> {
     );
     let before = tables.rows(alloc)?;
     let refused = [
-        OF_STAFF.as_slice(),
-        OF_PLACES.as_slice(),
-        OF_CALLS.as_slice(),
-        OF_BOXES.as_slice(),
-        OF_FIELDS.as_slice(),
-        OF_ENTRIES.as_slice(),
-        OF_CONFIRMING.as_slice(),
+        ("staff", OF_STAFF.as_slice()),
+        ("places", OF_PLACES.as_slice()),
+        ("calls", OF_CALLS.as_slice()),
+        ("boxes", OF_BOXES.as_slice()),
+        ("fields", OF_FIELDS.as_slice()),
+        ("entries", OF_ENTRIES.as_slice()),
+        ("confirming", OF_CONFIRMING.as_slice()),
     ];
-    for rows in refused {
+    for (subject, rows) in refused {
         let misfit = first_misfit(alloc, &mut tables, &mut keeper, rows);
-        assert_eq!(rt; misfit, None, "{rows:?}");
+        assert_eq!(rt; misfit, None, "{subject}");
     }
     assert!(rt; tables.rows(alloc)? == before);
     assert!(rt; keeper.load(alloc)? == before);

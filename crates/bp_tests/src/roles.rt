@@ -48,8 +48,8 @@ const BROKEN: Texts = Texts {
     description: "",
 };
 
-// The calls, who may make each, and the first rule that it breaks then. Each breaks
-// later ones too, where it has any.
+// The calls, who may make each, and the first rule that it breaks then. Each breaks later ones too,
+// where it has any.
 static CALLS: [(Made, &[Role], Told); 14] = [
     (AddStaff("", Role::Lead, 1), LEAD, TEXT_REFUSED),
     (SeeDoc(NONE), ALL_BUT_RECEIVER, NO_DOCUMENT),
@@ -69,11 +69,11 @@ static CALLS: [(Made, &[Role], Told); 14] = [
 
 #[test]
 fn each_call_has_its_roles(rt: HostRuntime) -> Result<(), Fail> {
-    for (made, roles, _) in CALLS.iter() {
+    for (number, (made, roles, _)) in CALLS.iter().enumerate() {
         let call = call_of(rt.alloc(), *made)?;
         for (_, role) in STAFF {
             let expected = roles.contains(&role);
-            assert_eq!(rt; may(role, &call), expected, "{role:?}: {made:?}");
+            assert_eq!(rt; may(role, &call), expected, "{role:?}: {number}");
         }
     }
     Ok(())
@@ -84,7 +84,7 @@ fn each_call_has_its_roles(rt: HostRuntime) -> Result<(), Fail> {
 fn the_role_comes_before_the_document(rt: HostRuntime) -> Result<(), Fail> {
     let alloc = rt.alloc();
     let (mut tables, mut keeper) = begun(alloc)?;
-    for (made, roles, first) in CALLS.iter() {
+    for (number, (made, roles, first)) in CALLS.iter().enumerate() {
         for (by, role) in STAFF {
             let told = if roles.contains(&role) {
                 *first
@@ -92,7 +92,7 @@ fn the_role_comes_before_the_document(rt: HostRuntime) -> Result<(), Fail> {
                 ROLE_REFUSED
             };
             let reply = make(alloc, &mut tables, &mut keeper, by, *made);
-            assert!(rt; fits(&reply, &told), "{role:?}: {made:?}");
+            assert!(rt; fits(&reply, &told), "{role:?}: {number}");
         }
     }
     Ok(())
@@ -103,9 +103,9 @@ fn the_role_comes_before_the_document(rt: HostRuntime) -> Result<(), Fail> {
 fn the_key_comes_before_the_role(rt: HostRuntime) -> Result<(), Fail> {
     let alloc = rt.alloc();
     let (mut tables, mut keeper) = begun(alloc)?;
-    for (made, _, _) in CALLS.iter() {
+    for (number, (made, _, _)) in CALLS.iter().enumerate() {
         let reply = make(alloc, &mut tables, &mut keeper, 9, *made);
-        assert!(rt; fits(&reply, &KEY_UNKNOWN), "{made:?}");
+        assert!(rt; fits(&reply, &KEY_UNKNOWN), "{number}");
     }
     Ok(())
 }

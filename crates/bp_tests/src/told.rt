@@ -6,7 +6,7 @@ use bp_rules::StepRefusal;
 use bp_text::WordList;
 
 /// What a call is told, as a table writes it.
-#[derive(Clone, Copy, Debug)]
+#[derive(Clone, Copy)]
 pub enum Told {
     Done,
     Staff(u32),
@@ -30,7 +30,7 @@ pub enum Told {
 }
 
 /// What is seen of a document.
-#[derive(Clone, Copy, Debug)]
+#[derive(Clone, Copy)]
 pub struct Seen {
     pub doc: u32,
     pub parent: u32,
@@ -45,7 +45,7 @@ pub struct Seen {
 }
 
 /// The texts of an entry.
-#[derive(Clone, Copy, Debug)]
+#[derive(Clone, Copy)]
 pub struct Texts {
     pub date: &'static str,
     pub author: &'static str,

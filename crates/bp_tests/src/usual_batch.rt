@@ -1,9 +1,9 @@
 // A batch of twelve documents in four families on 31 pages, and a matter that it has come into.
 use crate::batches::text;
-use bp_core::{Bytes, NumberList, Rect, Role, StaffNo, Text};
+use bp_core::{Bytes, NumberList, Rect, Role};
 use bp_import::read_batch;
 use bp_keep::MemKeeper;
-use bp_matter::{Batch, StaffRow, Tables};
+use bp_matter::{Batch, Tables};
 use bp_outside::{FileList, FileRow, MemSource, paths_differ};
 use bp_rows::{Page, Res, Unit};
 use bp_rules::{begin, load_tables, step_import};

@@ -79,7 +79,7 @@ fn a_day_is_told_as_written(rt: HostRuntime) -> Result<(), Fail> {
             4,
             Made::SeeDoc(seen.doc),
         );
-        assert!(rt; fits(&reply, &Told::Doc(*seen)), "{seen:?}");
+        assert!(rt; fits(&reply, &Told::Doc(*seen)), "document {}", seen.doc);
     }
     Ok(())
 }

@@ -7,7 +7,7 @@ use bp_rows::{Page, Res, Unit};
 use bp_tiff::{Form, write_tiff};
 use std::alloc::{AllocError, Global};
 
-fn text(alloc: Global, characters: &str) -> Result<Text, AllocError> {
+pub fn text(alloc: Global, characters: &str) -> Result<Text, AllocError> {
     Ok(Text::from_string(String::from_str(alloc, characters)?))
 }
 

@@ -5,6 +5,8 @@
 #[cfg(test)]
 mod batches;
 #[cfg(test)]
+mod calls;
+#[cfg(test)]
 mod kept_rows;
 #[cfg(test)]
 mod limits;
@@ -14,5 +16,21 @@ mod matters;
 mod productions;
 #[cfg(test)]
 mod reading_batches;
+#[cfg(test)]
+mod refused_calls;
+#[cfg(test)]
+mod roles;
+#[cfg(test)]
+mod told;
+#[cfg(test)]
+mod usual_batch;
+#[cfg(test)]
+mod usual_calls;
+#[cfg(test)]
+mod usual_day;
+#[cfg(test)]
+mod usual_matter;
+#[cfg(test)]
+mod usual_volume;
 #[cfg(test)]
 mod validity;

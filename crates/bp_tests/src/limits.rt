@@ -1,9 +1,17 @@
 // The limits of a matter: each number is reached, and then passed by one.
 use crate::batches::{HEADER, NEVER, batch_in};
+use crate::calls::Made::AddStaff;
+use crate::calls::Row as Asked;
 use crate::matters::{INVALID, PAGE, STAFF, bad, kept, matter, refusal};
-use bp_core::{Bytes, ListOf, OutOfMemory, Refusal, Row, Rule, RuleKind};
+use crate::told::TEXT_REFUSED;
+use crate::told::Told::{MatterFull, Staff, StaffThere};
+use crate::usual_matter::first_misfit;
+use bp_core::{
+    Bytes, ListOf, NumberList, OutOfMemory, Refusal, Role, Row, Rule, RuleKind, ascends,
+};
+use bp_keep::MemKeeper;
 use bp_matter::read_tables;
-use bp_rules::decide_import;
+use bp_rules::{decide_import, load_tables};
 use std::alloc::Global;
 use std::test::Fail;
 
@@ -123,6 +131,34 @@ fn staff_fields_and_batches_have_limits(rt: HostRuntime) -> Result<(), Fail> {
             "{kind}"
         );
     }
+    Ok(())
+}
+
+// Calls of the lead, L, whose key has the digest of zeros.
+static BEYOND: [Asked; 5] = [
+    (0, AddStaff("", Role::Lead, 0), TEXT_REFUSED),
+    (0, AddStaff("", Role::Clerk, 7), TEXT_REFUSED),
+    (0, AddStaff("L", Role::Clerk, 0), StaffThere(1)),
+    (0, AddStaff("L", Role::Lead, 0), Staff(1)),
+    (0, AddStaff("L", Role::Clerk, 7), MatterFull(5, 1001)),
+];
+
+// A matter with 1,000 members takes no further one. A name that isn't one comes first, then a key
+// that is another's.
+#[test]
+fn the_1_001st_member_is_refused(rt: HostRuntime) -> Result<(), Fail> {
+    let alloc = rt.alloc();
+    let rows = many(alloc, 1, 1000, &STAFF, 2)?;
+    if !ascends(&rows) {
+        panic!(rt; "the rows don't ascend");
+    }
+    let mut keeper = MemKeeper::over(ListOf::from_vec(rows), NumberList::new(alloc));
+    let mut tables = load_tables(alloc, &mut keeper)?;
+    assert_eq!(rt;
+        first_misfit(alloc, &mut tables, &mut keeper, &BEYOND),
+        None
+    );
+    assert_eq!(rt; tables.staff.len(), 1000);
     Ok(())
 }
 

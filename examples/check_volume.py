@@ -167,7 +167,8 @@ def image_id(item, page):
 
 
 def check_texts(folder, produced, words):
-    """Each text is of the words that no box touches; and what is withheld stands in no file."""
+    """Each text is of the words that no box touches. The words that stand in withheld places alone: not in what is shown
+    of a page, nor in what the office says itself, as a designation or a line of the log."""
     shown, hidden = set(), set()
     for item in produced:
         text = "" if not item.ground else f"DOCUMENT WITHHELD - {item.ground}\r\n\f"
@@ -181,7 +182,8 @@ def check_texts(folder, produced, words):
                 shown |= {word for _, _, word in kept}
         name = path("TEXT", item.first, "TXT")
         expect(read(folder, name).decode() == text, f"{name} has another text")
-    return {word for word in hidden if len(word) > 3 and not any(word in other for other in shown)}
+    told = shown | set(LOG.split()) | {value for row in dat_due(produced) for value in row}
+    return {word for word in hidden if len(word) > 3 and not any(word in other for other in told)}
 
 
 def check_no_trace(folder, secrets):

@@ -11,6 +11,7 @@
 //     bp_bench strips FILE PAGES TIMES
 //     bp_bench import FOLDER NAME TIMES
 //     bp_bench import_parts FOLDER NAME TIMES
+//     bp_bench volume FOLDER NAME OUT
 #![tactic(auto)]
 
 mod codes;
@@ -20,6 +21,7 @@ mod matter;
 mod opt;
 mod pages;
 mod sums;
+mod volume;
 mod words;
 
 use anyhow::{Result, bail};
@@ -50,6 +52,7 @@ fn run<R: Files + Alloc>(rt: &R, alloc: Global, words: &[String]) -> Result<u64>
         "strips" => matter::strips(rt, alloc, operands),
         "import" => import::import(rt, alloc, operands),
         "import_parts" => import::parts(rt, alloc, operands),
+        "volume" => volume::volume(rt, alloc, operands),
         other => bail!("no job {other}"),
     }
 }

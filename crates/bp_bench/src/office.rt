@@ -19,7 +19,7 @@ pub const SECOND: [u8; 32] = [3; 32];
 /// The id of the request that is produced.
 pub const ID: &str = "R-1";
 
-/// The widest page that counts as small. A larger one is a letter page at 300 dots an inch.
+// The widest page that counts as small. A larger one is a letter page at 300 dots an inch.
 const SMALL: u32 = 64;
 
 /// The tables of a matter and their keeper.

@@ -19,7 +19,15 @@ mod reading_batches;
 #[cfg(test)]
 mod refused_calls;
 #[cfg(test)]
+mod refused_requests;
+#[cfg(test)]
+mod requests;
+#[cfg(test)]
 mod roles;
+#[cfg(test)]
+mod small_matters;
+#[cfg(test)]
+mod steps;
 #[cfg(test)]
 mod told;
 #[cfg(test)]

@@ -9,6 +9,8 @@ mod calls;
 #[cfg(test)]
 mod kept_rows;
 #[cfg(test)]
+mod largest;
+#[cfg(test)]
 mod limits;
 #[cfg(test)]
 mod matters;

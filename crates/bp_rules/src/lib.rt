@@ -25,14 +25,10 @@ mod loading;
 mod marking;
 mod members;
 mod refusing;
-#[cfg(test)]
-mod review_tests;
 mod roles;
 mod running;
 mod seeing;
 mod stepping;
-#[cfg(test)]
-mod tests;
 mod texts;
 
 pub use applying::{apply, make_room};

@@ -31,7 +31,8 @@ fn folder(alloc: Global, dat: &[u8], opt: &str, csv: &str) -> Result<FileList, A
     Ok(FileList::from_vec(files))
 }
 
-fn put(
+/// Adds a file of these bytes; one that is `-` isn't added.
+pub fn put(
     alloc: Global,
     files: &mut Vec<FileRow>,
     path: &str,
@@ -66,7 +67,16 @@ pub fn batch_in(
     csv: &str,
     failing: u64,
 ) -> Result<Result<Batch, ImportRefusal>, AllocError> {
-    let files = folder(alloc, dat, opt, csv)?;
+    batch_over(alloc, name, folder(alloc, dat, opt, csv)?, failing)
+}
+
+/// What the batch `name` over these files comes to, where the read of that number fails.
+pub fn batch_over(
+    alloc: Global,
+    name: &str,
+    files: FileList,
+    failing: u64,
+) -> Result<Result<Batch, ImportRefusal>, AllocError> {
     if !paths_differ(&files) {
         return Err(AllocError);
     }

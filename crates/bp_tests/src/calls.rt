@@ -25,8 +25,12 @@ pub enum Made {
     PutEntry(u32, Texts),
     Confirm(u32),
     SendBack(u32),
-    /// Id, first and last document.
+    /// Id, first and last document: for the volume VOL001, under the prefix ABC with eight digits,
+    /// with the field AUTHOR.
     Freeze(&'static str, u32, u32),
+    /// A freeze of this id and volume, under the prefix of this text with so many digits, from the
+    /// first document to the last, with the fields of these names.
+    Ask(&'static str, &'static str, &'static str, u8, u32, u32, &'static [&'static str]),
     GetProduction(&'static str),
 }
 
@@ -50,7 +54,12 @@ pub fn call_of(alloc: Global, made: Made) -> Result<Call, OutOfMemory> {
         Made::PutEntry(doc, texts) => put_entry(alloc, doc, texts),
         Made::Confirm(doc) => Ok(Call::Confirm { doc: DocNo(doc) }),
         Made::SendBack(doc) => Ok(Call::SendBack { doc: DocNo(doc) }),
-        Made::Freeze(id, from, to) => freeze(alloc, id, from, to),
+        Made::Freeze(id, from, to) => {
+            freeze(alloc, id, "VOL001", ("ABC", 8), (from, to), &["AUTHOR"])
+        }
+        Made::Ask(id, volume, prefix, width, from, to, fields) => {
+            freeze(alloc, id, volume, (prefix, width), (from, to), fields)
+        }
         Made::GetProduction(id) => get_production(alloc, id),
     }
 }
@@ -130,17 +139,29 @@ fn put_entry(alloc: Global, doc: u32, texts: Texts) -> Result<Call, OutOfMemory>
     })
 }
 
-// For the volume VOL001, under the prefix ABC with eight digits, with the field AUTHOR.
-fn freeze(alloc: Global, id: &str, from: u32, to: u32) -> Result<Call, OutOfMemory> {
+/// A freeze of this id and volume, under the prefix of this text and width, from the first document
+/// to the last, with the fields of these names.
+pub fn freeze(
+    alloc: Global,
+    id: &str,
+    volume: &str,
+    prefix: (&str, u8),
+    range: (u32, u32),
+    names: &[&str],
+) -> Result<Call, OutOfMemory> {
     let mut fields = Vec::new(alloc);
-    fields.push(text(alloc, "AUTHOR")?)?;
+    for name in names {
+        fields.push(text(alloc, name)?)?;
+    }
+    let (prefix, width) = prefix;
     let prefix = Prefix {
-        text: text(alloc, "ABC")?,
-        width: 8,
+        text: text(alloc, prefix)?,
+        width,
     };
+    let (from, to) = range;
     let request = Request {
         id: text(alloc, id)?,
-        volume: text(alloc, "VOL001")?,
+        volume: text(alloc, volume)?,
         prefix,
         from: DocNo(from),
         to: DocNo(to),

@@ -9,6 +9,8 @@ mod calls;
 #[cfg(test)]
 mod kept_rows;
 #[cfg(test)]
+mod largest;
+#[cfg(test)]
 mod limits;
 #[cfg(test)]
 mod matters;
@@ -19,7 +21,15 @@ mod reading_batches;
 #[cfg(test)]
 mod refused_calls;
 #[cfg(test)]
+mod refused_requests;
+#[cfg(test)]
+mod requests;
+#[cfg(test)]
 mod roles;
+#[cfg(test)]
+mod small_matters;
+#[cfg(test)]
+mod steps;
 #[cfg(test)]
 mod told;
 #[cfg(test)]

@@ -63,83 +63,63 @@ fn a_batch_comes_whole(rt: HostRuntime) -> Result<(), Fail> {
     Ok(())
 }
 
+// The DAT, OPT and words file of a folder, and the rule, line and first value that it is told.
+type Broken = (&'static str, &'static str, &'static str, RuleKind, u32, u64);
+
+const BAD_ROW: &str = "þBEGDOCþ\u{14}þBEGATTACHþ\nx\n";
+
+const BAD_FAMILY: &str = "þBEGDOCþ\u{14}þBEGATTACHþ\nþA1þ\u{14}þA9þ\n";
+
+// A word that passes the edge of its page.
+const OUTSIDE: &str = "A1,1,0,0,9,1,a\n";
+
+const NO_PAGE: &str = "A9,1,0,0,1,1,a\n";
+
+const BAD_WORD: &str = "A9,1,0,0,1,1,a\nx\n";
+
+const SHORT_LINE: &str = "A1,,a.tif,Y\nA,B\n";
+
+const TWICE: &str = "A1,,a.tif,Y\nA1,,a.tif\n";
+
+const ONE: &str = "A1,,a.tif,Y\n";
+
+const BAD_PATH: &str = "A1,,../a.tif,Y\nA3,,a.tif,Y\n";
+
+const LATER_BAD_PATH: &str = "A1,,a.tif,Y\nA3,,../a.tif,Y\n";
+
+const ABSENT: &str = "A1,,c.tif,Y\nA3,,../a.tif,Y\n";
+
+const NO_IMAGE: &str = "A1,,b.tif,Y\nA3,,t.tif,Y\n";
+
+const LATER_NO_IMAGE: &str = "A1,,a.tif,Y\nA3,,b.tif,Y\n";
+
 // Each folder breaks the rule that is named, and one that comes later.
+static BROKEN: [Broken; 16] = [
+    ("-", "-", "-", RuleKind::FileAbsent, 0, 0),
+    ("x", "-", "-", RuleKind::DatShape, 1, 0),
+    ("þNOTEþ\nx\n", "-", "-", RuleKind::DatColumns, 0, 0),
+    (BAD_ROW, "-", "-", RuleKind::DatShape, 2, 0),
+    (TWO, "-", "-", RuleKind::FileAbsent, 0, 1),
+    (TWO, SHORT_LINE, "-", RuleKind::OptShape, 2, 0),
+    (BAD_FAMILY, TWICE, "-", RuleKind::DocBreaks, 2, 0),
+    (BAD_FAMILY, ONE, "-", RuleKind::FamilyBroken, 1, 0),
+    (TWO, PAGES, "-", RuleKind::FileAbsent, 0, 2),
+    (TWO, PAGES, BAD_WORD, RuleKind::WordShape, 2, 0),
+    (TWO, BAD_PATH, NO_PAGE, RuleKind::WordsPage, 1, 0),
+    (TWO, LATER_BAD_PATH, OUTSIDE, RuleKind::PathRefused, 2, 0),
+    (TWO, ABSENT, OUTSIDE, RuleKind::FileAbsent, 1, 3),
+    (TWO, NO_IMAGE, OUTSIDE, RuleKind::TiffHead, 1, 0),
+    (TWO, LATER_NO_IMAGE, OUTSIDE, RuleKind::TiffHead, 2, 0),
+    (TWO, PAGES, OUTSIDE, RuleKind::WordOutside, 1, 0),
+];
+
 #[test]
 fn the_first_rule_is_told(rt: HostRuntime) -> Result<(), Fail> {
-    let bad_row = "þBEGDOCþ\u{14}þBEGATTACHþ\nx\n";
-    let bad_family = "þBEGDOCþ\u{14}þBEGATTACHþ\nþA1þ\u{14}þA9þ\n";
-    let outside = "A1,1,0,0,9,1,a\n";
-    for (dat, opt, csv, kind, line, a) in [
-        ("-", "-", "-", RuleKind::FileAbsent, 0, 0),
-        ("x", "-", "-", RuleKind::DatShape, 1, 0),
-        ("þNOTEþ\nx\n", "-", "-", RuleKind::DatColumns, 0, 0),
-        (bad_row, "-", "-", RuleKind::DatShape, 2, 0),
-        (TWO, "-", "-", RuleKind::FileAbsent, 0, 1),
-        (TWO, "A1,,a.tif,Y\nA,B\n", "-", RuleKind::OptShape, 2, 0),
-        (
-            bad_family,
-            "A1,,a.tif,Y\nA1,,a.tif\n",
-            "-",
-            RuleKind::DocBreaks,
-            2,
-            0,
-        ),
-        (
-            bad_family,
-            "A1,,a.tif,Y\n",
-            "-",
-            RuleKind::FamilyBroken,
-            1,
-            0,
-        ),
-        (TWO, PAGES, "-", RuleKind::FileAbsent, 0, 2),
-        (TWO, PAGES, "A9,1,0,0,1,1,a\nx\n", RuleKind::WordShape, 2, 0),
-        (
-            TWO,
-            "A1,,../a.tif,Y\nA3,,a.tif,Y\n",
-            "A9,1,0,0,1,1,a\n",
-            RuleKind::WordsPage,
-            1,
-            0,
-        ),
-        (
-            TWO,
-            "A1,,a.tif,Y\nA3,,../a.tif,Y\n",
-            outside,
-            RuleKind::PathRefused,
-            2,
-            0,
-        ),
-        (
-            TWO,
-            "A1,,c.tif,Y\nA3,,../a.tif,Y\n",
-            outside,
-            RuleKind::FileAbsent,
-            1,
-            3,
-        ),
-        (
-            TWO,
-            "A1,,b.tif,Y\nA3,,t.tif,Y\n",
-            outside,
-            RuleKind::TiffHead,
-            1,
-            0,
-        ),
-        (
-            TWO,
-            "A1,,a.tif,Y\nA3,,b.tif,Y\n",
-            outside,
-            RuleKind::TiffHead,
-            2,
-            0,
-        ),
-        (TWO, PAGES, outside, RuleKind::WordOutside, 1, 0),
-    ] {
+    for (dat, opt, csv, kind, line, a) in BROKEN.iter() {
         let found = batch_in(rt.alloc(), "B1", dat.as_bytes(), opt, csv, NEVER)?;
         let rule = Rule {
-            a,
-            ..Rule::at_line(kind, line)
+            a: *a,
+            ..Rule::at_line(*kind, *line)
         };
         let told = found.map(|batch| batch.docs.len());
         assert_eq!(rt; told, Err(ImportRefusal::Rule(rule)), "{opt}");

@@ -10,9 +10,8 @@ use crate::told::{
     NOTHING_REDACTED, SAME_PERSON, TEXT_REFUSED, Texts, WRONG_TREATMENT,
 };
 use crate::usual_calls::COUNSEL;
-use crate::usual_matter::{begun, first_misfit};
+use crate::usual_matter::{begun, first_misfit, first_unrefused};
 use bp_core::{Basis, Rect, Role, Treatment};
-use bp_keep::Keeper;
 use std::test::Fail;
 
 const AC: Basis = Basis::Ac;
@@ -36,9 +35,9 @@ const FOR_TS: Treatment = Treatment::Withhold(TS);
 const FOR_AC: Treatment = Treatment::Withhold(AC);
 
 // Document 1 is uncalled, and so is 10, which has an AC box. The others are called: 2 and 7 to be
-// produced; 3 and 9 to be redacted, without anything; 4 with an AC box, 6 with AUTHOR held for WP, 12
-// with AUTHOR held for PI; 5 is withheld for WP. None has an entry. The second edited 5, 6, 7 and 9
-// last, the reviewer the others.
+// produced; 3 and 9 to be redacted, without anything; 4 with an AC box, 6 with AUTHOR held for WP,
+// 12 with AUTHOR held for PI; 5 is withheld for WP. None has an entry. The second edited 5, 6, 7 and
+// 9 last, the reviewer the others.
 static PREPARED: [Row; 15] = [
     (3, SetCall(2, true, PRODUCE, ""), Done),
     (3, SetCall(3, true, REDACT, ""), Done),
@@ -271,7 +270,6 @@ fn the_first_rule_of_a_call_is_told(rt: HostRuntime) -> Result<(), Fail> {
         first_misfit(alloc, &mut tables, &mut keeper, &PREPARED),
         None
     );
-    let before = tables.rows(alloc)?;
     let refused = [
         ("staff", OF_STAFF.as_slice()),
         ("places", OF_PLACES.as_slice()),
@@ -282,11 +280,9 @@ fn the_first_rule_of_a_call_is_told(rt: HostRuntime) -> Result<(), Fail> {
         ("confirming", OF_CONFIRMING.as_slice()),
     ];
     for (subject, rows) in refused {
-        let misfit = first_misfit(alloc, &mut tables, &mut keeper, rows);
+        let misfit = first_unrefused(alloc, &mut tables, &mut keeper, rows)?;
         assert_eq!(rt; misfit, None, "{subject}");
     }
-    assert!(rt; tables.rows(alloc)? == before);
-    assert!(rt; keeper.load(alloc)? == before);
     Ok(())
 }
 

@@ -17,16 +17,26 @@ pub enum Told {
     Words(&'static str),
     /// The items: document, first and last number of each.
     Produced(&'static [(u32, u64, u64)]),
+    /// The items whole: the document of each as it was seen, and first and last number.
+    Items(&'static [(Seen, u64, u64)]),
     NoDocument(u32),
     NoPage(u32),
     /// The key is that of the member of this number.
     StaffThere(u32),
     /// The least document whose family reaches outside the range.
     SplitFamily(u32),
+    /// The least document that isn't settled.
+    Unsettled(u32),
+    /// The prefix is kept with so many digits.
+    PrefixDiffers(u32),
+    /// The largest number of the prefix.
+    BatesFull(u32),
     /// The limit of this number, and the count that would be reached.
     MatterFull(u32, u32),
     /// A rule that uses no value.
     Rule(RuleKind),
+    /// The keeper failed.
+    KeeperFault,
 }
 
 /// What is seen of a document.
@@ -104,12 +114,25 @@ pub const BAD_VOLUME: Told = Told::Rule(RuleKind::BadVolume);
 /// Another production has the volume.
 pub const VOLUME_TAKEN: Told = Told::Rule(RuleKind::VolumeTaken);
 
+/// A prefix isn't one.
+pub const BAD_PREFIX: Told = Told::Rule(RuleKind::BadPrefix);
+
+/// A field is chosen twice, or has the name of a column.
+pub const FIELD_CHOICE: Told = Told::Rule(RuleKind::FieldChoice);
+
+/// No document stands in the range, or it passes the last one.
+pub const RANGE_EMPTY: Told = Told::Rule(RuleKind::RangeEmpty);
+
+/// No family of the range is left that has a responsive document.
+pub const NOTHING_RESPONSIVE: Told = Told::Rule(RuleKind::NothingResponsive);
+
 /// Whether what a call was told is what the table writes.
 pub fn fits(reply: &Result<Reply, StepRefusal>, told: &Told) -> bool {
     match reply {
         Ok(reply) => reply_fits(reply, told),
         Err(StepRefusal::Rule(rule)) => rule_fits(rule, told),
-        Err(_) => false,
+        Err(StepRefusal::KeeperFault) => matches!(told, Told::KeeperFault),
+        Err(StepRefusal::OutOfMemory) => false,
     }
 }
 
@@ -159,8 +182,26 @@ fn are_words(words: &WordList, told: &Told) -> bool {
 fn is_produced(production: &Production, told: &Told) -> bool {
     match told {
         Told::Produced(spans) => have_spans(production.items.as_slice(), spans),
+        Told::Items(seen) => are_items(production.items.as_slice(), seen),
         _ => false,
     }
+}
+
+fn are_items(items: &[Item], seen: &[(Seen, u64, u64)]) -> bool {
+    let differ = items.iter().zip(seen.iter()).any(|(item, (seen, first, last))| !is_item(
+        item, seen, *first, *last,
+    ));
+    items.len() == seen.len() && !differ
+}
+
+fn is_item(item: &Item, seen: &Seen, first: u64, last: u64) -> bool {
+    (item.doc.0, item.parent.0) == (seen.doc, seen.parent)
+        && item.treatment == seen.treatment
+        && item.designation.as_str() == seen.designation
+        && item.boxes.as_slice() == seen.boxes
+        && item.held.as_slice() == seen.held
+        && is_entry(&item.entry, &seen.entry)
+        && (item.span.first, item.span.last) == (first, last)
 }
 
 fn have_spans(items: &[Item], spans: &[(u32, u64, u64)]) -> bool {
@@ -197,6 +238,9 @@ fn rule_fits(rule: &Rule, told: &Told) -> bool {
         Told::NoPage(page) => is_rule(rule, RuleKind::NoPage, *page, 0),
         Told::StaffThere(staff) => is_rule(rule, RuleKind::StaffThere, *staff, 0),
         Told::SplitFamily(doc) => is_rule(rule, RuleKind::SplitFamily, *doc, 0),
+        Told::Unsettled(doc) => is_rule(rule, RuleKind::Unsettled, *doc, 0),
+        Told::PrefixDiffers(width) => is_rule(rule, RuleKind::PrefixDiffers, *width, 0),
+        Told::BatesFull(largest) => is_rule(rule, RuleKind::BatesFull, *largest, 0),
         Told::MatterFull(limit, count) => is_rule(rule, RuleKind::MatterFull, *limit, *count),
         Told::Rule(kind) => is_rule(rule, *kind, 0, 0),
         _ => false,

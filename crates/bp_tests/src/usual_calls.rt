@@ -29,8 +29,8 @@ pub const COUNSEL: Rect = Rect {
     height: 8,
 };
 
-// Up to the right edge of a page.
-const AT_EDGE: Rect = Rect {
+/// Up to the right edge of a page.
+pub const AT_EDGE: Rect = Rect {
     left: 48,
     ..COUNSEL
 };
@@ -49,14 +49,14 @@ const WHOLE: Rect = Rect {
     height: 64,
 };
 
-const LETTER: Texts = Texts {
+pub const LETTER: Texts = Texts {
     date: "2019-03-04",
     author: "Ng",
     recipients: "Ortiz, Berg",
     description: "Letter asking counsel for advice on the lease",
 };
 
-const NOTE: Texts = Texts {
+pub const NOTE: Texts = Texts {
     date: "2019-05-02",
     author: "Berg",
     recipients: "Ng",
@@ -86,7 +86,7 @@ const FOR_WP: Treatment = Treatment::Withhold(WP);
 
 const FOR_TS: Treatment = Treatment::Withhold(TS);
 
-const BY_SECOND: State = State::First(StaffNo(2));
+pub const BY_SECOND: State = State::First(StaffNo(2));
 
 const BY_REVIEWER: State = State::First(StaffNo(3));
 
@@ -100,14 +100,14 @@ const AUTHOR_FOR_TS: &[HeldRow] = &[HeldRow {
     basis: Basis::Ts,
 }];
 
-const COUNSEL_BOX: BoxRow = BoxRow {
+pub const COUNSEL_BOX: BoxRow = BoxRow {
     num: 1,
     page: PageNo(1),
     rect: COUNSEL,
     basis: Basis::Ac,
 };
 
-const EDGE_BOX: BoxRow = BoxRow {
+pub const EDGE_BOX: BoxRow = BoxRow {
     num: 2,
     page: PageNo(4),
     rect: AT_EDGE,
@@ -158,7 +158,7 @@ const FIRST_3: Seen = Seen {
     ..DOCUMENT_3
 };
 
-const DOCUMENT_5: Seen = Seen {
+pub const DOCUMENT_5: Seen = Seen {
     doc: 5,
     parent: 4,
     pages: 4,
@@ -175,7 +175,7 @@ const HELD_FOR_TS: Seen = Seen {
     ..DOCUMENT_5
 };
 
-const DOCUMENT_10: Seen = Seen {
+pub const DOCUMENT_10: Seen = Seen {
     doc: 10,
     parent: 9,
     pages: 4,
@@ -186,14 +186,14 @@ const DOCUMENT_10: Seen = Seen {
     ..CALLED
 };
 
-const UNCALLED_11: Seen = Seen {
+pub const UNCALLED_11: Seen = Seen {
     doc: 11,
     parent: 9,
     pages: 1,
     ..UNCALLED
 };
 
-const UNCALLED_12: Seen = Seen {
+pub const UNCALLED_12: Seen = Seen {
     doc: 12,
     parent: 9,
     ..UNCALLED
@@ -336,6 +336,28 @@ pub static AFTERNOON: [Row; 46] = [
     (4, SetCall(12, false, PRODUCE, ""), ROLE_REFUSED),
 ];
 
+/// Three documents in the evening, of which nothing is held back.
+pub const DOCUMENT_4: Seen = Seen {
+    doc: 4,
+    parent: 4,
+    pages: 1,
+    ..CALLED
+};
+
+pub const DOCUMENT_6: Seen = Seen {
+    doc: 6,
+    parent: 4,
+    pages: 2,
+    ..CALLED
+};
+
+pub const DOCUMENT_9: Seen = Seen {
+    doc: 9,
+    parent: 9,
+    pages: 2,
+    ..CALLED
+};
+
 /// The documents in the evening.
 pub static EVENING: [Seen; 12] = [
     Seen {
@@ -348,19 +370,9 @@ pub static EVENING: [Seen; 12] = [
         ..CALLED
     },
     DOCUMENT_3,
-    Seen {
-        doc: 4,
-        parent: 4,
-        pages: 1,
-        ..CALLED
-    },
+    DOCUMENT_4,
     DOCUMENT_5,
-    Seen {
-        doc: 6,
-        parent: 4,
-        pages: 2,
-        ..CALLED
-    },
+    DOCUMENT_6,
     Seen {
         doc: 7,
         parent: 7,
@@ -374,12 +386,7 @@ pub static EVENING: [Seen; 12] = [
         state: State::First(StaffNo(1)),
         ..UNCALLED
     },
-    Seen {
-        doc: 9,
-        parent: 9,
-        pages: 2,
-        ..CALLED
-    },
+    DOCUMENT_9,
     DOCUMENT_10,
     Seen {
         state: State::Confirmed(StaffNo(3), StaffNo(2)),

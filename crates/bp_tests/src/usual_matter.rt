@@ -3,7 +3,7 @@ use crate::calls::{Row, make};
 use crate::told::fits;
 use crate::usual_batch::imported;
 use crate::usual_calls::{AFTERNOON, JOINING, MORNING};
-use bp_keep::MemKeeper;
+use bp_keep::{Keeper, MemKeeper};
 use bp_matter::Tables;
 use std::alloc::Global;
 use std::test::Fail;
@@ -41,4 +41,23 @@ pub fn first_misfit(
         }
     }
     misfit
+}
+
+/// The same of calls that are to change nothing, or the number of the first that changes the tables
+/// or the rows of the keeper.
+pub fn first_unrefused(
+    alloc: Global,
+    tables: &mut Tables,
+    keeper: &mut MemKeeper,
+    rows: &[Row],
+) -> Result<Option<usize>, Fail> {
+    let before = tables.rows(alloc)?;
+    for (at, (by, made, told)) in rows.iter().enumerate() {
+        let reply = make(alloc, tables, keeper, *by, *made);
+        let stays = tables.rows(alloc)? == before && keeper.load(alloc)? == before;
+        if !stays || !fits(&reply, told) {
+            return Ok(Some(at.saturating_add(1)));
+        }
+    }
+    Ok(None)
 }

@@ -1,0 +1,205 @@
+// Steps: an import and a call once more, faults of the keeper, and a run of calls.
+use crate::batches::{HEADER, NEVER, TWO, batch_in};
+use crate::calls::Made::{Confirm, PutBox, SeeDoc, SendBack, SetCall};
+use crate::calls::{Made, Row, call_of};
+use crate::matters::ZEROS;
+use crate::small_matters::{Doc, matter_of};
+use crate::told::Told::{Done, KeeperFault};
+use crate::told::{Seen, Told};
+use crate::usual_matter::first_misfit;
+use bp_core::{
+    Basis, DocNo, ListOf, NumberList, OutOfMemory, PageNo, Rect, Rule, RuleKind, StaffNo, Treatment,
+};
+use bp_keep::{Keeper, MemKeeper};
+use bp_matter::{BoxRow, Reply, State};
+use bp_rules::{
+    Answer, Asked, Counted, LoadRefusal, StepRefusal, begin, load_tables, step_all, step_import,
+};
+use std::alloc::Global;
+use std::test::Fail;
+
+// The kept row of staff 1, whose key has the digest of zeros: version, lead, digest, and `lead`.
+const LEAD: [u8; 42] = [
+    1, 2, 0, 0, 0, 0, 0, 0, 0, 0, 0, 0, 0, 0, 0, 0, 0, 0, 0, 0, 0, 0, 0, 0, 0, 0, 0, 0, 0, 0, 0, 0,
+    0, 0, 4, 0, 0, 0, b'l', b'e', b'a', b'd',
+];
+
+// The kept row of a batch of a header alone: version, its digest, which was computed apart, no
+// document, no page, and `B1`.
+const BATCH: [u8; 47] = [
+    1, 0x9a, 0x11, 0x99, 0xa1, 0xf2, 0x17, 0x70, 0x66, 0x31, 0xe6, 0xa3, 0x89, 0xb3, 0xbd, 0x0c,
+    0xf1, 0x4d, 0xb2, 0x18, 0x35, 0x5e, 0xae, 0x4e, 0x13, 0x56, 0xf8, 0xfb, 0x12, 0xbc, 0x54, 0x84,
+    0xd7, 0, 0, 0, 0, 0, 0, 0, 0, 2, 0, 0, 0, b'B', b'1',
+];
+
+// The header with another end of its line.
+const OTHER_HEADER: &str = "þBEGDOCþ\u{14}þBEGATTACHþ\r\n";
+
+const NOTHING: Counted = Counted {
+    documents: 0,
+    pages: 0,
+};
+
+// The keeper fails at the first load and at the first commit, which leave all. The batch then comes
+// in, once, and another one of its name doesn't.
+#[test]
+fn a_batch_comes_in_once(rt: HostRuntime) -> Result<(), Fail> {
+    let alloc = rt.alloc();
+    let rows = begin(alloc, ZEROS)?.rows(alloc)?;
+    let failing = NumberList::from_vec(Vec::from_slice(alloc, &[0, 2])?);
+    let mut keeper = MemKeeper::over(rows, failing);
+    let failed = load_tables(alloc, &mut keeper).err();
+    assert_eq!(rt; failed, Some(LoadRefusal::KeeperFault));
+    let mut tables = load_tables(alloc, &mut keeper)?;
+    let batch = batch_in(alloc, "B1", HEADER.as_bytes(), "", "", NEVER)??;
+    let failed = step_import(alloc, &mut tables, &mut keeper, &batch);
+    assert_eq!(rt; failed, Err(StepRefusal::KeeperFault));
+    assert!(rt; tables.batches.is_empty() && keeper.load(alloc)?.len() == 1);
+    for _ in 0..2 {
+        let told = step_import(alloc, &mut tables, &mut keeper, &batch);
+        assert_eq!(rt; told, Ok(NOTHING));
+    }
+    let other = batch_in(alloc, "B1", OTHER_HEADER.as_bytes(), "", "", NEVER)??;
+    let told = step_import(alloc, &mut tables, &mut keeper, &other);
+    let rule = Rule::bare(RuleKind::BatchDiffers);
+    assert_eq!(rt; told, Err(StepRefusal::Rule(rule)));
+    let rows = keeper.load(alloc)?;
+    let [lead, kept] = rows.as_slice() else {
+        panic!(rt; "other rows");
+    };
+    assert_eq!(rt; (lead.kind, lead.k1, lead.k2), (1, 1, 0));
+    assert_eq!(rt; lead.body.as_slice(), LEAD.as_slice());
+    assert_eq!(rt; (kept.kind, kept.k1, kept.k2), (11, 1, 0));
+    assert_eq!(rt; kept.body.as_slice(), BATCH.as_slice());
+    Ok(())
+}
+
+#[test]
+fn no_row_is_no_matter(rt: HostRuntime) -> Result<(), Fail> {
+    let alloc = rt.alloc();
+    let mut keeper = MemKeeper::over(ListOf::new(alloc), ListOf::new(alloc));
+    let rule = Rule::bare(RuleKind::NoMatter);
+    let refusal = load_tables(alloc, &mut keeper).err();
+    assert_eq!(rt; refusal, Some(LoadRefusal::Rule(rule)));
+    Ok(())
+}
+
+// A document of one page of one pixel, called by the lead.
+const ALONE: &[Doc] = &[(1, 1, 1)];
+
+const REDACT: Treatment = Treatment::Redact;
+
+const PI: Basis = Basis::Pi;
+
+const PIXEL: Rect = Rect {
+    left: 0,
+    top: 0,
+    width: 1,
+    height: 1,
+};
+
+// The document to be redacted.
+const BARE: Seen = Seen {
+    doc: 1,
+    parent: 1,
+    pages: 1,
+    state: State::First(StaffNo(1)),
+    responsive: true,
+    treatment: REDACT,
+    designation: "",
+    boxes: &[],
+    held: &[],
+    entry: None,
+};
+
+const BOXED: Seen = Seen {
+    boxes: &[BoxRow {
+        num: 1,
+        page: PageNo(1),
+        rect: PIXEL,
+        basis: PI,
+    }],
+    ..BARE
+};
+
+// The keeper's second call after the load fails, and is that of the first box: what changes nothing
+// makes none.
+static ONCE_MORE: [Row; 7] = [
+    (0, SetCall(1, true, REDACT, ""), Done),
+    (0, SetCall(1, true, REDACT, ""), Done),
+    (0, PutBox(1, 1, 1, PIXEL, PI), KeeperFault),
+    (0, SeeDoc(1), Told::Doc(BARE)),
+    (0, PutBox(1, 1, 1, PIXEL, PI), Done),
+    (0, PutBox(1, 1, 1, PIXEL, PI), Done),
+    (0, SeeDoc(1), Told::Doc(BOXED)),
+];
+
+#[test]
+fn a_fault_leaves_the_call(rt: HostRuntime) -> Result<(), Fail> {
+    let alloc = rt.alloc();
+    let (mut tables, mut keeper) = matter_of(alloc, ALONE, &[2])?;
+    let misfit = first_misfit(alloc, &mut tables, &mut keeper, &ONCE_MORE);
+    assert_eq!(rt; misfit, None);
+    assert_eq!(rt; keeper.faults(), 1);
+    assert!(rt; keeper.load(alloc)? == tables.rows(alloc)?);
+    Ok(())
+}
+
+// By the lead.
+fn asked(alloc: Global, made: Made) -> Result<Asked, OutOfMemory> {
+    let call = call_of(alloc, made)?;
+    Ok(Asked::Call { key: ZEROS, call })
+}
+
+// The keeper's first commit, that of the send-back, fails once, and ends the run. The confirmation
+// is refused each time, as the lead called the document last.
+#[test]
+fn a_run_goes_on_past_a_refused_call(rt: HostRuntime) -> Result<(), Fail> {
+    let alloc = rt.alloc();
+    let (mut tables, mut keeper) = matter_of(alloc, ALONE, &[1])?;
+    let mut calls = Vec::new(alloc);
+    calls.push(asked(alloc, Confirm(1))?)?;
+    calls.push(asked(alloc, SendBack(1))?)?;
+    let batch = batch_in(
+        alloc,
+        "B1",
+        TWO.as_bytes(),
+        "A1,,a.tif,Y\nA3,,a.tif,Y\n",
+        "",
+        NEVER,
+    )??;
+    calls.push(Asked::Import { batch })?;
+    let mut answers = Vec::new(alloc);
+    let stopped = step_all(
+        alloc,
+        &mut tables,
+        &mut keeper,
+        calls.as_slice(),
+        &mut answers,
+    );
+    assert_eq!(rt; stopped, Err(StepRefusal::KeeperFault));
+    assert_eq!(rt; tables.state(DocNo(1)), Some(State::First(StaffNo(1))));
+    let ended = step_all(
+        alloc,
+        &mut tables,
+        &mut keeper,
+        calls.as_slice(),
+        &mut answers,
+    );
+    assert_eq!(rt; ended, Ok(()));
+    assert_eq!(rt; tables.state(DocNo(1)), Some(State::Uncalled));
+    let [
+        Answer::Refused(first),
+        Answer::Refused(second),
+        Answer::Replied(reply),
+        Answer::Counted(counted),
+    ] = answers.as_slice()
+    else {
+        panic!(rt; "other answers");
+    };
+    let rule = Rule::bare(RuleKind::SamePerson);
+    assert!(rt; *first == rule && *second == rule && matches!(reply, Reply::Done));
+    assert_eq!(rt; (counted.documents, counted.pages), (2, 2));
+    assert!(rt; keeper.load(alloc)? == tables.rows(alloc)?);
+    Ok(())
+}

@@ -5,6 +5,7 @@ use crate::made::LEAD;
 use crate::office::{ID, Office, REVIEWER, SECOND};
 use anyhow::{Result, bail};
 use bp_core::{Basis, DocNo, NumberList, PageNo, Rect, RowList, Text, Treatment};
+use bp_freeze::found_is_kept;
 use bp_import::read_batch;
 use bp_keep::MemKeeper;
 use bp_matter::{Call, Tables};
@@ -79,13 +80,13 @@ fn imported<S: Source>(alloc: Global, source: &mut S, name: &Text) -> Result<(Ta
 }
 
 /// Writes the volume of the production of this id: its number of files.
-#[tactic(auto, using(crate::proofs::VolumeLemmas::found_is_kept))]
 pub fn write_volume<F: Folder>(
     alloc: Global,
     tables: &Tables,
     id: &Text,
     folder: &mut F,
 ) -> Result<u64> {
+    found_is_kept();
     let Some(production) = tables.production(id) else {
         bail!("no production has the id");
     };

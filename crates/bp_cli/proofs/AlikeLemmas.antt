@@ -36,6 +36,7 @@ use Rattle.bp_cli.specs.Runs.{Tells}
 use Rattle.bp_cli.specs.Words.{◌>>=◌}
 use Rattle.bp_cli.specs.Burn.{BurnLine, BurnPaths, HasPage, BurnAlike, lacks_a_side, burn_page, burn_read, burn_gives, paths_of, path_refused, FileAnswers, PathAnswers, BurnsAt, BurnComes}
 use Rattle.bp_cli.specs.Commands.{CommandLine, Matter, burn, init, import, produce, press, log, uses_of, AreKnown, AlikeFor, ComesTo, IsOutcome, RowsAlike, ShowAlike}
+use Rattle.bp_cli.proofs.KeptLemmas.{answers_loaded}
 use Rattle.bp_cli.proofs.ProduceLemmas.{same_frozen, same_logged, same_pressed, some_rows}
 use Rattle.bp_cli.proofs.RunLemmas.{AlikeOutcome}
 
@@ -123,15 +124,18 @@ some_comes some b (Some paths) files =
     let found = some_path some (map.get files paths.from) in
     (burn_gives b.form paths.to (burn_read b.area found.0), record { answer = found.0; found = found.1; gives = refl })
 
+rows_known : (gives : Result Kept Rule → Outcome) (rows : List Row) (answer : Result Kept Rule) → MatterAnswers rows answer → RowsOutcome gives (Some rows) (gives answer)
+rows_known gives rows answer is = record { tables = answer; loaded = answers_loaded rows answer is; kept = is; given = refl }
+
 pub some_outcome : Laws → (c : CommandLine) (matter : Matter) → AreKnown c matter → (o : Outcome) × ComesTo c matter o
 some_outcome laws (burn b) matter known = some_comes laws.some b (paths_of b) matter.files
 some_outcome laws (init digest) matter known = (init_gives digest matter.rows, refl)
 some_outcome laws (import name) matter known =
     let found = laws.some_batch matter.files (chars name) in
-    (import_gives name known.0 found.0, record { tables = known.0; kept = known.1; batch = found.0; found = found.1; gives = refl })
-some_outcome laws (produce q) matter known = (produce_gives q known.0, record { tables = known.0; kept = known.1; given = refl })
-some_outcome laws (press id) matter known = (press_gives id known.0, record { tables = known.0; kept = known.1; given = refl })
-some_outcome laws (log id) matter known = (log_gives id known.0, record { tables = known.0; kept = known.1; given = refl })
+    (import_gives name known.0 found.0, record { tables = known.0; loaded = answers_loaded matter.rows known.0 known.1; kept = known.1; batch = found.0; found = found.1; gives = refl })
+some_outcome laws (produce q) matter known = (produce_gives q known.0, rows_known (produce_gives q) matter.rows known.0 known.1)
+some_outcome laws (press id) matter known = (press_gives id known.0, rows_known (press_gives id) matter.rows known.0 known.1)
+some_outcome laws (log id) matter known = (log_gives id known.0, rows_known (log_gives id) matter.rows known.0 known.1)
 
 -- ---- two matters
 
@@ -200,8 +204,8 @@ rows_answer (row ∷ rows) m valid is = (valid, is)
 rows_alike : RowsLaw → (c : CommandLine) (P : Kept → Kept → Type 0) (gives : Result Kept Rule → Outcome) (rows rows' : List Row) (other : Outcome) (both : OfTwo P rows rows') → RowsOutcome gives (Some rows') other
     → ShowAlike c (gives (Ok both.one)) (gives (Ok both.two)) → (o : Outcome) × (RowsOutcome gives (Some rows) o × ShowAlike c o other)
 rows_alike law c P gives rows rows' other both comes shows =
-    let is : gives (Ok both.two) ≡ other = rows_one law gives rows' (gives (Ok both.two)) other (record { tables = Ok both.two; kept = rows_answer rows' both.two both.valid' both.kept'; given = refl }) comes in
-    (gives (Ok both.one), (record { tables = Ok both.one; kept = rows_answer rows both.one both.valid both.kept; given = refl }, subst (λ (o : Outcome). ShowAlike c (gives (Ok both.one)) o) is shows))
+    let is : gives (Ok both.two) ≡ other = rows_one law gives rows' (gives (Ok both.two)) other (rows_known gives rows' (Ok both.two) (rows_answer rows' both.two both.valid' both.kept')) comes in
+    (gives (Ok both.one), (rows_known gives rows (Ok both.one) (rows_answer rows both.one both.valid both.kept), subst (λ (o : Outcome). ShowAlike c (gives (Ok both.one)) o) is shows))
 
 pub outcome_alike : Laws → (c : CommandLine) (matter matter' : Matter) (other : Outcome) → AlikeFor c matter matter' → ComesTo c matter' other → AlikeOutcome c matter other
 outcome_alike laws (burn b) matter matter' other alike comes =
@@ -213,7 +217,7 @@ outcome_alike laws (import name) matter matter' other alike comes =
     (subst (λ (files : FileMap). ImportOutcome name (Some files) (Some matter.rows) other) (sym alike.0)
     (subst (λ (rows : List Row). ImportOutcome name (Some matter'.files) (Some rows) other) (sym alike.1) comes))
 outcome_alike laws (produce q) matter matter' other both comes =
-    let there = rows_alike laws.rows (produce q) (FrozenAlike q) (produce_gives q) matter.rows matter'.rows other both comes (same_frozen (produce q) q both.one both.two both.holds (λ rows rows'. tt)) in
+    let there = rows_alike laws.rows (produce q) (FrozenAlike q) (produce_gives q) matter.rows matter'.rows other both comes (same_frozen q both.one both.two both.valid both.valid' both.holds) in
     record { outcome = there.0; comes = there.1.0; same = there.1.1 }
 outcome_alike laws (press id) matter matter' other both comes =
     let there = rows_alike laws.rows (press id) (ShowSame id) (press_gives id) matter.rows matter'.rows other both comes (same_pressed (press id) id both.one both.two both.holds refl) in

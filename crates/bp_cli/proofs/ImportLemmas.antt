@@ -112,7 +112,7 @@ load_stops some name s before mid (loads.Rule rule) loaded stop is = λ folder.
     subst (λ (x : Stop). Ends (uses_of (import name)) (IsOutcome (import name) (world s before folder)) (world s before folder) (Err x) (world s mid folder)) (sym is)
     (let found = some_found some s.files (chars name) in
     record {
-      outcome = record { tables = Err rule; kept = kept_rule before.rows rule loaded.told_before; batch = found.0; found = found.1; gives = refl };
+      outcome = record { tables = Err rule; loaded = loaded.rule; kept = kept_rule before.rows rule loaded.told_before; batch = found.0; found = found.1; gives = refl };
       source = load_calm s rule.kind loaded.rule;
       keeper = load_left before mid (Err (loads.Rule rule)) before.faults loaded loaded.faults;
       folder = refl;
@@ -152,6 +152,7 @@ read_stops name text s s' before mid tables (imports.Rule rule) named valid load
     (record {
       outcome = record {
         tables = Ok tables.matter;
+        loaded = valid;
         kept = kept_matter before.rows tables valid loaded.told_before;
         batch = Err rule;
         found = subst (λ (t : List ℕ). IfSome s.files (λ there. BatchAnswers there t (Err rule))) named (told_rule s.files text rule told);
@@ -185,6 +186,7 @@ outcome_of : (name text : List ℕ) (s : SourceView) (before mid : KeeperView) (
     → IfSome s.files (λ files. Comes {X = BatchShown} (λ x. x) (BatchAnswers files text) (Ok b)) → import_of tables.matter b ≡ answer → ImportOutcome name s.files before.rows (step_gives name tables.matter answer)
 outcome_of name text s before mid tables b answer named valid loaded told is = record {
   tables = Ok tables.matter;
+  loaded = valid;
   kept = kept_matter before.rows tables valid loaded.told_before;
   batch = Ok b;
   found = subst (λ (t : List ℕ). IfSome s.files (λ there. BatchAnswers there t (Ok b))) named (told_batch s.files text b told);

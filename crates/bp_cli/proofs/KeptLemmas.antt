@@ -1,8 +1,9 @@
 -- Lemmas of kept rows: what loading the tables, and a step behind it, leave of a keeper, and what was
 -- told of its rows.
-use Rattle.std.proofs.Common.{ℕ, ◌≡◌, List, [], ◌∷◌, Option, Some, None, Result, Ok, Err, refl, sym, ap, ◌∙◌}
+use Rattle.std.proofs.Common.{ℕ, ◌≡◌, List, [], ◌∷◌, Option, Some, None, Result, Ok, Err, refl, sym, ap, subst, ◌∙◌}
 use Rattle.std.specs.Prelude.{IfSome}
 use Rattle.std.specs.Result.{IsErr, IsErrAnd}
+use Rattle.bp_core.specs.Rules.{bare_rule}
 use Rattle.bp_core.specs.declared.kept.Row.{Row}
 use Rattle.bp_core.specs.declared.rules.Rule.{Rule}
 use Rattle.bp_core.specs.declared.rules.RuleKind.{RuleKind}
@@ -12,6 +13,7 @@ use Rattle.bp_import.specs.Importing.{after_kind}
 use Rattle.bp_keep.specs.Keeper.{KeeperView, SameRows}
 use Rattle.bp_matter.specs.KeptRows.{rows_of}
 use Rattle.bp_matter.specs.Matter.{Matter, Shown}
+use Rattle.bp_matter.specs.ReadTables.{bad_rule, least_bad}
 use Rattle.bp_matter.specs.Valid.{IsValid}
 use Rattle.bp_rules.specs.Loading.{IsLoadRule, LoadedFrom, LoadsTables}
 use Rattle.bp_rules.specs.Steps.{Stays}
@@ -19,7 +21,7 @@ use Rattle.bp_rules.specs.declared.loading.LoadRefusal.{LoadRefusal}
 use Rattle.bp_rules.specs.declared.loading.LoadRefusal.TheVariants as loads
 use Rattle.bp_cli.specs.declared.stops.Stop.{Stop}
 use Rattle.bp_cli.specs.Endings.{Ending, KeeperLeft}
-use Rattle.bp_cli.specs.Kept.{MatterAnswers}
+use Rattle.bp_cli.specs.Kept.{CanBeLoaded, MatterAnswers}
 
 -- what a `?` hands on, by what the refusal became
 pub by_stop : (P : Ending → Type 0) (Q : Stop → Type 0) (r : Ending) → IsErr r → IsErrAnd r Q → ((stop : Stop) → Q stop → P (Err stop)) → P r
@@ -47,6 +49,25 @@ pub kept_matter : (told : Option (List Row)) (tables : Shown) → IsValid tables
 kept_matter None tables valid loaded = tt
 kept_matter (Some []) tables valid loaded = absurd loaded
 kept_matter (Some (row ∷ rows)) tables valid loaded = (valid, loaded.0)
+
+not_refused : (m : Matter) (rule : Rule) → let answer : Result Matter Rule = Ok m in answer ≡ Err rule → ⊥
+not_refused m rule is = cc
+
+same_refusal : (rule known : Rule) → let answer : Result Matter Rule = Err rule in answer ≡ Err known → rule ≡ known
+same_refusal rule known is = cc
+
+bad_kind : (least : Option ℕ) → (bad_rule least).kind ≡ kinds.KeptRowBad
+bad_kind None = refl
+bad_kind (Some n) = refl
+
+-- and told rows come to what loading may come to
+pub answers_loaded : (rows : List Row) (answer : Result Matter Rule) → MatterAnswers rows answer → CanBeLoaded answer
+answers_loaded [] (Ok m) is = absurd (not_refused m (bare_rule kinds.NoMatter) is)
+answers_loaded [] (Err rule) is = subst (λ (r : Rule). IsLoadRule r.kind) (sym (same_refusal rule (bare_rule kinds.NoMatter) is)) tt
+answers_loaded (row ∷ rows) (Ok m) is = is.0
+answers_loaded (row ∷ rows) (Err rule) is =
+    let kind : rule.kind ≡ kinds.KeptRowBad = ap (λ (r : Rule). r.kind) is.0 ∙ bad_kind (least_bad None (row ∷ rows)) in
+    subst IsLoadRule (sym kind) tt
 
 -- rows that were loaded are those of the matter
 pub keeps_matter : (told : Option (List Row)) (tables : Shown) → IfSome told (λ rows. LoadedFrom rows (Ok tables)) → IfSome told (λ rows. rows ≡ rows_of tables.matter)

@@ -19,7 +19,6 @@ use Rattle.bp_matter.specs.declared.rows.ProductionRow.{ProductionRow}
 use Rattle.bp_freeze.specs.Freezing.{kept_production}
 use Rattle.bp_freeze.specs.Keeping.{Keeps}
 use Rattle.bp_freeze.specs.Log.{CanBeLogged, span_fits}
-use Rattle.bp_freeze.proofs.KeptLemmas.{kept-id}
 use Rattle.bp_press.proofs.KeptPageLemmas.{passes}
 use Rattle.bp_press.proofs.PressedLemmas.{kept-pressed}
 use Rattle.bp_cli.specs.Producing.{HasLabel, HasLabels}
@@ -49,10 +48,6 @@ none_found rows text id found copied same is = ap (kept_production rows) (sym sa
 
 pub some_found : (rows : List ProductionRow) (text id : List ℕ) (found : Option (Bor Production)) (f : Bor Production) → option_copied found ≡ kept_production rows text → text ≡ id → found ≡ Some f → kept_production rows id ≡ Some f.now
 some_found rows text id found f copied same is = ap (kept_production rows) (sym same) ∙ sym copied ∙ ap option_copied is
-
--- what is found under an id is kept under its own
-pub found_keeps : (m : Matter) (id : List ℕ) (f : Production) → kept_production m.productions id ≡ Some f → Keeps m f
-found_keeps m id f found = subst (λ (i : List ℕ). kept_production m.productions i ≡ Some f) (sym (kept-id m.productions id f found)) found
 
 pub kept_logged : (m : Matter) → IsValid m → (f : Production) → Keeps m f → CanBeLogged f
 kept_logged m valid f kept = (kept-pressed m valid f kept).logged

@@ -50,7 +50,7 @@ load_stops : (gives : Result Matter Rule → Outcome) → HandsOn gives → (bef
 load_stops gives hands before mid folder (loads.Rule rule) loaded stop is = λ source.
     subst (λ (x : Stop). Ends rows_used (RowsOutcome gives before.rows) (world source before folder) (Err x) (world source mid folder)) (sym is)
     (record {
-      outcome = record { tables = Err rule; kept = kept_rule before.rows rule loaded.told_before; given = hands rule };
+      outcome = record { tables = Err rule; loaded = loaded.rule; kept = kept_rule before.rows rule loaded.told_before; given = hands rule };
       source = load_calm source rule.kind loaded.rule;
       keeper = load_left before mid (Err (loads.Rule rule)) before.faults loaded loaded.faults;
       folder = refl;
@@ -71,7 +71,7 @@ rows_refused gives hands before mid folder refusal r loaded is stop =
 -- what their matter gives is an outcome
 pub matter_outcome : (gives : Result Matter Rule → Outcome) (before mid : KeeperView) (tables : Shown) (outcome : Outcome) → IsValid tables.matter → LoadsTables before (Ok tables) mid → gives (Ok tables.matter) ≡ outcome → RowsOutcome gives before.rows outcome
 matter_outcome gives before mid tables outcome valid loaded given =
-    record { tables = Ok tables.matter; kept = kept_matter before.rows tables valid loaded.told_before; given = given }
+    record { tables = Ok tables.matter; loaded = valid; kept = kept_matter before.rows tables valid loaded.told_before; given = given }
 
 -- and memory ran out
 pub rows_lacked : (gives : Result Matter Rule → Outcome) (before mid : KeeperView) (folder : FolderView) (tables : Shown) (r : Ending) → LoadsTables before (Ok tables) mid → IsErr r → IsErrAnd r (λ x. x ≡ stops.OutOfMemory) → RowsEnds gives before folder r mid folder

@@ -1,5 +1,6 @@
 -- What the steps of burn leave, one behind the other.
-use Rattle.std.specs.Prelude.{ℕ, ◌≡◌, List, length, Option, Some, None, Result, Ok, Err, false}
+use Rattle.std.specs.Prelude.{ℕ, ◌≡◌, List, length, Option, Some, None, Result, Ok, Err}
+use Rattle.std.specs.Prelude.{false}
 use Rattle.bp_core.specs.declared.rectangle.Rect.{Rect}
 use Rattle.bp_core.specs.declared.rules.Rule.{Rule}
 use Rattle.bp_outside.specs.Folder.{FolderView, PutsPart, with_file}
@@ -12,7 +13,8 @@ use Rattle.bp_cli.specs.declared.burn.BurnPaths.{BurnPaths as Paths}
 use Rattle.bp_import.specs.Importing.{after_kind}
 use Rattle.bp_cli.specs.declared.stops.Stop.{Stop}
 use Rattle.bp_cli.specs.declared.stops.Stop.TheVariants as stops
-use Rattle.bp_cli.specs.Burn.{BurnLine, BurnPaths, paths_of, path_refused, burn_read, burn_done, counted_line}
+use Rattle.bp_cli.specs.Burn.{BurnLine, BurnPaths, paths_of, path_refused, burn_read, burn_done}
+use Rattle.bp_cli.specs.Burn.{counted_line}
 use Rattle.bp_cli.specs.Endings.{Outcome, Ending, failed_folder}
 
 -- the paths as contracts see them

@@ -1,6 +1,7 @@
 -- The commands of the program, by their words, and what each comes to. A command has its own room;
 -- this page is the table of them.
-use Rattle.std.specs.Prelude.{◌≡◌, ℕ, ◌⊎◌, true, false, Option, Some, None, List, [], ◌∷◌, codes, Result, Err, if◌then◌else◌}
+use Rattle.std.specs.Prelude.{◌≡◌, ℕ, ◌⊎◌, true, false, Option, Some, None, List, []}
+use Rattle.std.specs.Prelude.{◌∷◌, codes, Result, Err, if◌then◌else◌}
 use Rattle.std.specs.List.{list_any}
 use Rattle.std.specs.Option.{option_map}
 use Rattle.std.specs.Str.{bytes_eq, chars}
@@ -19,7 +20,7 @@ use Rattle.bp_cli.specs.Import.{batch_named, ImportOutcome}
 use Rattle.bp_cli.specs.Init.{init_of, init_gives, InitOutcome}
 use Rattle.bp_cli.specs.Kept.{MatterAnswers, OfTwo, RowsOutcome}
 use Rattle.bp_cli.specs.Press.{KeepSame, ShowSame, id_named, log_gives, press_gives}
-use Rattle.bp_cli.specs.Produce.{FrozenAlike, produce_gives, request_of}
+use Rattle.bp_cli.specs.Produce.{FrozenAlike, KeptAlike, produce_gives, request_of}
 
 -- a command with its operands
 pub data CommandLine : Type 0 where
@@ -103,8 +104,8 @@ AreKnown (press id) matter = RowsKnown matter
 AreKnown (log id) matter = RowsKnown matter
 
 -- what the command doesn't withhold is the same in both; `init` and `import` withhold nothing.
--- `produce` withholds what the decisions hold back that it freezes, and `press` what those held back
--- that it froze; a log is of these decisions alone
+-- `produce` withholds what the decisions hold back that it freezes, and `press` what those held
+-- back that it froze; a log is of these decisions alone
 abbrev pub AlikeFor : CommandLine → Matter → Matter → Type 0
 AlikeFor (burn b) matter matter' = BurnAlike b matter.files matter'.files
 AlikeFor (init digest) matter matter' = matter.rows ≡ matter'.rows
@@ -114,12 +115,13 @@ AlikeFor (produce q) matter matter' = OfTwo (FrozenAlike q) matter.rows matter'.
 AlikeFor (press id) matter matter' = OfTwo (ShowSame id) matter.rows matter'.rows
 AlikeFor (log id) matter matter' = OfTwo (KeepSame id) matter.rows matter'.rows
 
--- the rows that are kept are the same in both, but for `produce`: then each matter keeps its own
+-- the rows that are kept are the same in both, but for `produce`: then they are those of two valid
+-- matters, which keep the same production under the id and show the same of it
 abbrev pub RowsAlike : CommandLine → Option (List Row) → Option (List Row) → Type 0
-RowsAlike (produce q) rows rows' = Unit {0}
+RowsAlike (produce q) rows rows' = KeptAlike q rows rows'
 RowsAlike c rows rows' = rows ≡ rows'
 
--- both outcomes show the same: one line and the same files, or one rule
+-- both outcomes show the same: one line and the same files, with rows that are alike, or one rule
 abbrev pub ShowAlike : CommandLine → Outcome → Outcome → Type 0
 ShowAlike c (done line files rows) (done line' files' rows') =
     (line ≡ line') × (files ≡ files') × RowsAlike c rows rows'

@@ -1,5 +1,6 @@
 -- How the work of a command ends, and what each ending leaves outside.
-use Rattle.std.specs.Prelude.{ℕ, ◌≡◌, Bool, false, Option, Some, None, Result, Ok, Err, List, [], ◌∷◌, ◌++◌, codes, IfSome, IsTrue}
+use Rattle.std.specs.Prelude.{ℕ, ◌≡◌, Bool, false, Option, Some, None, Result, Ok, Err}
+use Rattle.std.specs.Prelude.{List, [], ◌∷◌, ◌++◌, codes, IfSome, IsTrue}
 use Rattle.bp_core.specs.declared.kept.Row.{Row}
 use Rattle.bp_core.specs.declared.rules.Rule.{Rule}
 use Rattle.bp_core.specs.Characters.{newline}
@@ -13,7 +14,9 @@ use Rattle.bp_keep.specs.Keeper.{KeeperView, SameRows}
 use Rattle.bp_press.specs.Writing.{AddsPart, with_files}
 use Rattle.bp_cli.specs.declared.stops.Stop.{Stop}
 use Rattle.bp_cli.specs.declared.stops.Stop.TheVariants as stops
-use Rattle.bp_cli.specs.declared.statuses.TheConstants.{DONE, WORDS_REFUSED, RULE_BROKEN, SOURCE_FAULT, FOLDER_FAULT, KEEPER_FAULT, OUT_OF_MEMORY}
+use Rattle.bp_cli.specs.declared.statuses.TheConstants.{DONE, WORDS_REFUSED, RULE_BROKEN}
+use Rattle.bp_cli.specs.declared.statuses.TheConstants.{SOURCE_FAULT, FOLDER_FAULT, KEEPER_FAULT}
+use Rattle.bp_cli.specs.declared.statuses.TheConstants.{OUT_OF_MEMORY}
 
 -- what a command comes to: a line to print, files to add, and the kept rows that then stand, where
 -- it keeps any; or the first rule that it breaks

@@ -1,5 +1,6 @@
 -- The command `import`: its line, and what it comes to.
-use Rattle.std.specs.Prelude.{ℕ, ◌≡◌, ◌==◌, Option, Some, None, Result, Ok, Err, List, [], ◌∷◌, ◌++◌, length, codes, if◌then◌else◌, IfSome}
+use Rattle.std.specs.Prelude.{ℕ, ◌≡◌, ◌==◌, Option, Some, None, Result, Ok, Err, List}
+use Rattle.std.specs.Prelude.{[], ◌∷◌, ◌++◌, length, codes, if◌then◌else◌, IfSome}
 use Rattle.std.specs.Fmt.{decimal}
 use Rattle.std.specs.Str.{chars}
 use Rattle.bp_core.specs.declared.kept.Row.{Row}
@@ -14,7 +15,7 @@ use Rattle.bp_rules.specs.Importing.{import_of}
 use Rattle.bp_rules.specs.Steps.{counted_of}
 use Rattle.bp_rules.specs.declared.importing.Imported.{Imported}
 use Rattle.bp_rules.specs.declared.stepping.Counted.{Counted}
-use Rattle.bp_cli.specs.Kept.{MatterAnswers}
+use Rattle.bp_cli.specs.Kept.{CanBeLoaded, MatterAnswers}
 use Rattle.bp_cli.specs.Words.{word_of}
 use Rattle.bp_cli.specs.Endings.{Outcome, done, refused, line_of}
 
@@ -44,10 +45,12 @@ import_gives name (Ok m) (Ok b) = step_gives name m (import_of m b)
 import_gives name (Ok m) (Err rule) = refused rule
 import_gives name (Err rule) batch = refused rule
 
--- the outcome over the files and the rows that are told, or over some where none are
+-- the outcome over the files and the rows that are told, or over some where none are; rows come to
+-- a valid matter or to a rule of loading, told or not
 pub record ImportOutcome (name : List ℕ) (files : Option FileMap) (rows : Option (List Row))
     (outcome : Outcome) : Type 0 where
   pub tables : Result Matter Rule
+  pub loaded : CanBeLoaded tables
   pub kept : IfSome rows (λ there. MatterAnswers there tables)
   pub batch : Result BatchShown Rule
   pub found : IfSome files (λ there. BatchAnswers there (chars name) batch)

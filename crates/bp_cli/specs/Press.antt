@@ -1,5 +1,6 @@
 -- The commands `press` and `log`: their lines, what they come to, and what they withhold.
-use Rattle.std.specs.Prelude.{ℕ, ◌≡◌, ◌==◌, Option, Some, None, Result, Ok, Err, List, [], length, if◌then◌else◌}
+use Rattle.std.specs.Prelude.{ℕ, ◌≡◌, ◌==◌, Option, Some, None, Result, Ok, Err, List}
+use Rattle.std.specs.Prelude.{[], length, if◌then◌else◌}
 use Rattle.std.specs.Str.{chars}
 use Rattle.bp_core.specs.declared.rules.Rule.{Rule}
 use Rattle.bp_core.specs.declared.rules.RuleKind.TheVariants.{NoProduction}

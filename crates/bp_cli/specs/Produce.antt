@@ -1,5 +1,7 @@
 -- The command `produce`: its line, what it comes to, and what it withholds.
-use Rattle.std.specs.Prelude.{ℕ, ◌≡◌, ◌⊎◌, ◌++◌, Option, Some, None, Result, Ok, Err, List, [], drop, length, map, nat_le, codes, encode_utf8_all, if◌then◌else◌}
+use Rattle.std.specs.Prelude.{ℕ, ◌≡◌, ◌⊎◌, ◌++◌, Option, Some, None, Result, Ok}
+use Rattle.std.specs.Prelude.{Err, List, [], drop, length, map, nat_le, codes, encode_utf8_all}
+use Rattle.std.specs.Prelude.{if◌then◌else◌}
 use Rattle.std.specs.Fmt.{decimal}
 use Rattle.std.specs.Str.{chars}
 use Rattle.hex.specs.Hex.{encode_lower}
@@ -21,6 +23,7 @@ use Rattle.bp_press.specs.declared.pressing.Pressed.{Pressed}
 use Rattle.bp_cli.specs.declared.produce.TheConstants.{MAX_WIDTH_WORD, REQUEST_WORDS}
 use Rattle.bp_cli.specs.Words.{number_of, word_of, ◌>>=◌}
 use Rattle.bp_cli.specs.Endings.{Outcome, done, refused, line_of}
+use Rattle.bp_cli.specs.Kept.{OfTwo}
 
 -- ---- its line
 
@@ -87,7 +90,7 @@ produce_gives q (Err rule) = refused rule
 
 -- ---- what it withholds
 
--- both keep the production that is asked for once more, and show the same of it, whatever was
+-- both keep one production under the id that is asked for, and show the same of it, whatever was
 -- decided since
 pub record KeptSame (q : Request) (m n : Matter) : Type 0 where
   pub f : Production
@@ -95,6 +98,12 @@ pub record KeptSame (q : Request) (m n : Matter) : Type 0 where
   pub kept' : kept_production n.productions q.id ≡ Some f
   pub shown : Agree f m n
 
--- the same was decided, and what the request freezes shows the same in both; or it was frozen before
+-- the same was decided, and what the request freezes shows the same in both; or it was frozen
+-- before
 abbrev pub FrozenAlike : Request → Matter → Matter → Type 0
 FrozenAlike q m n = Alike q m n ⊎ KeptSame q m n
+
+-- the kept rows are those of two such matters
+abbrev pub KeptAlike : Request → Option (List Row) → Option (List Row) → Type 0
+KeptAlike q (Some rows) (Some rows') = OfTwo (KeptSame q) rows rows'
+KeptAlike q _ _ = ⊥

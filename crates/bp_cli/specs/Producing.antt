@@ -14,7 +14,7 @@ use Rattle.bp_matter.specs.declared.rows.Production.{Production}
 use Rattle.bp_matter.specs.declared.rows.Request.{Request}
 use Rattle.bp_freeze.specs.Freezing.{freeze_of}
 use Rattle.bp_freeze.specs.Keeping.{frozen_matter}
-use Rattle.bp_rules.specs.Steps.{Keeps, Stays}
+use Rattle.bp_rules.specs.Steps.{KeepsRows, Stays}
 use Rattle.bp_press.specs.Pressed.{pressed_of}
 use Rattle.bp_press.specs.Writing.{AddsPart, with_files}
 use Rattle.bp_cli.specs.declared.stops.Stop.{Stop}
@@ -32,13 +32,14 @@ pub record Froze (m : Matter) (q : Request) (keeper : KeeperView) (f : Productio
     (keeper' : KeeperView) : Type 0 where
   pub answer : freeze_of m q ≡ Ok f
   pub matter : m' ≡ frozen_matter f m
-  pub kept : Keeps keeper m → Keeps keeper' m'
+  pub kept : KeepsRows keeper m → KeepsRows keeper' m'
   pub faults : keeper'.faults ≡ keeper.faults
   pub sure : keeper'.sure ≡ keeper.sure
 
 -- what freezing for the lead leaves
-abbrev pub Freezes : Matter → Request → KeeperView → Result Production Stop → Matter → KeeperView
-    → Type 0
+abbrev pub Freezes :
+    Matter → Request → KeeperView → Result Production Stop
+    → Matter → KeeperView → Type 0
 Freezes m q keeper (Ok f) m' keeper' = Froze m q keeper f m' keeper'
 Freezes m q keeper (Err (stops.Broken rule)) m' keeper' =
     (freeze_of m q ≡ Err rule) × (keeper' ≡ keeper)

@@ -1,5 +1,6 @@
 -- What a run of the program promises.
-use Rattle.std.specs.Prelude.{ℕ, ◌≡◌, ◌≢◌, ◌==◌, ◌⊎◌, Bool, true, false, Option, Some, None, Ok, Err, List, [], ◌∷◌, IsTrue}
+use Rattle.std.specs.Prelude.{ℕ, ◌≡◌, ◌≢◌, ◌==◌, ◌⊎◌, Bool, true, false}
+use Rattle.std.specs.Prelude.{Option, Some, None, Ok, Err, List, [], ◌∷◌, IsTrue}
 use Rattle.std.specs.List.{list_any}
 use Rattle.bp_core.specs.declared.kept.Row.{Row}
 use Rattle.bp_core.specs.declared.rules.Rule.{Rule}
@@ -10,11 +11,15 @@ use Rattle.bp_outside.specs.Out.{OutView, with_written, WritesPrefix}
 use Rattle.bp_outside.specs.declared.files.FileRow.{FileRow}
 use Rattle.bp_keep.specs.Keeper.{KeeperView}
 use Rattle.bp_cli.specs.declared.stops.Stop.TheVariants as stops
-use Rattle.bp_cli.specs.declared.statuses.TheConstants.{DONE, WORDS_REFUSED, RULE_BROKEN, SOURCE_FAULT, FOLDER_FAULT, KEEPER_FAULT, OUT_OF_MEMORY, OUT_FAULT}
+use Rattle.bp_cli.specs.declared.statuses.TheConstants.{DONE, WORDS_REFUSED, RULE_BROKEN}
+use Rattle.bp_cli.specs.declared.statuses.TheConstants.{SOURCE_FAULT, FOLDER_FAULT, KEEPER_FAULT}
+use Rattle.bp_cli.specs.declared.statuses.TheConstants.{OUT_OF_MEMORY, OUT_FAULT}
 use Rattle.bp_cli.specs.Endings as outcomes
 use Rattle.bp_press.specs.Writing.{with_files}
-use Rattle.bp_cli.specs.Endings.{Outcome, Ending, World, world, Uses, RowsLeft, status_of, text_of, memory_line, refused_line}
-use Rattle.bp_cli.specs.Commands.{CommandLine, Matter, uses_of, ComesTo, AreKnown, AlikeFor, ShowAlike, Works}
+use Rattle.bp_cli.specs.Endings.{Outcome, Ending, World, world, Uses, RowsLeft, status_of, text_of}
+use Rattle.bp_cli.specs.Endings.{memory_line, refused_line}
+use Rattle.bp_cli.specs.Commands.{CommandLine, Matter, uses_of, ComesTo, AreKnown, AlikeFor}
+use Rattle.bp_cli.specs.Commands.{ShowAlike, Works}
 use Rattle.bp_cli.specs.Printing.{failed_out, MayLackItsLine, WritesPart}
 
 -- what is known of all that is outside, at a moment
@@ -187,7 +192,8 @@ pub record Runs (command : Option CommandLine) (before after : Outside) (status 
   -- ---- two matters
 
   -- what comes out shows the same as the outcome of every other matter that differs only in what
-  -- the command withholds: the same line and the same files, or the same rule
+  -- the command withholds: the same line and the same files, or the same rule; and after `produce`
+  -- both keep the same production
   pub alike : (c : CommandLine) (matter matter' : Matter) (other : Outcome)
       → Asks command before c matter
       → AlikeFor c matter matter'

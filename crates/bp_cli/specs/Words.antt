@@ -1,5 +1,7 @@
 -- The words of a command line, without the program's name, each as its bytes.
-use Rattle.std.specs.Prelude.{ℕ, Bool, not, ◌&&◌, ◌||◌, ◌==◌, nat_le, Option, Some, None, List, [], length, map, slice_index, slice_index_or, String, if◌then◌else◌}
+use Rattle.std.specs.Prelude.{ℕ, Bool, not, ◌&&◌, ◌||◌, ◌==◌, nat_le, Option, Some}
+use Rattle.std.specs.Prelude.{None, List, [], length, map, slice_index, slice_index_or, String}
+use Rattle.std.specs.Prelude.{if◌then◌else◌}
 use Rattle.std.specs.declared.alloc.Global.{Global}
 use Rattle.std.specs.Borrow.{Bor}
 use Rattle.std.specs.Option.{option_and_then}

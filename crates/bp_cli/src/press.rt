@@ -13,7 +13,7 @@ use crate::stops::Stop;
 use crate::volumes::put_volume;
 use crate::words::{text_of, word_at};
 use bp_core::{Bytes, Rule, RuleKind};
-use bp_freeze::log_text;
+use bp_freeze::{found_is_kept, log_text};
 use bp_keep::Keeper;
 use bp_outside::Folder;
 use bp_rules::load_tables;
@@ -42,6 +42,7 @@ pub fn press_kept<K: Keeper, F: Folder>(
         let after = world source (K.shows keeper.new) (F.shows folder.new) in
         Ends (uses_of line) (IsOutcome line before) before result after }
 {
+    found_is_kept();
     let tables = load_tables(alloc, keeper)?;
     tables.know_valid();
     let id = text_of(alloc, id)?;
@@ -59,6 +60,7 @@ pub fn log_kept<K: Keeper>(alloc: Global, id: &str, keeper: &mut K) -> Result<By
         let after = world source (K.shows keeper.new) folder in
         Ends (uses_of line) (IsOutcome line before) before result after }
 {
+    found_is_kept();
     let tables = load_tables(alloc, keeper)?;
     tables.know_valid();
     let id = text_of(alloc, id)?;

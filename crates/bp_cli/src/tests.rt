@@ -1,4 +1,5 @@
 // Runs of the program over objects in memory.
+mod faults;
 mod matters;
 mod page_files;
 mod productions;

@@ -1,5 +1,5 @@
 -- Worked examples of the definitions in specs/, each run by the check.
-use Rattle.std.proofs.Common.{◌≡◌, ℕ, true, List, [], ◌∷◌, ◌++◌, map, Some, None, Result, Ok, Err, Option, replicate, refl}
+use Rattle.std.proofs.Common.{◌≡◌, ◌≤◌, ℕ, zero, suc, true, false, List, [], ◌∷◌, ◌++◌, map, Some, None, Result, Ok, Err, Option, replicate, refl, arith}
 use Rattle.std.specs.Prelude.{codes}
 use Rattle.bp_core.specs.Rules.{bare_rule, bates_full_rule}
 use Rattle.bp_core.specs.declared.review.Basis.{Basis}
@@ -19,12 +19,14 @@ use Rattle.bp_matter.specs.declared.rows.PrefixRow.{PrefixRow}
 use Rattle.bp_matter.specs.declared.rows.Production.{Production}
 use Rattle.bp_matter.specs.declared.rows.Request.{Request}
 use Rattle.bp_matter.specs.declared.rows.State.TheVariants.{First, Confirmed}
+use Rattle.bp_freeze.specs.Alike.{DecidedAlike, is_withheld_doc}
 use Rattle.bp_freeze.specs.Csv.{csv_value}
 use Rattle.bp_freeze.specs.Freezing.{freeze_of}
 use Rattle.bp_freeze.specs.Keeping.{frozen_matter}
 use Rattle.bp_freeze.specs.Log.{log_of}
 use Rattle.bp_freeze.specs.Numbers.{numbers_under}
 use Rattle.bp_freeze.specs.Refusals.{productions_full_rule, rule_with}
+use Rattle.bp_freeze.specs.Seeing.{page_count}
 
 -- ---- matters
 
@@ -113,6 +115,22 @@ family_spans = refl
 family_again : freeze_of (family 1) (asked (codes "R") (codes "V1") 1 3) ≡ freeze_of (family 40) (asked (codes "R") (codes "V1") 1 3)
 unfolding freeze_of
 family_again = refl
+
+-- ---- no document has number 0: a request from there is answered alike whatever a withheld document 1 has
+
+abbrev alone : ℕ → Matter
+alone pages = matter (doc 1 1 pages ∷ []) (call 1 (Withhold Ac) ∷ [])
+
+none_at_0 : page_count (alone 40) 0 ≡ 0
+none_at_0 = refl
+
+same_from_0 : (n : ℕ) → 0 ≤ n → n ≤ 1 → is_withheld_doc (alone 40) n ≡ false → page_count (alone 40) n ≡ page_count (alone 1) n
+same_from_0 zero low high shown = refl
+same_from_0 (suc zero) low high shown = absurd cc
+same_from_0 (suc (suc n)) low high shown = absurd (omega arith)
+
+decided_from_0 : DecidedAlike (asked (codes "R") (codes "V1") 0 1) (alone 40) (alone 1)
+decided_from_0 = record { decisions = refl; counts = same_from_0 }
 
 -- ---- documents 1 and 2 are a family, and 3 is alone
 

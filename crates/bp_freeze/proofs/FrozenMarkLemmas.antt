@@ -29,7 +29,7 @@ use Rattle.bp_matter.specs.declared.rows.State.{State}
 use Rattle.bp_matter.specs.declared.rows.State.TheVariants.{Confirmed, First, Uncalled}
 use Rattle.bp_freeze.specs.Seeing.{numbers_of, seen_in, treatment_of}
 use Rattle.bp_freeze.specs.Selecting.{designation_of, is_confirmed, is_produce, item_of}
-use Rattle.bp_freeze.proofs.FrozenRangeLemmas.{Called, row-at, takes-number}
+use Rattle.bp_freeze.proofs.FrozenRangeLemmas.{Called, page-counted, row-at, takes-number}
 use Rattle.bp_freeze.proofs.PutRowLemmas.{find-all, find-passes}
 use Rattle.bp_freeze.proofs.RuleLemmas.{any-map}
 
@@ -260,7 +260,7 @@ item_placed m valid doc next from to =
     ap (λ o. is_item_of o item) at.found
     ∙ and_from (eqb item.parent.0 at.row.parent.0) (eqb (item.span.last + 1) (item.span.first + numbers_due item.treatment at.row.pages))
     (eq-eqb item.parent.0 at.row.parent.0 at.parent)
-    (as_many next (numbers_of m doc) (numbers_due t at.row.pages) (takes-number m valid doc from to) (ap (numbers_due t) at.pages))
+    (as_many next (numbers_of m doc) (numbers_due t at.row.pages) (takes-number m valid doc from to) (ap (numbers_due t) (page-counted m doc from ∙ at.pages)))
 
 -- it is an item of the matter
 pub item-fits : (m : Matter) → IsValid m → (doc next : ℕ) → 1 ≤ doc → doc ≤ length m.docs → Called m.calls doc

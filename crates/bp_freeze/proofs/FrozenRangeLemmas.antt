@@ -1,5 +1,5 @@
 -- What a request that breaks no rule carries over to the documents of its range, and what a valid matter keeps of each.
-use Rattle.std.proofs.Common.{◌≡◌, ◌≢◌, ℕ, zero, suc, ◌+◌, ◌-◌, ◌<◌, ◌≤◌, Bool, true, false, eqb, leb, ◌&&◌, ◌||◌, not, List, [], ◌∷◌, ◌++◌, length, map, get_or, Option, Some, None, refl, sym, subst, inl, inr, arith}
+use Rattle.std.proofs.Common.{◌≡◌, ◌≢◌, ℕ, zero, suc, ◌+◌, ◌-◌, ◌<◌, ◌≤◌, Bool, true, false, eqb, leb, ◌&&◌, ◌||◌, not, List, [], ◌∷◌, ◌++◌, length, map, get_or, Option, Some, None, refl, sym, subst, ◌∙◌, inl, inr, arith}
 use Rattle.std.specs.List.{filter, find, list_all}
 use Rattle.std.proofs.lemmas.Bool.{and_parts, and_from, cases_Bool, cases_eq, eqb-true, eq-eqb, ne_eqb, leb-true}
 use Rattle.bp_core.specs.Sorted.{find_key}
@@ -155,12 +155,16 @@ has_page fields batches row fits =
     let one = and_parts (leb 1 row.pages) _ two.0 in
     leb-true 1 row.pages one.0
 
+-- the pages of a document that has a number
+pub page-counted : (m : Matter) (doc : ℕ) → 1 ≤ doc → page_count m doc ≡ get_or (map (λ (r : DocRow). r.pages) m.docs) (doc - 1) 0
+page-counted m doc from = rw (ne_eqb doc 0 (λ none. omega arith)) refl
+
 -- so each document of a valid matter takes a number
 pub takes-number : (m : Matter) → IsValid m → (doc : ℕ) → 1 ≤ doc → doc ≤ length m.docs → 1 ≤ numbers_of m doc
 takes-number m valid doc from to =
     let at = row-at m.docs doc valid.docs.numbered from to in
     let fits = find-all (λ (row : DocRow). eqb (doc_key row) doc) (doc_fits (length m.fields) (length m.batches)) m.docs at.row at.found valid.docs.fit in
-    some_due (treatment_of (find_key call_key doc m.calls)) (page_count m doc) (subst (λ n. 1 ≤ n) (sym at.pages) (has_page (length m.fields) (length m.batches) at.row fits))
+    some_due (treatment_of (find_key call_key doc m.calls)) (page_count m doc) (subst (λ n. 1 ≤ n) (sym (page-counted m doc from ∙ at.pages)) (has_page (length m.fields) (length m.batches) at.row fits))
 
 -- ---- calls of selected documents
 

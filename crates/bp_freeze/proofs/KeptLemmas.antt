@@ -105,8 +105,12 @@ frozen-cases m q f e = by-cases m q f (kept_production m.productions q.id) refl 
 
 -- ---- the matter after it
 
+-- what is found under an id is kept under its own
+pub found_is_kept : (m : Matter) (id : List ℕ) (f : Production) → kept_production m.productions id ≡ Some f → Keeps m f
+found_is_kept m id f found = ap (kept_production m.productions) (kept-id m.productions id f found) ∙ found
+
 pub repeat-keeps : (m : Matter) (q : Request) (f : Production) → IsRepeat m q f → Keeps m f
-repeat-keeps m q f old = ap (kept_production m.productions) (kept-id m.productions q.id f old.kept) ∙ old.kept
+repeat-keeps m q f old = found_is_kept m q.id f old.kept
 
 pub kept-matter : (m : Matter) (f : Production) → Keeps m f → frozen_matter f m ≡ m
 kept-matter m f kept = ap (λ o. after_freeze o f m) kept
@@ -136,6 +140,14 @@ new-kept m q f e =
       | inl old ↦ subst (λ n. Keeps n f) (sym (repeat-matter m q f old)) (repeat-keeps m q f old)
       | inr first ↦ subst (λ n. Keeps n f) (sym (first-frozen m q f first))
           (ap (λ (r : Request). kept_production (with_production f m).productions r.id) (first-id m q f first) ∙ first-kept m q f first)
+    ]
+
+-- under the id that was asked for
+pub asked-kept : (m : Matter) (q : Request) (f : Production) → freeze_of m q ≡ Ok f → kept_production (frozen_matter f m).productions q.id ≡ Some f
+asked-kept m q f e =
+    elim (frozen-cases m q f e) [
+      | inl old ↦ subst (λ (n : Matter). kept_production n.productions q.id ≡ Some f) (sym (repeat-matter m q f old)) old.kept
+      | inr first ↦ subst (λ (n : Matter). kept_production n.productions q.id ≡ Some f) (sym (first-frozen m q f first)) (first-kept m q f first)
     ]
 
 pub others-kept : (m : Matter) (q : Request) (f g : Production) → Keeps m g → freeze_of m q ≡ Ok f → Keeps (frozen_matter f m) g

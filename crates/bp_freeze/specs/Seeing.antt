@@ -1,6 +1,7 @@
 -- What a freeze looks at: what was decided in the matter, and of each document of a range what was
 -- decided of it and how many label numbers it takes. Pages, words and values aren't looked at.
-use Rattle.std.specs.Prelude.{ℕ, ◌+◌, ◌-◌, Bool, List, ◌==◌, Option, Some, None, map, slice_index_or}
+use Rattle.std.specs.Prelude.{ℕ, ◌+◌, ◌-◌, Bool, List, ◌==◌, Option, Some, None, map}
+use Rattle.std.specs.Prelude.{slice_index_or, if◌then◌else◌}
 use Rattle.std.specs.List.{list_any, range_with_len}
 use Rattle.bp_core.specs.Sorted.{find_key}
 use Rattle.bp_core.specs.declared.review.Treatment.{Treatment}
@@ -79,9 +80,10 @@ seen_by d numbers doc = record {
   numbers = numbers;
 }
 
--- how many pages a document has
+-- how many pages the document of a number has: documents are numbered from 1, so 0 has none
 abbrev pub page_count : Matter → ℕ → ℕ
-page_count m doc = slice_index_or (map (λ row. row.pages) m.docs) (doc - 1) 0
+page_count m doc =
+    if doc == 0 then 0 else slice_index_or (map (λ row. row.pages) m.docs) (doc - 1) 0
 
 -- an uncalled document counts as one to be produced
 abbrev pub treatment_of : Option CallRow → Treatment

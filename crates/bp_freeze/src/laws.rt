@@ -1,5 +1,5 @@
 //! The laws of the freeze. The functions do nothing: the contract of each is the law.
-ghost use Rattle.std.specs.Prelude.{◌≡◌, IsTrue, Ok};
+ghost use Rattle.std.specs.Prelude.{◌≡◌, ℕ, IsTrue, List, Ok, Some};
 ghost use Rattle.bp_matter.specs.Matter.{Matter};
 ghost use Rattle.bp_matter.specs.Valid.{IsValid};
 ghost use Rattle.bp_matter.specs.ValidProductions.{itself};
@@ -7,7 +7,7 @@ ghost use Rattle.bp_matter.specs.ValidRows.{all_differ};
 ghost use Rattle.bp_matter.specs.declared.rows.Production.{Production};
 ghost use Rattle.bp_matter.specs.declared.rows.Request.{Request};
 ghost use Rattle.bp_freeze.specs.Alike.{DecidedAlike};
-ghost use Rattle.bp_freeze.specs.Freezing.{freeze_of};
+ghost use Rattle.bp_freeze.specs.Freezing.{freeze_of, kept_production};
 ghost use Rattle.bp_freeze.specs.Keeping.{Keeps, frozen_matter};
 ghost use Rattle.bp_freeze.specs.Numbers.{AreTakenOnce, all_labels};
 
@@ -51,7 +51,7 @@ pub fn a_repeat_is_stored()
     ensures left { (m : Matter) (f : Production) → Keeps m f → frozen_matter f m ≡ m }
 {}
 
-/// A freeze keeps each production that was kept, and its own.
+/// A freeze keeps each production that was kept, and its own, under the id that was asked for.
 pub fn a_freeze_keeps()
     ensures others { (m : Matter) (q : Request) (f g : Production) →
         Keeps m g →
@@ -60,4 +60,14 @@ pub fn a_freeze_keeps()
     ensures its_own { (m : Matter) (q : Request) (f : Production) →
         freeze_of m q ≡ Ok f →
         Keeps (frozen_matter f m) f }
+    ensures asked { (m : Matter) (q : Request) (f : Production) →
+        freeze_of m q ≡ Ok f →
+        kept_production (frozen_matter f m).productions q.id ≡ Some f }
+{}
+
+/// What `Tables::production` finds under an id is kept.
+pub fn found_is_kept()
+    ensures { (m : Matter) (id : List ℕ) (f : Production) →
+        kept_production m.productions id ≡ Some f →
+        Keeps m f }
 {}

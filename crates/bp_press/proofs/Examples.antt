@@ -1,9 +1,10 @@
 -- Worked examples of the definitions in specs/, each run by the check.
-use Rattle.std.proofs.Common.{◌≡◌, ℕ, zero, suc, ◌<◌, ◌||◌, ◌==◌, true, false, List, [], ◌∷◌, ◌++◌, map, Some, None, Result, Ok, Err, get_or, refl, sym, ap, subst, ◌∙◌, arith, if◌then◌else◌}
-use Rattle.std.specs.Prelude.{codes, encode_utf8_all, ◌≤◌, take}
+use Rattle.std.proofs.Common.{◌≡◌, ℕ, zero, suc, ◌<◌, ◌||◌, ◌==◌, true, false, List, [], ◌∷◌, ◌++◌, map, replicate, Some, None, Result, Ok, Err, get_or, refl, sym, ap, subst, ◌∙◌, arith, if◌then◌else◌}
+use Rattle.std.specs.Prelude.{codes, encode_utf8_all, ◌≤◌, length, take, unwrap_or}
 use Rattle.std.specs.Fmt.{digits}
 use Rattle.bp_core.specs.declared.rectangle.Rect.{Rect}
 use Rattle.bp_core.specs.declared.review.Basis.TheVariants.{Ac, Wp, Pi}
+use Rattle.bp_core.specs.declared.review.Role.TheVariants.{Lead, Second}
 use Rattle.bp_core.specs.declared.review.Treatment.{Treatment}
 use Rattle.bp_core.specs.declared.review.Treatment.TheVariants.{Produce, Redact, Withhold}
 use Rattle.bp_core.specs.declared.rules.Rule.{Rule}
@@ -13,16 +14,20 @@ use Rattle.bp_rows.specs.Image.{Image, pixel, white_image}
 use Rattle.bp_rows.specs.declared.resolution.Unit.TheVariants.{Inch}
 use Rattle.bp_text.specs.declared.words.Word.{Word}
 use Rattle.bp_outside.specs.declared.files.FileRow.{FileRow}
+use Rattle.bp_matter.specs.LookUps.{of_row, words_with}
 use Rattle.bp_matter.specs.Matter.{Matter}
 use Rattle.bp_matter.specs.declared.rows.CallRow.{CallRow}
 use Rattle.bp_matter.specs.declared.rows.DocRow.{DocRow}
 use Rattle.bp_matter.specs.declared.rows.Entry.{Entry}
 use Rattle.bp_matter.specs.declared.rows.Item.{Item}
+use Rattle.bp_matter.specs.declared.rows.PageRow.{PageRow}
+use Rattle.bp_matter.specs.declared.rows.PageWords.{PageWords}
 use Rattle.bp_matter.specs.declared.rows.Production.{Production}
 use Rattle.bp_matter.specs.declared.rows.Request.{Request}
 use Rattle.bp_matter.specs.declared.rows.State.TheVariants.{Confirmed}
 use Rattle.bp_matter.specs.Treatments.{is_withheld}
-use Rattle.bp_freeze.specs.Agree.{Agree, ItemAgrees, PageAgrees, ValueAgrees, field_number}
+use Rattle.bp_matter.specs.Valid.{IsValid}
+use Rattle.bp_freeze.specs.Agree.{Agree, ItemAgrees, PageAgrees, ValueAgrees, field_number, value_in}
 use Rattle.bp_freeze.specs.Alike.{Alike, is_withheld_doc}
 use Rattle.bp_freeze.specs.Freezing.{freeze_of}
 use Rattle.bp_freeze.specs.Log.{log_of}
@@ -30,7 +35,7 @@ use Rattle.bp_freeze.specs.Seeing.{page_count}
 use Rattle.bp_rows.proofs.BurnedLemmas.{pixel-burned}
 use Rattle.hex.specs.Hex.{encode_with}
 use Rattle.sha2.specs.Sha256.{compress, digest_bytes, first_words, hash_after, rounds, schedule, sha256}
-use Rattle.bp_press.specs.Contents.{produced_page, slip_sheet}
+use Rattle.bp_press.specs.Contents.{image_in, produced_page, slip_sheet}
 use Rattle.bp_press.specs.Manifest.{manifest_line, manifest_of}
 use Rattle.bp_press.specs.Paths.{folder_of}
 use Rattle.bp_press.specs.Volume.{file_at, files_of, volume_of}
@@ -54,7 +59,7 @@ doc n parent pages author = record {
   parent = record { 0 = parent };
   pages = pages;
   batch = 1;
-  id = [];
+  id = codes "P";
   values = author ∷ [];
 }
 
@@ -103,7 +108,7 @@ abbrev pub dat_line : List ℕ → List ℕ
 dat_line text = encode_utf8_all (map with_separators text) ++ codes "\r\n"
 
 -- ---- two documents: a page with a box for PI, whose field is held for PI; and one that is withheld
--- for WP
+-- for WP, with some pages of 8 by 1 pixels. The whole matter is valid
 
 abbrev blank : Image
 blank = white_image 64 32 (record { num = 200; den = 1 }) (record { num = 200; den = 1 }) Inch
@@ -118,22 +123,88 @@ word left text = record {
   text = text;
 }
 
-abbrev two : Image → List Word → List ℕ → ℕ → Matter
-two image words author pages = record empty {
-  docs = doc 1 1 1 author ∷ doc 2 2 pages [] ∷ [];
-  pages = record { doc = record { 0 = 1 }; page = record { 0 = 1 }; image = image } ∷ [];
+abbrev scan : ℕ → ℕ → Image → PageRow
+scan n page image = record { doc = record { 0 = n }; page = record { 0 = page }; image = image }
+
+abbrev worded_page : ℕ → ℕ → List Word → PageWords
+worded_page n page words = record { doc = record { 0 = n }; page = record { 0 = page }; words = words }
+
+abbrev small : Image
+small = white_image 8 1 (record { num = 200; den = 1 }) (record { num = 200; den = 1 }) Inch
+
+abbrev two : Image → List Word → List ℕ → List ℕ → Matter
+two image words author withheld = record empty {
+  staff =
+      record { staff = record { 0 = 1 }; role = Lead; digest = replicate 32 0; name = codes "Lee" }
+      ∷ record { staff = record { 0 = 2 }; role = Second; digest = replicate 32 1; name = codes "Berg" } ∷ [];
+  docs = doc 1 1 1 author ∷ doc 2 2 (length withheld) (codes "Ng") ∷ [];
+  pages = scan 1 1 image ∷ map (λ page. scan 2 page small) withheld;
   calls = call 1 Redact ∷ call 2 (Withhold Wp) ∷ [];
   boxes = record { doc = record { 0 = 1 }; row = record { num = 1; page = record { 0 = 1 }; rect = area; basis = Pi } } ∷ [];
   held = record { doc = record { 0 = 1 }; row = record { field = 1; basis = Pi } } ∷ [];
   entries = record { doc = record { 0 = 2 }; entry = entry (codes "2020-01-02") (codes "Ng") (codes "A, B") (codes "Draft") } ∷ [];
-  words = record { doc = record { 0 = 1 }; page = record { 0 = 1 }; words = words } ∷ [];
+  batches = record { num = 1; digest = replicate 32 0; documents = 2; pages = suc (length withheld); name = codes "B" } ∷ [];
+  words = worded_page 1 1 words ∷ map (λ page. worded_page 2 page []) withheld;
 }
 
 abbrev smith : Matter
-smith = two blank (word 10 (codes "Smith") ∷ []) (codes "Smith") 1
+smith = two blank (word 10 (codes "Smith") ∷ []) (codes "Smith") (1 ∷ [])
 
 abbrev jones : Matter
-jones = two (burned blank (area ∷ [])) (word 9 (codes "Jo") ∷ word 14 (codes "Hart") ∷ []) (codes "Jones") 3
+jones = two (burned blank (area ∷ [])) (word 9 (codes "Jo") ∷ word 14 (codes "Hart") ∷ []) (codes "Jones") (1 ∷ 2 ∷ 3 ∷ [])
+
+smith_valid : IsValid smith
+unfolding lib.Utf8.encode
+smith_valid = record {
+  staff = record { numbered = refl; few = refl; lead_first = refl; digests_differ = refl; fit = refl; written = refl };
+  fields = record { numbered = refl; few = refl; names_differ = refl; fit = refl; written = refl };
+  docs = record { numbered = refl; few = refl; families = refl; fit = refl; written = refl };
+  pages = record { ascend = refl; paged = refl; few = refl; pixels_few = refl; fit = refl; written = refl };
+  calls = record { ascend = refl; fit = refl; written = refl };
+  boxes = record { ascend = refl; fit = refl; written = refl };
+  held = record { ascend = refl; fit = refl; written = refl };
+  entries = record { ascend = refl; fit = refl; written = refl };
+  prefixes = record { numbered = refl; fit = refl; used = refl; texts_differ = refl; spans_reach = refl; written = refl };
+  productions = record { numbered = refl; few = refl; ids_differ = refl; volumes_differ = refl; fit = refl; prefixes_kept = refl; families_once = refl; written = refl };
+  batches = record { numbered = refl; few = refl; names_differ = refl; fit = refl; written = refl };
+  words = record { ascend = refl; paged = refl; fit = refl; written = refl };
+  review = record { boxes_held = refl; fields_held = refl; confirmed = refl };
+}
+
+jones_valid : IsValid jones
+unfolding lib.Utf8.encode
+jones_valid = record {
+  staff = smith_valid.staff;
+  fields = smith_valid.fields;
+  docs = record { numbered = refl; few = refl; families = refl; fit = refl; written = refl };
+  pages = record { ascend = refl; paged = refl; few = refl; pixels_few = refl; fit = refl; written = refl };
+  calls = smith_valid.calls;
+  boxes = record { ascend = refl; fit = refl; written = refl };
+  held = smith_valid.held;
+  entries = smith_valid.entries;
+  prefixes = smith_valid.prefixes;
+  productions = record { numbered = refl; few = refl; ids_differ = refl; volumes_differ = refl; fit = refl; prefixes_kept = refl; families_once = refl; written = refl };
+  batches = record { numbered = refl; few = refl; names_differ = refl; fit = refl; written = refl };
+  words = record { ascend = refl; paged = refl; fit = refl; written = refl };
+  review = record { boxes_held = refl; fields_held = refl; confirmed = refl };
+}
+
+-- they differ in a pixel under the box, in the words that it touches, in the value that is held, and
+-- in how many pages the withheld document has
+pixels_differ : (pixel (image_in smith 1 1) 8 8 ∷ pixel (image_in jones 1 1) 8 8 ∷ []) ≡ (false ∷ true ∷ [])
+pixels_differ = refl
+
+abbrev texts_on : Matter → List (List ℕ)
+texts_on m = map (λ (w : Word). w.text) (unwrap_or (of_row (λ row. row.words) (words_with 1 1 m)) [])
+
+words_differ : (texts_on smith ∷ texts_on jones ∷ []) ≡ ((codes "Smith" ∷ []) ∷ (codes "Jo" ∷ codes "Hart" ∷ []) ∷ [])
+words_differ = refl
+
+values_differ : (value_in smith 1 1 ≡ Some (codes "Smith")) × (value_in jones 1 1 ≡ Some (codes "Jones"))
+values_differ = (refl, refl)
+
+counts_differ : (page_count smith 2 ∷ page_count jones 2 ∷ []) ≡ (1 ∷ 3 ∷ [])
+counts_differ = refl
 
 abbrev asked : Request
 asked = record {
@@ -162,7 +233,7 @@ withheld_text : file_at (codes "V1/TEXT/0001/AB-0002.TXT") (pressed jones (freez
 unfolding freeze_of volume_of files_of lib.Utf8.encode
 withheld_text = refl
 
--- the held field, and the empty one of the withheld document
+-- the held field, and no value of the withheld document
 two_in_dat : file_at (codes "V1/DATA/V1.DAT") (pressed jones (freeze_of jones asked))
     ≡ Some (dat_line (codes "þBEGDOCþ·þENDDOCþ·þBEGATTACHþ·þENDATTACHþ·þPAGECOUNTþ·þDESIGNATIONþ·þWITHHELDþ·þTEXTPATHþ·þAUTHORþ")
     ++ dat_line (codes "þAB-0001þ·þAB-0001þ·þAB-0001þ·þAB-0001þ·þ1þ·þþ·þþ·þV1\\TEXT\\0001\\AB-0001.TXTþ·þWITHHELD - PIþ")

@@ -22,6 +22,7 @@ use Rattle.bp_matter.specs.declared.rows.PageWords.{PageWords}
 use Rattle.bp_matter.specs.declared.rows.Production.{Production}
 use Rattle.bp_freeze.specs.Agree.{Agree, ItemAgrees, PagesAgree, field_number, rects_on}
 use Rattle.bp_freeze.specs.Keeping.{GrowsTo, Keeps}
+use Rattle.bp_freeze.proofs.FrozenRangeLemmas.{page-counted}
 use Rattle.bp_press.proofs.KeptPageLemmas.{counted, finds, item-doc, kept-fields, kept-items, page-there}
 
 -- ---- lists
@@ -76,11 +77,14 @@ grown_item f m n i valid grows fits =
     let many = counted 1 doc found.0 m.docs valid.docs.numbered found.1 in
     let same_doc : doc_with doc m ≡ doc_with doc n = found.1 ∙ sym (ap (find_key doc_key doc) grows.more_docs ∙ found-first (λ (row : DocRow). eqb row.doc.0 doc) m.docs grows.docs found.0 found.1) in
     record {
-      counts = same_at m.docs grows.docs (doc - 1) many.2 ∙ sym (ap (λ (docs : List DocRow). slice_index_or (map (λ (r : DocRow). r.pages) docs) (doc - 1) 0) grows.more_docs);
+      counts = page-counted m doc many.0
+          ∙ same_at m.docs grows.docs (doc - 1) many.2
+          ∙ sym (ap (λ (docs : List DocRow). slice_index_or (map (λ (r : DocRow). r.pages) docs) (doc - 1) 0) grows.more_docs)
+          ∙ sym (page-counted n doc many.0);
       pages = λ page low high. record {
         image = agrees_with_itself (rects_on i.boxes page) (of_row (λ row. row.image) (page_with doc page m)) (of_row (λ row. row.image) (page_with doc page n))
-            (ap (of_row (λ (row : PageRow). row.image)) (same_find (λ (row : PageRow). eqb (page_key row) (two_keys doc page)) m.pages grows.pages n.pages grows.more_pages (page-there page_key doc page found.0 m.docs m.pages valid.pages.paged found.1 low (omega (arith, many.1, high)))));
-        words = ap (of_row (λ (row : PageWords). kept_of row.words (rects_on i.boxes page))) (same_find (λ (row : PageWords). eqb (words_key row) (two_keys doc page)) m.words grows.words n.words grows.more_words (page-there words_key doc page found.0 m.docs m.words valid.words.paged found.1 low (omega (arith, many.1, high))));
+            (ap (of_row (λ (row : PageRow). row.image)) (same_find (λ (row : PageRow). eqb (page_key row) (two_keys doc page)) m.pages grows.pages n.pages grows.more_pages (page-there page_key doc page found.0 m.docs m.pages valid.pages.paged found.1 low (omega (arith, page-counted m doc many.0, many.1, high)))));
+        words = ap (of_row (λ (row : PageWords). kept_of row.words (rects_on i.boxes page))) (same_find (λ (row : PageWords). eqb (words_key row) (two_keys doc page)) m.words grows.words n.words grows.more_words (page-there words_key doc page found.0 m.docs m.words valid.words.paged found.1 low (omega (arith, page-counted m doc many.0, many.1, high))));
       };
       values = λ k d l field is free. ap (of_row (λ (row : DocRow). slice_index_or row.values (field - 1) [])) same_doc;
     }

@@ -25,6 +25,7 @@ use Rattle.bp_matter.specs.declared.rows.ProductionRow.{ProductionRow}
 use Rattle.bp_matter.specs.declared.rows.Request.{Request}
 use Rattle.bp_freeze.specs.Keeping.{Keeps}
 use Rattle.bp_freeze.specs.Seeing.{page_count}
+use Rattle.bp_freeze.proofs.FrozenRangeLemmas.{page-counted}
 use Rattle.bp_press.proofs.KeptPageLemmas.{counted, finds, item-doc, kept-items, passes}
 use Rattle.bp_press.proofs.SpanLemmas.{SpanLies, found_lies, number_is}
 
@@ -189,7 +190,7 @@ item-stands m valid i fits =
       found = doc.1;
       doc = many.0;
       there = omega (arith, many.0, many.2);
-      pages = many.1;
+      pages = page-counted m i.doc.0 many.0 ∙ many.1;
       some = leb-true 1 row.pages doc_one.0;
       few = pages_few page_key i.doc.0 row m.docs m.pages valid.pages.paged doc.1;
       values = doc_is.1;

@@ -24,6 +24,7 @@ use Rattle.bp_matter.specs.declared.rows.ProductionRow.{ProductionRow}
 use Rattle.bp_matter.proofs.ImageLemmas.{plain_page}
 use Rattle.bp_freeze.specs.Keeping.{Keeps}
 use Rattle.bp_freeze.specs.Seeing.{page_count}
+use Rattle.bp_freeze.proofs.FrozenRangeLemmas.{page-counted}
 use Rattle.bp_press.specs.Contents.{image_in}
 
 -- ---- lists
@@ -164,7 +165,7 @@ item_found : (m : Matter) → IsValid m → (i : Item) → item_fits (length m.f
 item_found m valid i fits page low high =
     let found = item-doc m i fits in
     let many = counted 1 i.doc.0 found.0 m.docs valid.docs.numbered found.1 in
-    scan_found m valid i.doc.0 page (page_with i.doc.0 page m) refl (page-there page_key i.doc.0 page found.0 m.docs m.pages valid.pages.paged found.1 low (omega (arith, many.1, high)))
+    scan_found m valid i.doc.0 page (page_with i.doc.0 page m) refl (page-there page_key i.doc.0 page found.0 m.docs m.pages valid.pages.paged found.1 low (omega (arith, page-counted m i.doc.0 many.0, many.1, high)))
 
 pub all_at : {T : Type 0} (test : T → Bool) (rows : List T) → list_all test rows ≡ true → All (λ row. test row ≡ true) rows
 all_at test [] all k d l = absurd (omega arith)

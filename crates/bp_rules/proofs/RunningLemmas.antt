@@ -11,7 +11,7 @@ use Rattle.bp_matter.specs.Matter.{Matter, Shown}
 use Rattle.bp_matter.specs.Valid.{IsValid}
 use Rattle.bp_rules.specs.Loading.{LoadedFrom}
 use Rattle.bp_rules.specs.Running.{Book, Ran, RunLoads, Stopped, StopsAt, answered, answers_of, book_of, faults_stopped, run_of}
-use Rattle.bp_rules.specs.Steps.{Keeps, Stays}
+use Rattle.bp_rules.specs.Steps.{KeepsRows, Stays}
 use Rattle.bp_rules.specs.declared.running.Answer.{Answer}
 use Rattle.bp_rules.specs.declared.running.Asked.{Asked}
 use Rattle.bp_rules.specs.declared.stepping.StepRefusal.{StepRefusal}
@@ -53,7 +53,7 @@ one-stopped m asked keeper told now refusal n after_it same reason s =
       ran = record {
         matter = s.matter;
         answers = same ∙ sym (append-nil told);
-        kept = λ h. subst (λ (x : Matter). Keeps after_it x) (sym s.matter) (kept-on m keeper.rows after_it.rows s.rows h);
+        kept = λ h. subst (λ (x : Matter). KeepsRows after_it x) (sym s.matter) (kept-on m keeper.rows after_it.rows s.rows h);
         told = told-same keeper.rows after_it.rows s.rows;
         faults = s.faults;
         sure = s.sure;

@@ -10,7 +10,7 @@ use Rattle.bp_rules.specs.Changes.{after}
 use Rattle.bp_rules.specs.Importing.{import_of}
 use Rattle.bp_rules.specs.Loading.{LoadsTables}
 use Rattle.bp_rules.specs.Stepping.{Stepped, step_of}
-use Rattle.bp_rules.specs.Steps.{Keeps, Stays, counted_of}
+use Rattle.bp_rules.specs.Steps.{KeepsRows, Stays, counted_of}
 use Rattle.bp_rules.specs.declared.importing.Imported.{Imported}
 use Rattle.bp_rules.specs.declared.running.Answer.{Answer}
 use Rattle.bp_rules.specs.declared.running.Answer.TheVariants as answers
@@ -71,7 +71,7 @@ book_of m keeper told = record { matter = m; keeper = keeper; answers = told }
 pub record Ran (before : Book) (asked : List Asked) (count : ℕ) (now : Book) : Type 0 where
   pub matter : now.matter ≡ run_of before.matter asked
   pub answers : now.answers ≡ before.answers ++ answers_of before.matter asked
-  pub kept : Keeps before.keeper before.matter → Keeps now.keeper now.matter
+  pub kept : KeepsRows before.keeper before.matter → KeepsRows now.keeper now.matter
   pub told : IfSome now.keeper.rows (λ _. IsTrue (is_some before.keeper.rows))
   pub faults : now.keeper.faults ≡ count
   pub sure : now.keeper.sure ≡ before.keeper.sure
@@ -128,7 +128,7 @@ counted_answer (Err refusal) = refusal_answer refusal
 pub record OneAnswered (m : Matter) (asked : Asked) (keeper : KeeperView) (answer : Answer)
     (m' : Matter) (keeper' : KeeperView) : Type 0 where
   pub answered : answered m asked ≡ record { answer = answer; matter = m' }
-  pub kept : Keeps keeper m → Keeps keeper' m'
+  pub kept : KeepsRows keeper m → KeepsRows keeper' m'
   pub told : IfSome keeper'.rows (λ _. IsTrue (is_some keeper.rows))
   pub faults : keeper'.faults ≡ keeper.faults
   pub sure : keeper'.sure ≡ keeper.sure
@@ -146,6 +146,6 @@ AnswersOne m asked keeper (Err refusal) m' keeper' =
 -- where the rows of a matter are told, what is loaded from them after a run is the matter after it
 abbrev pub RunLoads : Type 0
 RunLoads = (before now : Book) (asked : List Asked) (loaded : KeeperView) (count : ℕ)
-    (tables : Shown) → Keeps before.keeper before.matter → Ran before asked count now
+    (tables : Shown) → KeepsRows before.keeper before.matter → Ran before asked count now
     → IsValid now.matter → IsTrue (is_some now.keeper.rows)
     → LoadsTables now.keeper (Ok tables) loaded → tables.matter ≡ run_of before.matter asked

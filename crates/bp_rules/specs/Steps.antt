@@ -23,8 +23,8 @@ use Rattle.bp_rules.specs.declared.stepping.StepRefusal.{StepRefusal}
 use Rattle.bp_rules.specs.declared.stepping.StepRefusal.TheVariants as stops
 
 -- the rows of a keeper, if it tells them, are those of the matter
-abbrev pub Keeps : KeeperView → Matter → Type 0
-Keeps keeper m = IfSome keeper.rows (λ rows. rows ≡ rows_of m)
+abbrev pub KeepsRows : KeeperView → Matter → Type 0
+KeepsRows keeper m = IfSome keeper.rows (λ rows. rows ≡ rows_of m)
 
 -- the rows that are told now were told before, and are those with the puts of a change
 abbrev pub PutsMade : Option (List Row) → Edit → Option (List Row) → Type 0
@@ -36,7 +36,7 @@ pub record Made (m : Matter) (keeper : KeeperView) (edit : Edit) (m' : Matter)
     (keeper' : KeeperView) : Type 0 where
   pub matter : m' ≡ after m edit
   pub puts : PutsMade keeper.rows edit keeper'.rows
-  pub kept : Keeps keeper m → Keeps keeper' m'
+  pub kept : KeepsRows keeper m → KeepsRows keeper' m'
   pub faults : keeper'.faults ≡ keeper.faults
   pub sure : keeper'.sure ≡ keeper.sure
 

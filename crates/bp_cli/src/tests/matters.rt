@@ -66,7 +66,7 @@ fn check_over(
     Ok(keeper)
 }
 
-fn rows_of(alloc: Global, keeper: &mut MemKeeper) -> Result<RowList, AllocError> {
+pub fn rows_of(alloc: Global, keeper: &mut MemKeeper) -> Result<RowList, AllocError> {
     keeper.load(alloc).map_err(|_| AllocError)
 }
 

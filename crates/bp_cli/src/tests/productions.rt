@@ -13,13 +13,13 @@ use std::alloc::Global;
 use std::process::Abort;
 use std::test::Fail;
 
-const LEAD: [u8; 32] = [1; 32];
+pub const LEAD: [u8; 32] = [1; 32];
 
 const REVIEWER: [u8; 32] = [2; 32];
 
 const SECOND: [u8; 32] = [3; 32];
 
-const PRODUCE: &str = "produce R-1 V1 AB- 4 1 2 AUTHOR";
+pub const PRODUCE: &str = "produce R-1 V1 AB- 4 1 2 AUTHOR";
 
 const PATHS: [&str; 8] = [
     "V1/IMAGES/0001/AB-0001.TIF",
@@ -50,21 +50,21 @@ const SHEET_TEXT: &str = "DOCUMENT WITHHELD - WP\r\n\u{c}";
 // What two matters have that differ only in what is withheld: the field AUTHOR and the words of the
 // first document, a pixel under its box, and the pages of the second.
 #[derive(Clone, Copy)]
-struct Held<'a> {
+pub struct Held<'a> {
     dat: &'a str,
     opt: &'a str,
     words: &'a str,
     is_black: bool,
 }
 
-const SMITH: Held<'static> = Held {
+pub const SMITH: Held<'static> = Held {
     dat: "þBEGDOCþ\u{14}þBEGATTACHþ\u{14}þAUTHORþ\nþP1þ\u{14}þþ\u{14}þSmithþ\nþP2þ\u{14}þþ\u{14}þXþ\n",
     opt: "P1,,p.tif,Y\nP2,,q.tif,Y\n",
     words: "P1,1,9,9,14,6,Smith\n",
     is_black: false,
 };
 
-const JONES: Held<'static> = Held {
+pub const JONES: Held<'static> = Held {
     dat: "þBEGDOCþ\u{14}þBEGATTACHþ\u{14}þAUTHORþ\nþP1þ\u{14}þþ\u{14}þJonesþ\nþP2þ\u{14}þþ\u{14}þYþ\n",
     opt: "P1,,p.tif,Y\nP2,,q.tif,Y\nP3,,q.tif\nP4,,p.tif\n",
     words: "P1,1,9,9,5,6,Jo\nP1,1,16,9,8,6,Hart\nP3,1,0,0,4,4,Secret\n",
@@ -83,7 +83,8 @@ fn page_file(alloc: Global, is_black: bool) -> Result<Vec<u8>, Fail> {
     Ok(write_tiff(alloc, Form::Plain, &page)?.into_vec())
 }
 
-fn batch_source(alloc: Global, held: Held<'_>) -> Result<MemSource, Fail> {
+// A source with the batch B1, whose reads of these numbers are to fail.
+pub fn batch_source(alloc: Global, held: Held<'_>, failing: &[u64]) -> Result<MemSource, Fail> {
     let rows = vec![in alloc;
         row(alloc, "B1/load.dat", held.dat.as_bytes())?,
         row(alloc, "B1/load.opt", held.opt.as_bytes())?,
@@ -103,7 +104,7 @@ fn batch_source(alloc: Global, held: Held<'_>) -> Result<MemSource, Fail> {
     if !paths_differ(&files) {
         return Err(Fail::from("two files at one path"));
     }
-    Ok(MemSource::over(files, numbers(alloc, &[])?))
+    Ok(MemSource::over(files, numbers(alloc, failing)?))
 }
 
 fn text(alloc: Global, of: &str) -> Result<Text, Fail> {
@@ -187,11 +188,11 @@ fn confirm(alloc: Global, tables: &mut Tables, keeper: &mut MemKeeper) -> Result
     Ok(())
 }
 
-// A keeper with the rows of the decided matter, whose calls of these numbers are to fail.
-fn decided(alloc: Global, held: Held<'_>) -> Result<MemKeeper, Fail> {
+// A keeper with the rows of the decided matter.
+pub fn decided(alloc: Global, held: Held<'_>) -> Result<MemKeeper, Fail> {
     let rows = begin(alloc, LEAD)?.rows(alloc)?;
     let keeper = MemKeeper::over(rows, numbers(alloc, &[])?);
-    let source = batch_source(alloc, held)?;
+    let source = batch_source(alloc, held, &[])?;
     let mut keeper = ran_over(alloc, "import B1", source, keeper, &NOTHING_FAILS)?.keeper;
     let Ok(mut tables) = load_tables(alloc, &mut keeper) else {
         return Err(Fail::from("no matter came in"));
@@ -203,7 +204,7 @@ fn decided(alloc: Global, held: Held<'_>) -> Result<MemKeeper, Fail> {
 }
 
 // Runs a line over a source without files.
-fn ran_on(
+pub fn ran_on(
     alloc: Global,
     line: &str,
     keeper: MemKeeper,
@@ -390,6 +391,8 @@ fn a_fault_of_the_folder_leaves_first_files(rt: HostRuntime) -> Result<(), Fail>
         assert!(rt; file == other);
     }
     let rest = ran_on(alloc, "press R-1", cut.keeper, &NOTHING_FAILS)?;
+    assert!(rt; rest.status == 0);
+    assert!(rt; rest.out.written() == whole.out.written());
     assert!(rt; rest.folder.files() == whole.folder.files());
     Ok(())
 }

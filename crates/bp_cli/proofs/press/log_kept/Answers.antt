@@ -9,7 +9,7 @@ use Rattle.bp_cli.specs.declared.stops.Stop.TheVariants as stops
 use Rattle.std.specs.Prelude.{Err}
 use Rattle.bp_cli.specs.Endings.{done}
 use Rattle.bp_cli.specs.Press.{kept_gives, log_gives}
-use Rattle.bp_cli.proofs.LabelLemmas.{found_keeps, kept_logged, none_found, some_found}
+use Rattle.bp_cli.proofs.LabelLemmas.{kept_logged, none_found, some_found}
 use Rattle.bp_cli.proofs.RowsLemmas.{RowsEnds, rows_lacked, rows_refused, rows_rule, rows_told}
 use Rattle.bp_cli.proofs.press.log_kept.Goals as goal
 
@@ -39,7 +39,7 @@ pub log_text-requires : goal.log_text-requires
 log_text-requires g c =
     let m = c.in_ok-tables.tables.matter in
     let f = c.in-Some.production.now in
-    kept_logged m c.know_valid.ensures f (found_keeps m c.in_ok-id.id f (some_found m.productions c.in_ok-id.id c.in_ok-id.id c.production.result c.in-Some.production c.production.ensures refl c.in-Some.is))
+    kept_logged m c.know_valid.ensures f (c.found_is_kept.ensures m c.in_ok-id.id f (some_found m.productions c.in_ok-id.id c.in_ok-id.id c.production.result c.in-Some.production c.production.ensures refl c.in-Some.is))
 
 pub returns-in_err-log_text-in-Some : goal.returns-in_err-log_text-in-Some
 returns-in_err-log_text-in-Some g c = λ source folder.

@@ -10,7 +10,7 @@ use Rattle.std.specs.Prelude.{Err, Ok}
 use Rattle.bp_cli.specs.Press.{kept_gives, press_gives}
 use Rattle.bp_cli.specs.Produce.{volume_done}
 use Rattle.bp_cli.proofs.KeptLemmas.{load_left}
-use Rattle.bp_cli.proofs.LabelLemmas.{found_keeps, none_found, some_found}
+use Rattle.bp_cli.proofs.LabelLemmas.{none_found, some_found}
 use Rattle.bp_cli.proofs.RowsLemmas.{RowsEnds, matter_outcome, rows_lacked, rows_refused, rows_rule, rows_volume}
 use Rattle.bp_cli.proofs.press.press_kept.Goals as goal
 
@@ -40,7 +40,7 @@ returns-in-None g c =
 pub put_volume-requires : goal.put_volume-requires
 put_volume-requires g c =
     let m = c.in_ok-tables.tables.matter in
-    found_keeps m c.in_ok-id.id c.in-Some.production.now (some_found m.productions c.in_ok-id.id c.in_ok-id.id c.production.result c.in-Some.production c.production.ensures refl c.in-Some.is)
+    c.found_is_kept.ensures m c.in_ok-id.id c.in-Some.production.now (some_found m.productions c.in_ok-id.id c.in_ok-id.id c.production.result c.in-Some.production c.production.ensures refl c.in-Some.is)
 
 pub returns : goal.returns
 returns g c =

@@ -10,7 +10,6 @@ use crate::told::Told::{Produced, SplitFamily};
 use crate::told::{NO_PRODUCTION, REQUEST_DIFFERS, ROLE_REFUSED, VOLUME_TAKEN};
 use crate::usual_matter::{first_misfit, usual_matter};
 use bp_core::{NumberList, Refusal, Rule, RuleKind};
-use bp_freeze::found_is_kept;
 use bp_matter::{Production, Tables};
 use bp_outside::{FileList, FileRow, MemFolder};
 use bp_press::{PressRefusal, Pressed, file_of, press};
@@ -153,11 +152,11 @@ fn frozen(alloc: Global) -> Result<Tables, Fail> {
     Ok(tables)
 }
 
+#[tactic(auto, using(crate::proofs::KeptLemmas::found_keeps))]
 // The production, which the tables keep.
 fn production_in<'a>(alloc: Global, tables: &'a Tables) -> Result<&'a Production, AllocError>
     ensures { IfOk result (λ production. Keeps tables.now.matter production.now) }
 {
-    found_is_kept();
     let id = text(alloc, "R-1")?;
     match tables.production(&id) {
         Some(production) => Ok(production),

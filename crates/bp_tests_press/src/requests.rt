@@ -1,23 +1,23 @@
 // Requests in turn: what they take, what they wait for, and where the numbers of a prefix or of a
 // matter end.
-use crate::calls::Made::{Ask, Confirm, HoldField, PutBox, PutEntry, SendBack, SetCall};
-use crate::calls::{Row, freeze};
-use crate::matters::ZEROS;
-use crate::small_matters::{Doc, matter_of};
-use crate::told::Told::{
-    BatesFull, Done, Items, MatterFull, PrefixDiffers, Produced, SplitFamily, Unsettled,
-};
-use crate::told::{FIELD_CHOICE, NOTHING_RESPONSIVE, Seen};
-use crate::usual_calls::{
-    AT_EDGE, BY_SECOND, COUNSEL_BOX, DOCUMENT_4, DOCUMENT_5, DOCUMENT_6, DOCUMENT_9, DOCUMENT_10,
-    EDGE_BOX, LETTER, NOTE, UNCALLED_11, UNCALLED_12,
-};
-use crate::usual_matter::{first_misfit, first_unrefused, usual_matter};
 use bp_core::{Basis, Treatment};
 use bp_freeze::{can_be_logged, log_text};
 use bp_keep::Keeper;
 use bp_matter::{HeldRow, Reply};
 use bp_rules::step;
+use bp_samples::calls::Made::{Ask, Confirm, HoldField, PutBox, PutEntry, SendBack, SetCall};
+use bp_samples::calls::{Row, freeze};
+use bp_samples::matters::ZEROS;
+use bp_samples::small_matters::{Doc, matter_of};
+use bp_samples::told::Told::{
+    BatesFull, Done, Items, MatterFull, PrefixDiffers, Produced, SplitFamily, Unsettled,
+};
+use bp_samples::told::{FIELD_CHOICE, NOTHING_RESPONSIVE, Seen};
+use bp_samples::usual_calls::{
+    AT_EDGE, BY_SECOND, COUNSEL_BOX, DOCUMENT_4, DOCUMENT_5, DOCUMENT_6, DOCUMENT_9, DOCUMENT_10,
+    EDGE_BOX, LETTER, NOTE, UNCALLED_11, UNCALLED_12,
+};
+use bp_samples::usual_matter::{first_misfit, first_unrefused, usual_matter};
 use std::test::Fail;
 
 const AC: Basis = Basis::Ac;

@@ -1,17 +1,8 @@
 // The limits of a matter: each number is reached, and then passed by one.
-use crate::batches::{HEADER, NEVER, batch_in};
-use crate::calls::Made::AddStaff;
-use crate::calls::Row as Asked;
-use crate::matters::{INVALID, PAGE, STAFF, bad, kept, matter, refusal};
-use crate::told::TEXT_REFUSED;
-use crate::told::Told::{MatterFull, Staff, StaffThere};
-use crate::usual_matter::first_misfit;
-use bp_core::{
-    Bytes, ListOf, NumberList, OutOfMemory, Refusal, Role, Row, Rule, RuleKind, ascends,
-};
-use bp_keep::MemKeeper;
-use bp_matter::read_tables;
-use bp_rules::{decide_import, load_tables};
+use bp_core::{Bytes, OutOfMemory, Refusal, Row};
+use bp_samples::many_rows::{EMPTY_BATCH, many, unproduced};
+use bp_samples::matters::{INVALID, PAGE, STAFF, bad, kept, matter, refusal};
+use bp_samples::small_matters::{Doc, rows_of};
 use std::alloc::Global;
 use std::test::Fail;
 
@@ -26,64 +17,6 @@ const NO_WORDS: [u8; 5] = [1, 0, 0, 0, 0];
 // A field whose name is five digits.
 const FIELD: [u8; 10] = [1, 5, 0, 0, 0, b'0', b'0', b'0', b'0', b'0'];
 
-// A batch of nothing whose name is five digits.
-const EMPTY_BATCH: [u8; 50] = [
-    1, 0, 0, 0, 0, 0, 0, 0, 0, 0, 0, 0, 0, 0, 0, 0, 0, 0, 0, 0, 0, 0, 0, 0, 0, 0, 0, 0, 0, 0, 0, 0,
-    0, 0, 0, 0, 0, 0, 0, 0, 0, 5, 0, 0, 0, b'0', b'0', b'0', b'0', b'0',
-];
-
-// The matter without its prefix and its production, whose items would be part of a larger family.
-fn unproduced(alloc: Global) -> Result<Vec<Row>, OutOfMemory> {
-    let mut rows = matter(alloc)?;
-    rows.retain(|row| row.kind != 9 && row.kind != 10);
-    Ok(rows)
-}
-
-// The row of a kind with this number, the number's five digits standing at a place of its body.
-fn numbered(
-    alloc: Global,
-    kind: u8,
-    number: u32,
-    body: &[u8],
-    place: usize,
-) -> Result<Row, OutOfMemory> {
-    let mut body = Vec::from_slice(alloc, body)?;
-    let mut left = number;
-    for at in (0..5).rev() {
-        if let Some(byte) = body.get_mut(place.saturating_add(at)) {
-            *byte = b'0' + (left % 10) as u8;
-        }
-        left /= 10;
-    }
-    let body = Bytes::from_vec(body);
-    let (k1, k2) = (number, 0);
-    Ok(Row { kind, k1, k2, body })
-}
-
-// The rows of the matter that has so many rows of a kind, all but the first of this body.
-fn many(
-    alloc: Global,
-    kind: u8,
-    count: u32,
-    body: &[u8],
-    place: usize,
-) -> Result<Vec<Row>, OutOfMemory> {
-    let mut rows = Vec::new(alloc);
-    let mut behind = Vec::new(alloc);
-    for row in unproduced(alloc)? {
-        if row.kind <= kind {
-            rows.push(row)?;
-        } else {
-            behind.push(row)?;
-        }
-    }
-    for number in 2..count.saturating_add(1) {
-        rows.push(numbered(alloc, kind, number, body, place)?)?;
-    }
-    rows.append(&mut behind)?;
-    Ok(rows)
-}
-
 // What such a matter comes to.
 fn of_many(
     alloc: Global,
@@ -93,25 +26,6 @@ fn of_many(
     place: usize,
 ) -> Result<Option<Refusal>, OutOfMemory> {
     Ok(refusal(alloc, many(alloc, kind, count, body, place)?))
-}
-
-// A matter with 1,000 batches takes no further one, and tells the number that would be reached.
-#[test]
-fn the_1_001st_batch_is_refused(rt: HostRuntime) -> Result<(), Fail> {
-    let alloc = rt.alloc();
-    let rows = many(alloc, 11, 1000, &EMPTY_BATCH, 45)?;
-    let tables = read_tables(alloc, &ListOf::from_vec(rows))?;
-    let Ok(batch) = batch_in(alloc, "B1", HEADER.as_bytes(), "", "", NEVER)? else {
-        panic!(rt; "refused");
-    };
-    let found = decide_import(alloc, &tables, &batch).map(|imported| imported.pages);
-    let rule = Rule {
-        a: 6,
-        b: 1001,
-        ..Rule::bare(RuleKind::MatterFull)
-    };
-    assert_eq!(rt; found, Err(Refusal::Rule(rule)));
-    Ok(())
 }
 
 #[test]
@@ -131,34 +45,6 @@ fn staff_fields_and_batches_have_limits(rt: HostRuntime) -> Result<(), Fail> {
             "{kind}"
         );
     }
-    Ok(())
-}
-
-// Calls of the lead, L, whose key has the digest of zeros.
-static BEYOND: [Asked; 5] = [
-    (0, AddStaff("", Role::Lead, 0), TEXT_REFUSED),
-    (0, AddStaff("", Role::Clerk, 7), TEXT_REFUSED),
-    (0, AddStaff("L", Role::Clerk, 0), StaffThere(1)),
-    (0, AddStaff("L", Role::Lead, 0), Staff(1)),
-    (0, AddStaff("L", Role::Clerk, 7), MatterFull(5, 1001)),
-];
-
-// A matter with 1,000 members takes no further one. A name that isn't one comes first, then a key
-// that is another's.
-#[test]
-fn the_1_001st_member_is_refused(rt: HostRuntime) -> Result<(), Fail> {
-    let alloc = rt.alloc();
-    let rows = many(alloc, 1, 1000, &STAFF, 2)?;
-    if !ascends(&rows) {
-        panic!(rt; "the rows don't ascend");
-    }
-    let mut keeper = MemKeeper::over(ListOf::from_vec(rows), NumberList::new(alloc));
-    let mut tables = load_tables(alloc, &mut keeper)?;
-    assert_eq!(rt;
-        first_misfit(alloc, &mut tables, &mut keeper, &BEYOND),
-        None
-    );
-    assert_eq!(rt; tables.staff.len(), 1000);
     Ok(())
 }
 
@@ -290,4 +176,28 @@ fn with_page(alloc: Global, body: &[u8]) -> Result<Option<Refusal>, OutOfMemory>
         row.body = Bytes::from_vec(Vec::from_slice(alloc, body)?);
     }
     Ok(refusal(alloc, rows))
+}
+
+// The greatest page, as a body: ten thousand rows of the code 1, and 000000000001 twice.
+fn largest_body(alloc: Global) -> Result<Vec<u8>, OutOfMemory> {
+    let mut body = Vec::from_slice(alloc, &[1])?;
+    for number in [20_000, 10_000, 200, 1, 200, 1u32] {
+        body.extend_from_slice(&number.to_le_bytes())?;
+    }
+    body.push(2)?;
+    body.extend_from_slice(&[255; 1250])?;
+    body.extend_from_slice(&[0x00, 0x10, 0x01])?;
+    Ok(body)
+}
+
+#[test]
+fn a_matter_has_4_000_000_000_pixels_at_most(rt: HostRuntime) -> Result<(), Fail> {
+    let alloc = rt.alloc();
+    let body = largest_body(alloc)?;
+    for (pages, expected) in [(20, None), (21, Some(INVALID))] {
+        let docs: [Doc; 1] = [(1, 1, pages)];
+        let rows = rows_of(alloc, &docs, body.as_slice())?;
+        assert_eq!(rt; refusal(alloc, rows), expected, "{pages}");
+    }
+    Ok(())
 }

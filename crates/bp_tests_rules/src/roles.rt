@@ -1,16 +1,16 @@
 // Who may make which call: the roles of each, and what is told to the others.
-use crate::calls::Made::{
+use bp_core::{Basis, Rect, Role, Treatment};
+use bp_rules::may;
+use bp_samples::calls::Made::{
     AddStaff, Confirm, DropBox, FreeField, Freeze, GetProduction, HoldField, PutBox, PutEntry,
     SeeDoc, SeePage, SeeWords, SendBack, SetCall,
 };
-use crate::calls::{Made, call_of, make};
-use crate::told::{
+use bp_samples::calls::{Made, call_of, make};
+use bp_samples::told::{
     BAD_VOLUME, KEY_UNKNOWN, NO_PRODUCTION, ROLE_REFUSED, TEXT_REFUSED, Texts, Told, fits,
 };
-use crate::usual_batch::STAFF;
-use crate::usual_matter::begun;
-use bp_core::{Basis, Rect, Role, Treatment};
-use bp_rules::may;
+use bp_samples::usual_batch::STAFF;
+use bp_samples::usual_matter::begun;
 use std::test::Fail;
 
 const LEAD: &[Role] = &[Role::Lead];

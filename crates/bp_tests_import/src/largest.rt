@@ -1,8 +1,5 @@
-// Files and pages at the greatest sizes: 128 MiB a file, 200,000,000 pixels a page, 4,000,000,000 a
-// matter.
-use crate::batches::{NEVER, PAGES, TWO, batch_over, put, text};
-use crate::matters::{INVALID, ZEROS, refusal};
-use crate::small_matters::{Doc, rows_of};
+// Files and pages at the greatest sizes: 128 MiB a file, 200,000,000 pixels a page, 4,000,000,000
+// pixels a matter.
 use bp_core::{Bytes, NumberList, Refusal, Rule, RuleKind};
 use bp_import::ImportRefusal;
 use bp_keep::{Keeper, MemKeeper};
@@ -10,6 +7,8 @@ use bp_matter::Batch;
 use bp_outside::{FileList, FileRow};
 use bp_rows::{Page, Res, Unit};
 use bp_rules::{StepRefusal, begin, decide_import, step_import};
+use bp_samples::batches::{NEVER, PAGES, TWO, batch_over, put, text};
+use bp_samples::matters::ZEROS;
 use bp_tiff::{Form, write_tiff};
 use std::alloc::{AllocError, Global};
 use std::test::Fail;
@@ -66,30 +65,6 @@ fn an_import_stays_within_the_pixels_of_a_matter(rt: HostRuntime) -> Result<(), 
     let batch = largest_batch(alloc, 20)?;
     let told = step_import(alloc, &mut tables, &mut keeper, &batch);
     assert_eq!(rt; told.map(|counted| counted.pages), Ok(20));
-    Ok(())
-}
-
-// The body of such a page: ten thousand rows of the code 1, and 000000000001 twice.
-fn largest_body(alloc: Global) -> Result<Vec<u8>, AllocError> {
-    let mut body = Vec::from_slice(alloc, &[1])?;
-    for number in [WIDTH, HEIGHT, 200, 1, 200, 1] {
-        body.extend_from_slice(&number.to_le_bytes())?;
-    }
-    body.push(2)?;
-    body.extend_from_slice(&[255; 1250])?;
-    body.extend_from_slice(&[0x00, 0x10, 0x01])?;
-    Ok(body)
-}
-
-#[test]
-fn a_matter_has_4_000_000_000_pixels_at_most(rt: HostRuntime) -> Result<(), Fail> {
-    let alloc = rt.alloc();
-    let body = largest_body(alloc)?;
-    for (pages, expected) in [(20, None), (21, Some(INVALID))] {
-        let docs: [Doc; 1] = [(1, 1, pages)];
-        let rows = rows_of(alloc, &docs, body.as_slice())?;
-        assert_eq!(rt; refusal(alloc, rows), expected, "{pages}");
-    }
     Ok(())
 }
 

@@ -1,13 +1,13 @@
 // Each rule that a request for a production may break, alone and before the one behind it. The last
 // three, those of the numbers of a prefix and of a matter, stand in requests.rt.
-use crate::calls::Made::{Ask, SendBack};
-use crate::calls::Row;
-use crate::told::Told::{Done, PrefixDiffers, Produced, SplitFamily, Unsettled};
-use crate::told::{
+use bp_samples::calls::Made::{Ask, SendBack};
+use bp_samples::calls::Row;
+use bp_samples::told::Told::{Done, PrefixDiffers, Produced, SplitFamily, Unsettled};
+use bp_samples::told::{
     BAD_PREFIX, BAD_VOLUME, FIELD_CHOICE, KEY_UNKNOWN, NO_FIELD, NOTHING_RESPONSIVE, RANGE_EMPTY,
     REQUEST_DIFFERS, ROLE_REFUSED, VOLUME_TAKEN,
 };
-use crate::usual_matter::{first_misfit, first_unrefused, usual_matter};
+use bp_samples::usual_matter::{first_misfit, first_unrefused, usual_matter};
 use std::test::Fail;
 
 // The fields that are chosen.

@@ -1,12 +1,4 @@
 // Steps: an import and a call once more, faults of the keeper, and a run of calls.
-use crate::batches::{HEADER, NEVER, TWO, batch_in};
-use crate::calls::Made::{Confirm, PutBox, SeeDoc, SendBack, SetCall};
-use crate::calls::{Made, Row, call_of};
-use crate::matters::ZEROS;
-use crate::small_matters::{Doc, matter_of};
-use crate::told::Told::{Done, KeeperFault};
-use crate::told::{Seen, Told};
-use crate::usual_matter::first_misfit;
 use bp_core::{
     Basis, DocNo, ListOf, NumberList, OutOfMemory, PageNo, Rect, Rule, RuleKind, StaffNo, Treatment,
 };
@@ -15,6 +7,14 @@ use bp_matter::{BoxRow, Reply, State};
 use bp_rules::{
     Answer, Asked, Counted, LoadRefusal, StepRefusal, begin, load_tables, step_all, step_import,
 };
+use bp_samples::batches::{HEADER, NEVER, TWO, batch_in};
+use bp_samples::calls::Made::{Confirm, PutBox, SeeDoc, SendBack, SetCall};
+use bp_samples::calls::{Made, Row, call_of};
+use bp_samples::matters::ZEROS;
+use bp_samples::small_matters::{Doc, matter_of};
+use bp_samples::told::Told::{Done, KeeperFault};
+use bp_samples::told::{Seen, Told};
+use bp_samples::usual_matter::first_misfit;
 use std::alloc::Global;
 use std::test::Fail;
 

@@ -1,7 +1,7 @@
 // Kept rows both ways: bodies of their form, and bodies of none.
-use crate::matters::{ROWS, ZEROS, bad, kept, matter, refusal, spoil};
 use bp_core::{Bytes, DocNo, ListOf, OutOfMemory, Refusal, StaffNo, Text, Treatment};
 use bp_matter::{Call, State, read_tables};
+use bp_samples::matters::{ROWS, ZEROS, bad, kept, matter, refusal, spoil};
 use std::alloc::Global;
 use std::test::Fail;
 

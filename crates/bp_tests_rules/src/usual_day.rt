@@ -1,11 +1,11 @@
 // A day over the usual batch, call by call, with a restart at noon.
-use crate::calls::{Made, make};
-use crate::told::{Told, fits};
-use crate::usual_batch::imported;
-use crate::usual_calls::{AFTERNOON, EVENING, JOINING, MORNING};
-use crate::usual_matter::{first_misfit, usual_matter};
 use bp_keep::Keeper;
 use bp_rules::load_tables;
+use bp_samples::calls::{Made, make};
+use bp_samples::told::{Told, fits};
+use bp_samples::usual_batch::imported;
+use bp_samples::usual_calls::{AFTERNOON, EVENING, JOINING, MORNING};
+use bp_samples::usual_matter::{first_misfit, usual_matter};
 use std::test::Fail;
 
 const LETTER_ROW: &[u8] = b"\x01\x0A\0\0\02019-03-04\x02\0\0\0Ng\x0B\0\0\0Ortiz, Berg\

@@ -3,16 +3,16 @@
 ghost use Rattle.std.specs.Prelude.{IfOk};
 ghost use Rattle.bp_freeze.specs.Keeping.{Keeps};
 
-use crate::batches::text;
-use crate::calls::Made::{Freeze, GetProduction};
-use crate::calls::Row;
-use crate::told::Told::{Produced, SplitFamily};
-use crate::told::{NO_PRODUCTION, REQUEST_DIFFERS, ROLE_REFUSED, VOLUME_TAKEN};
-use crate::usual_matter::{first_misfit, usual_matter};
 use bp_core::{NumberList, Refusal, Rule, RuleKind};
 use bp_matter::{Production, Tables};
 use bp_outside::{FileList, FileRow, MemFolder};
 use bp_press::{PressRefusal, Pressed, file_of, press};
+use bp_samples::batches::text;
+use bp_samples::calls::Made::{Freeze, GetProduction};
+use bp_samples::calls::Row;
+use bp_samples::told::Told::{Produced, SplitFamily};
+use bp_samples::told::{NO_PRODUCTION, REQUEST_DIFFERS, ROLE_REFUSED, VOLUME_TAKEN};
+use bp_samples::usual_matter::{first_misfit, usual_matter};
 use std::alloc::{AllocError, Global};
 use std::test::Fail;
 

@@ -1,6 +1,6 @@
 // Two productions of one matter: their ids and volumes differ, and no family stands in both.
-use crate::matters::{INVALID, PAGE, kept, matter, refusal};
 use bp_core::{Bytes, OutOfMemory, Refusal, Row};
+use bp_samples::matters::{INVALID, PAGE, kept, matter, refusal};
 use std::alloc::Global;
 use std::test::Fail;
 

@@ -1,8 +1,8 @@
 // Batches that are read whole, and bad ones with the first rule that each breaks.
-use crate::batches::{HEADER, NEVER, PAGES, TWO, WORDS, batch_in};
 use bp_core::{Rule, RuleKind, Text};
 use bp_import::ImportRefusal;
 use bp_matter::BatchPage;
+use bp_samples::batches::{HEADER, NEVER, PAGES, TWO, WORDS, batch_in};
 use std::alloc::{AllocError, Global};
 use std::test::Fail;
 

@@ -1,5 +1,5 @@
 // Rows that are of their form and of no valid matter: each breaks a fact of validity.
-use crate::matters::{
+use bp_samples::matters::{
     BATCH, BOXED, CALLED, DOC, INVALID, LOGGED, PAGE, PREFIX, PRODUCTION, STAFF, kept, matter,
     refusal, spoil,
 };

@@ -1,17 +1,17 @@
 // Each rule that a call of a review may break, alone and before those that come behind it.
-use crate::calls::Made::{
+use bp_core::{Basis, Rect, Role, Treatment};
+use bp_samples::calls::Made::{
     AddStaff, Confirm, DropBox, FreeField, HoldField, PutBox, PutEntry, SeeDoc, SeePage, SeeWords,
     SendBack, SetCall,
 };
-use crate::calls::Row;
-use crate::told::Told::{Done, NoDocument, NoPage, Staff, StaffThere};
-use crate::told::{
+use bp_samples::calls::Row;
+use bp_samples::told::Told::{Done, NoDocument, NoPage, Staff, StaffThere};
+use bp_samples::told::{
     BAD_BASIS, BOX_OUTSIDE, BOX_SHAPE, BOXES_REMAIN, ENTRY_MISSING, NO_FIELD, NOT_CALLED,
     NOTHING_REDACTED, SAME_PERSON, TEXT_REFUSED, Texts, WRONG_TREATMENT,
 };
-use crate::usual_calls::COUNSEL;
-use crate::usual_matter::{begun, first_misfit, first_unrefused};
-use bp_core::{Basis, Rect, Role, Treatment};
+use bp_samples::usual_calls::COUNSEL;
+use bp_samples::usual_matter::{begun, first_misfit, first_unrefused};
 use std::test::Fail;
 
 const AC: Basis = Basis::Ac;

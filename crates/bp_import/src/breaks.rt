@@ -13,13 +13,13 @@ use std::alloc::Global;
 use std::collections::BTreeMap;
 
 /// The place of each line, from 0, by its image id.
-pub type Places<'a> = BTreeMap<&'a str, usize>;
+pub(crate) type Places<'a> = BTreeMap<&'a str, usize>;
 
 /// Tests that breaks and records go together, and gives the places of the lines. DocBreaks with the
 /// first line, from 1, that is broken: it repeats an image id, it has a break and isn't the first
 /// page of the next record, or it is line 1 and has no break. Where records are left, that is the
 /// line past the last.
-pub fn places_by_breaks<'a>(
+pub(crate) fn places_by_breaks<'a>(
     alloc: Global,
     docs: &[Record],
     lines: &'a [OptLine],
@@ -89,7 +89,7 @@ fn docs_after<'a>(left: &'a [Record], line: &OptLine) -> &'a [Record]
 }
 
 /// How many pages each document has: that of its break, and those up to the next.
-pub fn page_counts(alloc: Global, lines: &[OptLine]) -> Result<Vec<usize>, OutOfMemory>
+pub(crate) fn page_counts(alloc: Global, lines: &[OptLine]) -> Result<Vec<usize>, OutOfMemory>
     ensures { IfOk result (λ counts. counts.items ≡ page_counts lines.now) }
 {
     let mut counts = Vec::new(alloc);

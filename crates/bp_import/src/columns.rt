@@ -14,7 +14,7 @@ pub const MAX_COLUMN: usize = 64;
 
 /// Whether an import takes these columns: BEGDOC and BEGATTACH are among them, no two have one
 /// name, and each name has 1 to 64 bytes and no newline.
-pub fn are_columns(alloc: Global, columns: &[Text]) -> Result<bool, OutOfMemory>
+pub(crate) fn are_columns(alloc: Global, columns: &[Text]) -> Result<bool, OutOfMemory>
     ensures { IfOk result (λ taken. taken ≡ are_columns columns.now) }
 {
     if !has_begdoc(columns) || !has_begattach(columns) || !are_named(columns) {
@@ -70,14 +70,14 @@ fn all_differ(alloc: Global, texts: &[Text]) -> Result<bool, OutOfMemory>
 }
 
 /// Whether the column names the first page of a document.
-pub fn is_begdoc(column: &Text) -> bool
+pub(crate) fn is_begdoc(column: &Text) -> bool
     ensures { result ≡ is_begdoc column.now }
 {
     column.as_str() == "BEGDOC"
 }
 
 /// Whether the column names the first page of a family.
-pub fn is_begattach(column: &Text) -> bool
+pub(crate) fn is_begattach(column: &Text) -> bool
     ensures { result ≡ is_begattach column.now }
 {
     column.as_str() == "BEGATTACH"
@@ -91,7 +91,7 @@ fn is_end(column: &Text) -> bool
 }
 
 /// Whether the column becomes a field.
-pub fn is_field(column: &Text) -> bool
+pub(crate) fn is_field(column: &Text) -> bool
     ensures { result ≡ is_field column.now }
 {
     !is_begdoc(column) && !is_begattach(column) && !is_end(column)

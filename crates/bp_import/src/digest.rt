@@ -7,13 +7,13 @@ use sha2::{Digest, Sha256};
 /// The digest of files that are taken one after another: the SHA-256 (FIPS 180-4) of each one's
 /// length as 64 bits, the low byte first, and its bytes.
 #[derive(Drop)]
-pub struct FilesDigest {
+pub(crate) struct FilesDigest {
     hasher: Sha256,
 }
 
 impl FilesDigest {
     /// No file is taken yet.
-    pub fn new() -> FilesDigest
+    pub(crate) fn new() -> FilesDigest
         ensures { HasTaken result [] }
     {
         FilesDigest {
@@ -22,7 +22,7 @@ impl FilesDigest {
     }
 
     /// Takes one more file.
-    pub fn take(&mut self, bytes: &[u8])
+    pub(crate) fn take(&mut self, bytes: &[u8])
         ensures { (files : List (List ℕ)) → HasTaken self.old files
             → HasTaken self.new (files ++ bytes.now ∷ []) }
     {
@@ -32,7 +32,7 @@ impl FilesDigest {
     }
 
     /// The digest of the files that were taken.
-    pub fn finish(self) -> [u8; 32]
+    pub(crate) fn finish(self) -> [u8; 32]
         ensures { (files : List (List ℕ)) → HasTaken self files → result ≡ digest_of files }
     {
         self.hasher.finalize()

@@ -11,7 +11,7 @@ use std::alloc::Global;
 /// The place of the parent of each document, from 1. A record names the first page of its family,
 /// or nothing where that is its own. FamilyBroken with the number of the first record, from 1, whose
 /// family is neither its own nor that of the record before.
-pub fn parents_of(alloc: Global, docs: &[Record]) -> Result<Vec<u32>, Refusal>
+pub(crate) fn parents_of(alloc: Global, docs: &[Record]) -> Result<Vec<u32>, Refusal>
     requires { length docs.now < 2 ^ 32 }
     ensures { Answers (λ parents. parents.items) result (parents_of docs.now) }
 {

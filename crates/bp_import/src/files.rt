@@ -28,7 +28,7 @@ pub const IMAGE: u64 = 3;
 /// The bytes of a file of a batch. FileAbsent where there is none at this path, FileTooLong where
 /// it has more than FILE_LIMIT bytes, each with the number of the file and the OPT line of an
 /// image, which is 0 for the others.
-pub fn read_file<S: Source>(
+pub(crate) fn read_file<S: Source>(
     alloc: Global,
     source: &mut S,
     path: &Text,
@@ -71,7 +71,7 @@ fn file_rule(kind: RuleKind, which: u64, line: u32) -> Rule
 }
 
 /// The path of a file in the folder of a batch.
-pub fn path_below(alloc: Global, name: &Text, path: &str) -> Result<Text, OutOfMemory>
+pub(crate) fn path_below(alloc: Global, name: &Text, path: &str) -> Result<Text, OutOfMemory>
     ensures { IfOk result (λ joined. joined ≡ below name.now (chars path.now)) }
 {
     let mut joined = String::from_str(alloc, name.as_str())?;

@@ -21,14 +21,7 @@ mod tests;
 mod word_pages;
 
 pub use batch::read_batch;
-pub use breaks::{Places, page_counts, places_by_breaks};
-pub use columns::{MAX_COLUMN, are_columns, is_begattach, is_begdoc, is_field};
-pub use digest::FilesDigest;
-pub use families::parents_of;
-pub use files::{DAT, FILE_LIMIT, IMAGE, OPT, WORDS, path_below, read_file};
+pub use columns::MAX_COLUMN;
+pub use files::{DAT, FILE_LIMIT, IMAGE, OPT, WORDS};
 pub use laws::one_batch;
-pub use records::{Record, fields_of, records_of};
 pub use refusals::ImportRefusal;
-pub use scans::{Images, PageList, ScanFile, read_image, read_images};
-pub use tables::read_table;
-pub use word_pages::{places_of, words_inside};

@@ -11,17 +11,17 @@ use std::alloc::Global;
 
 /// What a record says of its document.
 #[derive(Debug, Drop)]
-pub struct Record {
+pub(crate) struct Record {
     /// The image id of its first page.
-    pub id: Text,
+    pub(crate) id: Text,
     /// The image id of the first page of its family; empty where that is its own.
-    pub attach: Text,
+    pub(crate) attach: Text,
     /// A value for each field of the batch, in their order.
-    pub values: TextList,
+    pub(crate) values: TextList,
 }
 
 /// The records of these rows, each as long as the columns. The rows are taken from the last on.
-pub fn records_of(
+pub(crate) fn records_of(
     alloc: Global,
     columns: &[Text],
     rows: TextTable,
@@ -41,7 +41,7 @@ pub fn records_of(
 
 /// The fields of a batch with these columns: all that an import doesn't use itself. It takes no
 /// memory.
-pub fn fields_of(columns: TextList) -> TextList
+pub(crate) fn fields_of(columns: TextList) -> TextList
     ensures { result ≡ fields_of columns }
 {
     let mut fields = columns.into_vec();

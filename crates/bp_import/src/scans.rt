@@ -16,19 +16,19 @@ use bp_tiff::read_tiff;
 use std::alloc::Global;
 
 /// A list of pages.
-pub type PageList = ListOf<Page>;
+pub(crate) type PageList = ListOf<Page>;
 
 /// An image file and the page in it.
 #[derive(Drop)]
-pub struct ScanFile {
-    pub bytes: Vec<u8>,
-    pub page: Page,
+pub(crate) struct ScanFile {
+    pub(crate) bytes: Vec<u8>,
+    pub(crate) page: Page,
 }
 
 /// The image that line `number` of the OPT file names, below the folder `name`. PathRefused, what
 /// `read_file` and `read_tiff` refuse, or PageLimit where its sides aren't those of an import; each
 /// with the line.
-pub fn read_image<S: Source>(
+pub(crate) fn read_image<S: Source>(
     alloc: Global,
     source: &mut S,
     name: &Text,
@@ -50,15 +50,15 @@ pub fn read_image<S: Source>(
 
 /// The pages of a batch, in the order of the OPT lines, and the digest of all its files.
 #[derive(Drop)]
-pub struct Images {
-    pub pages: PageList,
-    pub digest: [u8; 32],
+pub(crate) struct Images {
+    pub(crate) pages: PageList,
+    pub(crate) digest: [u8; 32],
 }
 
 /// The images of all lines, one after the other. `digest` has taken the files that were read
 /// before. A line that names the file of another is read again, and its file counts twice in the
 /// digest. What `read_image` refuses, at the first such line.
-pub fn read_images<S: Source>(
+pub(crate) fn read_images<S: Source>(
     alloc: Global,
     source: &mut S,
     name: &Text,

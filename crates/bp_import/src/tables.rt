@@ -17,7 +17,7 @@ use std::alloc::Global;
 
 /// The table of a DAT file with columns that an import takes. DatEncoding, or DatShape at line 1;
 /// then DatColumns; then DatShape at the first bad line behind.
-pub fn read_table(alloc: Global, bytes: &[u8]) -> Result<Dat, Refusal>
+pub(crate) fn read_table(alloc: Global, bytes: &[u8]) -> Result<Dat, Refusal>
     requires { length bytes.now + 3 < 2 ^ 32 }
     ensures { Answers (λ dat. dat) result (table_of bytes.now) }
 {

@@ -1,8 +1,10 @@
 // Steps of an import over files in memory, with ample memory.
-use crate::{
-    FilesDigest, Images, ImportRefusal, Record, page_counts, parents_of, places_by_breaks,
-    read_images,
-};
+use crate::breaks::{page_counts, places_by_breaks};
+use crate::digest::FilesDigest;
+use crate::families::parents_of;
+use crate::records::Record;
+use crate::refusals::ImportRefusal;
+use crate::scans::{Images, read_images};
 use bp_core::{Bytes, NumberList, Refusal, Rule, RuleKind, Text, TextList};
 use bp_load::{OptList, read_opt};
 use bp_outside::{FileList, FileRow, MemSource, paths_differ};

@@ -14,7 +14,7 @@ use std::alloc::Global;
 
 /// The place of the line of each word. WordsPage with the number of the first record, from 1, whose
 /// image id no line has.
-pub fn places_of(
+pub(crate) fn places_of(
     alloc: Global,
     places: &Places<'_>,
     rows: &[WordRow],
@@ -44,7 +44,7 @@ fn place_of(places: &Places<'_>, image: &Text) -> Option<usize>
 
 /// Tests that each word lies inside its page, at its place among the pages. WordOutside with the
 /// number of the first record, from 1, whose word doesn't.
-pub fn words_inside(rows: &[WordRow], places: &[usize], pages: &[Page]) -> Result<(), Rule>
+pub(crate) fn words_inside(rows: &[WordRow], places: &[usize], pages: &[Page]) -> Result<(), Rule>
     requires few { length rows.now < 2 ^ 32 }
     requires even { length places.now ≡ length rows.now }
     requires placed { IsTrue (are_places (length pages.now) places.now) }

@@ -49,26 +49,50 @@ pub fn small_page(alloc: Global) -> Result<Page> {
 /// The rows of a matter of this shape, with this image on each page. Each document is a family by
 /// itself.
 pub fn rows_of(alloc: Global, image: &Page, shape: Shape) -> Result<RowList, OutOfMemory> {
-    let Shape { docs, pages, words } = shape;
-    let strip = code_page(alloc, image)?;
     let mut rows = Vec::new(alloc);
-    rows.push(row(1, 1, 0, staff_body(alloc)?))?;
-    rows.push(row(2, 1, 0, field_body(alloc)?))?;
-    for doc in 1..=docs {
-        rows.push(row(3, doc, 0, doc_body(alloc, doc, pages)?))?;
+    add_row(&mut rows, 1, 1, staff_body(alloc)?)?;
+    add_row(&mut rows, 2, 1, field_body(alloc)?)?;
+    add_docs(alloc, &mut rows, shape)?;
+    add_pages(alloc, &mut rows, image, shape)?;
+    add_row(&mut rows, 11, 1, batch_body(alloc)?)?;
+    add_words(alloc, &mut rows, shape)?;
+    Ok(ListOf::from_vec(rows))
+}
+
+// A row with one key.
+fn add_row(rows: &mut Vec<Row>, kind: u8, key: u32, body: Vec<u8>) -> Result<(), AllocError> {
+    rows.push(row(kind, key, 0, body))
+}
+
+fn add_docs(alloc: Global, rows: &mut Vec<Row>, shape: Shape) -> Result<(), AllocError> {
+    for doc in 1..=shape.docs {
+        add_row(rows, 3, doc, doc_body(alloc, doc, shape.pages)?)?;
     }
-    for doc in 1..=docs {
-        for page in 1..=pages {
+    Ok(())
+}
+
+fn add_pages(
+    alloc: Global,
+    rows: &mut Vec<Row>,
+    image: &Page,
+    shape: Shape,
+) -> Result<(), OutOfMemory> {
+    let strip = code_page(alloc, image)?;
+    for doc in 1..=shape.docs {
+        for page in 1..=shape.pages {
             rows.push(row(4, doc, page, page_body(alloc, image, strip.as_slice())?))?;
         }
     }
-    rows.push(row(11, 1, 0, batch_body(alloc)?))?;
-    for doc in 1..=docs {
-        for page in 1..=pages {
-            rows.push(row(12, doc, page, words_body(alloc, words)?))?;
+    Ok(())
+}
+
+fn add_words(alloc: Global, rows: &mut Vec<Row>, shape: Shape) -> Result<(), AllocError> {
+    for doc in 1..=shape.docs {
+        for page in 1..=shape.pages {
+            rows.push(row(12, doc, page, words_body(alloc, shape.words)?))?;
         }
     }
-    Ok(ListOf::from_vec(rows))
+    Ok(())
 }
 
 fn row(kind: u8, k1: u32, k2: u32, body: Vec<u8>) -> Row {

@@ -293,10 +293,8 @@ impl Office {
     // Asks for the first page of a document: its last byte.
     fn see_page(&mut self, doc: DocNo) -> Result<u64> {
         let page = PageNo(1);
-        match self.reply(&REVIEWER, &Call::SeePage { doc, page })? {
-            Reply::Image(image) => Ok(last_byte(image.strip())),
-            _ => bail!("there is no page"),
-        }
+        let reply = self.reply(&REVIEWER, &Call::SeePage { doc, page })?;
+        image_byte(&reply)
     }
 
     // Copies the bytes of a page: its last byte.
@@ -318,6 +316,13 @@ fn pages_of<R: Files + Alloc>(rt: &R, alloc: Global, file: &str, docs: u32) -> R
         words: 0,
     };
     called(alloc, &image, shape, 0)
+}
+
+fn image_byte(reply: &Reply) -> Result<u64> {
+    match reply {
+        Reply::Image(image) => Ok(last_byte(image.strip())),
+        _ => bail!("there is no page"),
+    }
 }
 
 fn last_byte(bytes: &[u8]) -> u64 {

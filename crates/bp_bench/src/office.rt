@@ -48,7 +48,7 @@ pub fn called(alloc: Global, image: &Page, shape: Shape, boxes: u32) -> Result<O
 pub fn confirmed(alloc: Global, image: &Page, shape: Shape, boxes: u32) -> Result<Office> {
     let mut office = called(alloc, image, shape, boxes)?;
     for doc in 1..=shape.docs {
-        office.ask(&SECOND, &Call::Confirm { doc: DocNo(doc) })?;
+        office.confirm(DocNo(doc))?;
     }
     Ok(office)
 }
@@ -126,6 +126,11 @@ impl Office {
             basis: Basis::Pi,
         };
         self.ask(&REVIEWER, &call)
+    }
+
+    /// The second confirms the call of a document.
+    pub fn confirm(&mut self, doc: DocNo) -> Result<()> {
+        self.ask(&SECOND, &Call::Confirm { doc })
     }
 
     /// A request for the first documents, so many, with their authors.

@@ -1,8 +1,8 @@
 // A volume of the example batch: `volume FOLDER NAME OUT` takes the batch NAME below a folder into a
 // new matter with a keeper in memory, decides its documents as a small office would, freezes the
 // request R-1 and presses its volume below the folder OUT.
-use crate::made::LEAD;
-use crate::office::{ID, Office, REVIEWER, SECOND};
+use crate::made::{FIELD, LEAD};
+use crate::office::{ID, Office, REVIEWER};
 use anyhow::{Result, bail};
 use bp_core::{Basis, DocNo, NumberList, PageNo, Rect, RowList, Text, Treatment};
 use bp_import::read_batch;
@@ -102,10 +102,7 @@ impl Office {
             self.call(doc)?;
         }
         self.put_boxes()?;
-        let field = self.text("AUTHOR")?;
-        let doc = DocNo(LIST_OF_LEAKS);
-        let basis = Basis::Pi;
-        self.ask(&REVIEWER, &Call::HoldField { doc, field, basis })?;
+        self.hold_author(DocNo(LIST_OF_LEAKS))?;
         self.enter(
             ADVICE_ASKED,
             [
@@ -120,9 +117,15 @@ impl Office {
             ["2019-05-02", "Berg", "Ng", "Note quoting counsel"],
         )?;
         for doc in [ADVICE_ASKED, LIST_OF_LEAKS, ADVICE_TOLD] {
-            self.ask(&SECOND, &Call::Confirm { doc: DocNo(doc) })?;
+            self.confirm(DocNo(doc))?;
         }
         Ok(())
+    }
+
+    fn hold_author(&mut self, doc: DocNo) -> Result<()> {
+        let field = self.text(FIELD)?;
+        let basis = Basis::Pi;
+        self.ask(&REVIEWER, &Call::HoldField { doc, field, basis })
     }
 
     fn call(&mut self, doc: u32) -> Result<()> {

@@ -37,14 +37,18 @@ fn freeze_once(alloc: Global, office: &Office, request: &Request) -> Result<u64>
 /// The sum of the numbers of items.
 pub fn copies(alloc: Global, operands: &[String]) -> Result<u64> {
     let task = task_of(operands)?;
-    let office = office_of(alloc, task)?;
-    let request = office.request(task.docs)?;
-    let production = frozen(alloc, &office, &request)?;
+    let production = production_of(alloc, task)?;
     let mut sum = 0u64;
     for _ in 0..task.times {
         sum = sum.wrapping_add(copy_once(alloc, &production)?);
     }
     Ok(sum)
+}
+
+fn production_of(alloc: Global, task: Task) -> Result<Production> {
+    let office = office_of(alloc, task)?;
+    let request = office.request(task.docs)?;
+    frozen(alloc, &office, &request)
 }
 
 fn copy_once(alloc: Global, production: &Production) -> Result<u64> {

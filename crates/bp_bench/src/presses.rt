@@ -35,21 +35,28 @@ fn task_of<'a, R: Files + Alloc>(
     let [file, pages, words, times, out] = operands else {
         bail!("a job of a press has the words FILE PAGES WORDS TIMES OUT");
     };
-    let image = page_of(rt, alloc, file.as_str())?;
     let shape = Shape {
         docs: pages.parse::<u32>()?,
         pages: 1,
         words: words.parse::<u32>()?,
     };
-    let mut office = confirmed(alloc, &image, shape, 1)?;
-    let request = office.request(shape.docs)?;
-    office.freeze(request)?;
+    let times = times.parse::<u32>()?;
+    let image = page_of(rt, alloc, file.as_str())?;
+    let office = frozen(alloc, &image, shape)?;
+    let out = out.as_str();
     Ok(Task {
         office,
         image,
-        times: times.parse::<u32>()?,
-        out: out.as_str(),
+        times,
+        out,
     })
+}
+
+fn frozen(alloc: Global, image: &Page, shape: Shape) -> Result<Office> {
+    let mut office = confirmed(alloc, image, shape, 1)?;
+    let request = office.request(shape.docs)?;
+    office.freeze(request)?;
+    Ok(office)
 }
 
 /// The sum of the numbers of files.

@@ -27,9 +27,11 @@ const ADVICE_TOLD: u32 = 10;
 
 const DOCUMENTS: u32 = 12;
 
-// An address and a telephone number, an illness, and a paragraph of advice: document, number, page,
-// left, top, width and height, basis.
-const BOXES: [(u32, u32, u32, (u32, u32, u32, u32), Basis); 3] = [
+// A box: document, number, page, left, top, width and height, basis.
+type Leak = (u32, u32, u32, (u32, u32, u32, u32), Basis);
+
+// An address and a telephone number, an illness, and a paragraph of advice.
+const BOXES: [Leak; 3] = [
     (LIST_OF_LEAKS, 1, 1, (1420, 460, 680, 60), Basis::Pi),
     (LIST_OF_LEAKS, 2, 1, (325, 950, 1900, 180), Basis::Pi),
     (ADVICE_TOLD, 1, 2, (430, 662, 1690, 670), Basis::Ac),
@@ -144,22 +146,28 @@ impl Office {
     }
 
     fn put_boxes(&mut self) -> Result<()> {
-        for (doc, num, page, (left, top, width, height), basis) in BOXES {
-            let call = Call::PutBox {
-                doc: DocNo(doc),
-                num,
-                page: PageNo(page),
-                rect: Rect {
-                    left,
-                    top,
-                    width,
-                    height,
-                },
-                basis,
-            };
-            self.ask(&REVIEWER, &call)?;
+        for leak in BOXES {
+            self.put_leak(leak)?;
         }
         Ok(())
+    }
+
+    fn put_leak(&mut self, leak: Leak) -> Result<()> {
+        let (doc, num, page, (left, top, width, height), basis) = leak;
+        let rect = Rect {
+            left,
+            top,
+            width,
+            height,
+        };
+        let call = Call::PutBox {
+            doc: DocNo(doc),
+            num,
+            page: PageNo(page),
+            rect,
+            basis,
+        };
+        self.ask(&REVIEWER, &call)
     }
 
     // What the privilege log says of a document.

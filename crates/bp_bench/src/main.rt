@@ -12,14 +12,29 @@
 //     bp_bench import FOLDER NAME TIMES
 //     bp_bench import_parts FOLDER NAME TIMES
 //     bp_bench volume FOLDER NAME OUT
+//     bp_bench calls DOCS BOXES MIX COUNT
+//     bp_bench call_rows DOCS BOXES MIX COUNT
+//     bp_bench see FILE DOCS COUNT
+//     bp_bench page_copies FILE DOCS COUNT
+//     bp_bench freeze DOCS BOXES TIMES
+//     bp_bench production_copies DOCS BOXES TIMES
+//     bp_bench freeze_steps DOCS BOXES TIMES
+//     bp_bench offices DOCS BOXES TIMES
+//     bp_bench press FILE PAGES WORDS TIMES OUT
+//     bp_bench press_parts FILE PAGES WORDS TIMES OUT
 #![tactic(auto)]
 
+mod calls;
 mod codes;
 mod dat;
+mod freezes;
 mod import;
+mod made;
 mod matter;
+mod office;
 mod opt;
 mod pages;
+mod presses;
 mod sums;
 mod volume;
 mod words;
@@ -53,6 +68,28 @@ fn run<R: Files + Alloc>(rt: &R, alloc: Global, words: &[String]) -> Result<u64>
         "import" => import::import(rt, alloc, operands),
         "import_parts" => import::parts(rt, alloc, operands),
         "volume" => volume::volume(rt, alloc, operands),
+        other => decide_or_press(rt, alloc, other, operands),
+    }
+}
+
+// The jobs of review calls, of the freeze and of the press.
+fn decide_or_press<R: Files + Alloc>(
+    rt: &R,
+    alloc: Global,
+    job: &str,
+    operands: &[String],
+) -> Result<u64> {
+    match job {
+        "calls" => calls::run(alloc, operands),
+        "call_rows" => calls::rows(alloc, operands),
+        "see" => calls::see(rt, alloc, operands),
+        "page_copies" => calls::copies(rt, alloc, operands),
+        "freeze" => freezes::run(alloc, operands),
+        "production_copies" => freezes::copies(alloc, operands),
+        "freeze_steps" => freezes::steps(alloc, operands),
+        "offices" => freezes::offices(alloc, operands),
+        "press" => presses::press(rt, alloc, operands),
+        "press_parts" => presses::parts(rt, alloc, operands),
         other => bail!("no job {other}"),
     }
 }

@@ -1,26 +1,18 @@
 // A volume of the example batch: `volume FOLDER NAME OUT` takes the batch NAME below a folder into a
 // new matter with a keeper in memory, decides its documents as a small office would, freezes the
 // request R-1 and presses its volume below the folder OUT.
+use crate::made::{FIELD, LEAD};
+use crate::office::{ID, Office, REVIEWER};
 use anyhow::{Result, bail};
-use bp_bates::Prefix;
-use bp_core::{
-    Basis, DocNo, ListOf, NumberList, OutOfMemory, PageNo, Rect, Role, RowList, Text, Treatment,
-};
+use bp_core::{Basis, DocNo, NumberList, PageNo, Rect, RowList, Text, Treatment};
 use bp_import::read_batch;
 use bp_keep::MemKeeper;
-use bp_matter::{Call, Request, Tables};
+use bp_matter::{Call, Tables};
 use bp_outside::{FileFolder, FileSource, Folder, Source};
 use bp_press::press;
-use bp_rules::{begin, step, step_import};
+use bp_rules::{begin, step_import};
 use std::alloc::Global;
 use std::rt::Files;
-
-// The digests of the keys of the lead, of a reviewer and of a second.
-const LEAD: [u8; 32] = [1; 32];
-
-const REVIEWER: [u8; 32] = [2; 32];
-
-const SECOND: [u8; 32] = [3; 32];
 
 // Documents that have nothing to do with the request.
 const NOT_RESPONSIVE: [u32; 2] = [7, 8];
@@ -35,12 +27,11 @@ const ADVICE_TOLD: u32 = 10;
 
 const DOCUMENTS: u32 = 12;
 
-// The id of the request that is produced.
-const ID: &str = "R-1";
+// A box: document, number, page, left, top, width and height, basis.
+type Leak = (u32, u32, u32, (u32, u32, u32, u32), Basis);
 
-// An address and a telephone number, an illness, and a paragraph of advice: document, number, page,
-// left, top, width and height, basis.
-const BOXES: [(u32, u32, u32, (u32, u32, u32, u32), Basis); 3] = [
+// An address and a telephone number, an illness, and a paragraph of advice.
+const BOXES: [Leak; 3] = [
     (LIST_OF_LEAKS, 1, 1, (1420, 460, 680, 60), Basis::Pi),
     (LIST_OF_LEAKS, 2, 1, (325, 950, 1900, 180), Basis::Pi),
     (ADVICE_TOLD, 1, 2, (430, 662, 1690, 670), Basis::Ac),
@@ -69,7 +60,8 @@ fn decided<S: Source>(alloc: Global, source: &mut S, name: &Text) -> Result<Offi
     };
     office.staff()?;
     office.review()?;
-    office.freeze()?;
+    let request = office.request(DOCUMENTS)?;
+    office.freeze(request)?;
     Ok(office)
 }
 
@@ -88,9 +80,9 @@ fn imported<S: Source>(alloc: Global, source: &mut S, name: &Text) -> Result<(Ta
     }
 }
 
-// Writes the volume of the production of this id: its number of files.
+/// Writes the volume of the production of this id: its number of files.
 #[tactic(auto, using(crate::proofs::VolumeLemmas::found_is_kept))]
-fn write_volume<F: Folder>(
+pub fn write_volume<F: Folder>(
     alloc: Global,
     tables: &Tables,
     id: &Text,
@@ -105,36 +97,14 @@ fn write_volume<F: Folder>(
     }
 }
 
-// A matter and those who decide in it.
-#[derive(Drop)]
-struct Office {
-    alloc: Global,
-    tables: Tables,
-    keeper: MemKeeper,
-}
-
 impl Office {
-    // The lead takes in a reviewer and one who confirms.
-    fn staff(&mut self) -> Result<()> {
-        self.add_staff("Ellis", Role::Reviewer, REVIEWER)?;
-        self.add_staff("Marlow", Role::Second, SECOND)
-    }
-
-    fn add_staff(&mut self, name: &str, role: Role, digest: [u8; 32]) -> Result<()> {
-        let name = self.text(name)?;
-        self.ask(&LEAD, Call::AddStaff { name, role, digest })
-    }
-
     // The reviewer calls each document and says what is held back; the second confirms.
     fn review(&mut self) -> Result<()> {
         for doc in 1..=DOCUMENTS {
             self.call(doc)?;
         }
         self.put_boxes()?;
-        let field = self.text("AUTHOR")?;
-        let doc = DocNo(LIST_OF_LEAKS);
-        let basis = Basis::Pi;
-        self.ask(&REVIEWER, Call::HoldField { doc, field, basis })?;
+        self.hold_author(DocNo(LIST_OF_LEAKS))?;
         self.enter(
             ADVICE_ASKED,
             [
@@ -149,9 +119,15 @@ impl Office {
             ["2019-05-02", "Berg", "Ng", "Note quoting counsel"],
         )?;
         for doc in [ADVICE_ASKED, LIST_OF_LEAKS, ADVICE_TOLD] {
-            self.ask(&SECOND, Call::Confirm { doc: DocNo(doc) })?;
+            self.confirm(DocNo(doc))?;
         }
         Ok(())
+    }
+
+    fn hold_author(&mut self, doc: DocNo) -> Result<()> {
+        let field = self.text(FIELD)?;
+        let basis = Basis::Pi;
+        self.ask(&REVIEWER, &Call::HoldField { doc, field, basis })
     }
 
     fn call(&mut self, doc: u32) -> Result<()> {
@@ -166,26 +142,32 @@ impl Office {
             treatment,
             designation: self.text(designation)?,
         };
-        self.ask(&REVIEWER, call)
+        self.ask(&REVIEWER, &call)
     }
 
     fn put_boxes(&mut self) -> Result<()> {
-        for (doc, num, page, (left, top, width, height), basis) in BOXES {
-            let call = Call::PutBox {
-                doc: DocNo(doc),
-                num,
-                page: PageNo(page),
-                rect: Rect {
-                    left,
-                    top,
-                    width,
-                    height,
-                },
-                basis,
-            };
-            self.ask(&REVIEWER, call)?;
+        for leak in BOXES {
+            self.put_leak(leak)?;
         }
         Ok(())
+    }
+
+    fn put_leak(&mut self, leak: Leak) -> Result<()> {
+        let (doc, num, page, (left, top, width, height), basis) = leak;
+        let rect = Rect {
+            left,
+            top,
+            width,
+            height,
+        };
+        let call = Call::PutBox {
+            doc: DocNo(doc),
+            num,
+            page: PageNo(page),
+            rect,
+            basis,
+        };
+        self.ask(&REVIEWER, &call)
     }
 
     // What the privilege log says of a document.
@@ -201,34 +183,6 @@ impl Office {
             recipients: self.text(recipients)?,
             description: self.text(description)?,
         };
-        self.ask(&REVIEWER, call)
-    }
-
-    // The lead asks for a production of all documents.
-    fn freeze(&mut self) -> Result<()> {
-        let request = Request {
-            id: self.text(ID)?,
-            volume: self.text("VOL001")?,
-            prefix: Prefix {
-                text: self.text("ABC")?,
-                width: 8,
-            },
-            from: DocNo(1),
-            to: DocNo(DOCUMENTS),
-            fields: ListOf::from_vec(vec![in self.alloc; self.text("AUTHOR")?]?),
-        };
-        self.ask(&LEAD, Call::Freeze { request })
-    }
-
-    // Makes a call, whose reply isn't looked at.
-    fn ask(&mut self, key: &[u8; 32], call: Call) -> Result<()> {
-        match step(self.alloc, &mut self.tables, &mut self.keeper, key, &call) {
-            Ok(_) => Ok(()),
-            Err(refusal) => bail!("a call is refused: {refusal}"),
-        }
-    }
-
-    fn text(&self, characters: &str) -> Result<Text, OutOfMemory> {
-        Ok(Text::from_string(String::from_str(self.alloc, characters)?))
+        self.ask(&REVIEWER, &call)
     }
 }

@@ -61,7 +61,8 @@ pub fn rows_of(alloc: Global, image: &Page, shape: Shape) -> Result<RowList, Out
 
 // A row with one key.
 fn add_row(rows: &mut Vec<Row>, kind: u8, key: u32, body: Vec<u8>) -> Result<(), AllocError> {
-    rows.push(row(kind, key, 0, body))
+    rows.push(row(kind, key, 0, body))?;
+    Ok(())
 }
 
 fn add_docs(alloc: Global, rows: &mut Vec<Row>, shape: Shape) -> Result<(), AllocError> {

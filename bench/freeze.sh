@@ -14,12 +14,12 @@ trap 'rm -rf "$scratch"' EXIT
 
 # job, documents: the seconds of one
 one_of() {
-    times=$((400000 / $2))
+    times=$((4000000 / $2))
     python3 "$here/cost.py" 3 "$times" - "$bench" "$1" "$2" 2 1 -- "$bench" "$1" "$2" 2 $((times + 1)) | cut -d ' ' -f 1
 }
 
 # documents: the seconds of a step
-step_of() { python3 "$here/cost.py" 3 5 - "$bench" offices "$1" 2 5 -- "$bench" freeze_steps "$1" 2 5 | cut -d ' ' -f 1; }
+step_of() { python3 "$here/cost.py" 5 10 - "$bench" offices "$1" 2 10 -- "$bench" freeze_steps "$1" 2 10 | cut -d ' ' -f 1; }
 
 freeze=$(one_of freeze "$docs")
 copy=$(one_of production_copies "$docs")

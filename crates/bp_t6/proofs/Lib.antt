@@ -9,6 +9,7 @@ pub mod LawLemmas
 pub mod LeastLemmas
 pub mod LookLemmas
 pub mod MissingLemmas
+pub mod NearLemmas
 pub mod OneFaultLemmas
 pub mod OneReadingLemmas
 pub mod OneStopLemmas

@@ -1,7 +1,8 @@
 -- a1, a2, b1 and b2 in lists of places.
-use Rattle.std.proofs.Common.{ℕ, zero, suc, ◌+◌, ◌*◌, ◌-◌, ◌<◌, ◌≤◌, ◌≡◌, Bool, true, false, not, List, length, refl, ap, sym, ◌∙◌, subst, arith, inl, inr, ◌⊎◌}
-use Rattle.std.proofs.lemmas.Bool.{cases_lt}
+use Rattle.std.proofs.Common.{ℕ, zero, suc, ◌+◌, ◌*◌, ◌-◌, ◌<◌, ◌≤◌, ◌≡◌, Bool, true, false, not, nat_lt, List, length, refl, ap, sym, ◌∙◌, subst, arith, inl, inr, ◌⊎◌}
+use Rattle.std.proofs.lemmas.Bool.{cases_lt, lt-ltb, le-ltb}
 use Rattle.std.proofs.lemmas.List.{get_or_past}
+use Rattle.std.specs.Int.{from_bool}
 use Rattle.bp_rows.specs.Changes.{differs, place_at, odd, Rises, Shows}
 use Rattle.bp_rows.proofs.ShownLemmas.{odd_one, odd_two, twice, up}
 use Rattle.bp_t6.specs.Places.{Place, leaves, least, a1, b1}
@@ -197,3 +198,26 @@ odd_steps start zero = let e : start + 2 * zero ≡ start = omega arith in ap od
 odd_steps start (suc steps) =
     let e : start + 2 * suc steps ≡ start + 2 * steps + 2 = omega arith in
     ap odd e ∙ odd_two (start + 2 * steps) ∙ odd_steps start steps
+
+-- one step where the first place is left of another, and one more where the second is
+pub two_steps : (places : List ℕ) (width start right one two : ℕ) → Rises places width → one ≡ from_bool (nat_lt (place_at places width start) right) → two ≡ from_bool (nat_lt (place_at places width (start + 2)) right)
+    → ((j : ℕ) → j + 2 ≡ start → place_at places width j < right) → (j : ℕ) → j + 2 ≡ start + 2 * (one + two) → place_at places width j < right
+two_steps places width start right one two rises is_one is_two behind j e =
+    let x = place_at places width start in let y = place_at places width (start + 2) in
+    let rise : x ≤ y = (let mid : start + 1 + 1 ≡ start + 2 = omega arith in omega (arith, up places width start rises, up places width (start + 1) rises, ap (place_at places width) mid)) in
+    elim (cases_lt x right) [
+      | inl less ↦
+          let a : one ≡ 1 = is_one ∙ ap from_bool (lt-ltb x right less) in
+          elim (cases_lt y right) [
+            | inl more ↦
+                let b : two ≡ 1 = is_two ∙ ap from_bool (lt-ltb y right more) in
+                let same : j ≡ start + 2 = omega arith in omega (arith, ap (place_at places width) same)
+            | inr past ↦
+                let b : two ≡ 0 = is_two ∙ ap from_bool (le-ltb y right past) in
+                let same : j ≡ start = omega arith in omega (arith, ap (place_at places width) same)
+          ]
+      | inr past ↦
+          let a : one ≡ 0 = is_one ∙ ap from_bool (le-ltb x right past) in
+          let b : two ≡ 0 = is_two ∙ ap from_bool (le-ltb y right (omega arith)) in
+          behind j (omega arith)
+    ]

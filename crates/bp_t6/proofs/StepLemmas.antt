@@ -1,5 +1,5 @@
 -- Lemmas on one mode read: carry places and bits over to the modes of a row, and to its faults.
-use Rattle.std.proofs.Common.{Some, ℕ, ◌+◌, ◌-◌, ◌<◌, ◌≤◌, ◌≡◌, Bool, false, not, List, [], ◌∷◌, ◌++◌, length, get_or, drop, replicate, Ok, Err, Result, IfOk, IfErr, refl, ap, sym, ◌∙◌, subst, arith, inl, inr, append_assoc, length-append, length-drop}
+use Rattle.std.proofs.Common.{nat_eq, Some, ℕ, zero, suc, ◌+◌, ◌-◌, ◌<◌, ◌≤◌, ◌≡◌, Bool, true, false, not, List, [], ◌∷◌, ◌++◌, length, get_or, drop, replicate, Ok, Err, Result, IfOk, IfErr, refl, ap, sym, ◌∙◌, subst, arith, inl, inr, append_assoc, length-append, length-drop}
 use Rattle.bp_core.specs.declared.rules.RuleKind.{RuleKind}
 use Rattle.bp_core.specs.declared.rules.RuleKind.TheVariants.{T6BadPlace}
 use Rattle.bp_codes.specs.CodeLists.{mode_codes}
@@ -13,14 +13,18 @@ use Rattle.bp_codes.specs.NextCode.{next_row}
 use Rattle.bp_t6.specs.Places.{Place, start, b1, b2}
 use Rattle.bp_t6.specs.Modes.{Run, Mode, Pass, Horizontal, Vertical, HasCodes, pixels_of, code, run_bits, mode_bits, vertical_rows, after, painted, Moves, AllMove, codes_of, end_of, pixels}
 use Rattle.bp_t6.specs.Faults.{RunFault, ModeFault, RowFault, stops, due_codes, mode_fault}
-use Rattle.bp_rows.specs.Changes.{place_at, odd, Shows}
+use Rattle.bp_rows.specs.Changes.{place_at, odd, Shows, Rises}
+use Rattle.std.specs.Int.{from_bool}
+use Rattle.std.proofs.lemmas.Bool.{cond-false}
 use Rattle.bp_t6.specs.Coding.{IsNextFrom}
 use Rattle.bp_t6.specs.Turns.{Turns}
-use Rattle.bp_t6.specs.Reading.{IfFault, place_under, IsUnder, Steps, ModeReads, ModeStops, VerticalStops, RowIsRead, RowStops}
-use Rattle.bp_t6.proofs.PlaceLemmas.{b1_is, after_is}
+use Rattle.bp_t6.specs.declared.near_reader.Near.{Near}
+use Rattle.bp_t6.specs.Near.{BeginsNear, near_mode}
+use Rattle.bp_t6.specs.Reading.{IfFault, place_under, IsUnder, Steps, ModeReads, ModeStops, VerticalStops, RowIsRead, RowStops, ModesRead}
+use Rattle.bp_t6.proofs.PlaceLemmas.{b1_is, after_is, from_back, from_same, Stepped}
 use Rattle.bp_t6.proofs.LookLemmas.{row_found, row_length}
 use Rattle.bp_rows.proofs.ShownLemmas.{shows_white}
-use Rattle.bp_t6.proofs.TurnLemmas.{shows_more}
+use Rattle.bp_t6.proofs.TurnLemmas.{shows_more, turn_shows, turn_turns, turn_colour}
 
 abbrev pub at_place : ℕ → Bool → Place
 at_place right black = record { right = right; black = black }
@@ -203,13 +207,6 @@ same_stop (Err e) stop P is h = subst P (sym is) h
 
 -- ---- a row under way
 
-pub record ModesRead (over bits : List Bool) (first : ℕ) (line : List ℕ) (u : Under) : Type 0 where
-  pub modes : List Mode
-  pub move : AllMove over start modes
-  pub reads : drop first bits ≡ codes_of over start modes ++ drop u.at bits
-  pub there : end_of over start modes ≡ place_under u
-  pub shows : Shows line (u.right - 1) (pixels over start modes)
-
 all_more : (over : List Bool) (place : Place) (ms : List Mode) (m : Mode) → AllMove over place ms → Moves over (end_of over place ms) m → AllMove over place (ms ++ m ∷ [])
 all_more over place [] m all here = (here, tt)
 all_more over place (k ∷ ms) m all here = (all.0, all_more over (after over place k) ms m all.1 here)
@@ -302,3 +299,97 @@ under_none above line width u none right black from_is = record {
     ahead = omega arith;
   };
 }
+
+-- a turn right of all before it, where the colour goes over
+pub under_next : (above old new : List ℕ) (width : ℕ) (u v : Under) → IsUnder above old width u → 0 < u.right → new ≡ old ++ (v.right - 1) ∷ [] → v.black ≡ not u.black → u.right < v.right → v.right ≤ width → IsNextFrom above width v.from v.right v.black → IsUnder above new width v
+under_next above old new width u v so onward is black more within next = record {
+  within = omega arith;
+  turns = subst (λ (ts : List ℕ). Turns ts (v.right - 1)) (sym is)
+      (turn_turns old (v.right - 1) (turns_grown old (u.right - 1) (v.right - 1) so.turns (omega arith)) (λ k e. omega (arith, so.turns.until k (omega arith))));
+  colour = turn_colour old new (v.right - 1) is ∙ ap not so.colour ∙ sym black;
+  from = λ on. next;
+}
+
+not_not : (b : Bool) → not (not b) ≡ b
+not_not true = refl
+not_not false = refl
+
+-- the turns after a run
+pub run_turns : (old : List ℕ) (from to : ℕ) → Turns old from → from < to → Turns (old ++ to ∷ []) to
+run_turns old from to turns more = turn_turns old to (turns_grown old from to turns (omega arith)) (λ k e. omega (arith, turns.until k (omega arith)))
+
+-- two runs on, neither of them empty
+pub under_runs : (above old new : List ℕ) (width middle end : ℕ) (u v : Under) → IsUnder above old width u → u.right - 1 < middle → middle < end → v.right ≡ end + 1 → v.right ≤ width → new ≡ (old ++ middle ∷ []) ++ end ∷ [] → v.black ≡ u.black → IsNextFrom above width v.from v.right v.black → IsUnder above new width v
+under_runs above old new width middle end u v so first second there within is black next =
+    let mid = old ++ middle ∷ [] in
+    let last : end ≡ v.right - 1 = omega arith in
+    record {
+      within = omega arith;
+      turns = subst (λ (ts : List ℕ). Turns ts (v.right - 1)) (sym is) (subst (λ (n : ℕ). Turns (mid ++ end ∷ []) n) last (run_turns mid middle end (run_turns old (u.right - 1) middle so.turns first) second));
+      colour = turn_colour mid new end is ∙ ap not (turn_colour old mid middle refl) ∙ not_not (odd (length old)) ∙ so.colour ∙ sym black;
+      from = λ on. next;
+    }
+
+-- the code of a mode near b1
+near_bits : (n : ℕ) (black : Bool) → n ≤ 7 → mode_bits black (near_mode n) ≡ code mode_codes (get_or vertical_rows n 0)
+near_bits zero black h = refl
+near_bits (suc zero) black h = refl
+near_bits (suc (suc zero)) black h = refl
+near_bits (suc (suc (suc zero))) black h = refl
+near_bits (suc (suc (suc (suc zero)))) black h = refl
+near_bits (suc (suc (suc (suc (suc zero))))) black h = refl
+near_bits (suc (suc (suc (suc (suc (suc zero)))))) black h = refl
+near_bits (suc (suc (suc (suc (suc (suc (suc zero))))))) black h = refl
+near_bits (suc (suc (suc (suc (suc (suc (suc (suc n)))))))) black h = absurd (omega arith)
+
+-- a mode near b1 read out of a word
+pub near_reads : (bits : List Bool) (width : ℕ) (above old new : List ℕ) (u v : Under) (near : Near) → BeginsNear (drop u.at bits) near → v.at ≡ u.at + near.len
+    → ((over px : List Bool) → Shows above width over → Shows old (u.right - 1) px → Steps over px new u v (near_mode near.shift)) → ModeReads bits width above old new u v
+near_reads bits width above old new u v near begins there steps = λ over px shows_over shows.
+    let row = get_or vertical_rows near.shift 0 in
+    record {
+      mode = near_mode near.shift;
+      codes = mode_found bits u.at row near.len begins.row begins.long ∙ ap (λ k. code mode_codes row ++ drop k bits) (sym there) ∙ ap (λ bs. bs ++ drop v.at bits) (sym (near_bits near.shift u.black begins.small));
+      steps = steps over px shows_over shows;
+    }
+
+-- the place under way after a mode near b1, which stays in its colour or turns it
+pub near_under : (stays : Bool) (above old new : List ℕ) (width change : ℕ) (u v : Under) → Rises above width → IsUnder above old width u → 0 < u.right → u.right ≤ width → change ≡ u.from + from_bool stays → 0 < change
+    → (stays ≡ true → new ≡ old) → (stays ≡ false → new ≡ old ++ (v.right - 1) ∷ []) → (stays ≡ true → v.black ≡ u.black) → (stays ≡ false → v.black ≡ not u.black)
+    → u.right < v.right → v.right ≤ width → Stepped above width (change - 1) v.from v.right → IsUnder above new width v
+near_under true above old new width change u v rises so onward on is some same put kept turned less within step =
+    let back : change - 1 ≡ u.from = omega arith in
+    record {
+      within = omega arith;
+      turns = subst (λ (ts : List ℕ). Turns ts (v.right - 1)) (sym (same refl)) (turns_grown old (u.right - 1) (v.right - 1) so.turns (omega arith));
+      colour = ap (λ (ts : List ℕ). odd (length ts)) (same refl) ∙ so.colour ∙ sym (kept refl);
+      from = λ h. subst (λ (b : Bool). IsNextFrom above width v.from v.right b) (sym (kept refl))
+          (from_same above width u.from v.from u.right v.right u.black (so.from on) (omega arith) within (subst (λ (n : ℕ). Stepped above width n v.from v.right) back step));
+    }
+near_under false above old new width change u v rises so onward on is some same put kept turned less within step =
+    let here : change ≡ u.from = omega arith in
+    under_next above old new width u v so onward (put refl) (turned refl) less within
+    (subst (λ (b : Bool). IsNextFrom above width v.from v.right b) (sym (turned refl))
+    (from_back above width u.from (change - 1) v.from u.right v.right u.black rises (so.from on) (λ h. omega arith) (λ h. absurd (omega arith)) (omega arith) within step))
+
+-- the mode that it is
+pub near_steps : (stays : Bool) (above old new : List ℕ) (width change shift add : ℕ) (over px : List Bool) (u v : Under) → Shows above width over → Shows old (u.right - 1) px → IsUnder above old width u → u.right ≤ width
+    → nat_eq shift 7 ≡ stays → shift ≤ 7 → (stays ≡ true → shift ≡ 7) → (stays ≡ false → shift ≤ 6) → (stays ≡ true → add ≡ 3) → (stays ≡ false → add ≡ shift) → change ≡ u.from + from_bool stays → v.right ≡ place_at above width change + add - 2
+    → (stays ≡ true → new ≡ old) → (stays ≡ false → new ≡ old ++ (v.right - 1) ∷ []) → (stays ≡ true → v.black ≡ u.black) → (stays ≡ false → v.black ≡ not u.black)
+    → u.right < v.right → v.right ≤ width → Steps over px new u v (near_mode shift)
+near_steps true above old new width change shift add over px u v shows_over shows so on e small seven six three own is right same put kept turned less within =
+    let place : change ≡ u.from + 1 = is in
+    subst (λ (ts : List ℕ). Steps over px ts u v (near_mode shift)) (sym (same refl))
+    (subst (λ (n : ℕ). Steps over px old u v (near_mode n)) (sym (seven refl))
+    (pass_steps above width over u shows_over (so.from on) old v px so.turns so.colour shows (omega (arith, right, ap (place_at above width) place, three refl)) (kept refl) less (omega arith)))
+near_steps false above old new width change shift add over px u v shows_over shows so on e small seven six three own is right same put kept turned less within =
+    let place : change ≡ u.from = omega arith in
+    let mode : near_mode shift ≡ Vertical shift = cond-false (nat_eq shift 7) Pass (Vertical shift) e in
+    subst (λ (m : Mode). Steps over px new u v m) (sym mode)
+    (vertical_steps above width over u shows_over (so.from on) old new v shift px (six refl) so.turns so.colour shows (omega (arith, right, ap (place_at above width) place, own refl)) (turned refl) less (omega arith)
+    (λ ps h. subst (λ (ts : List ℕ). Shows ts (v.right - 1) ps) (sym (put refl)) (turn_shows old (v.right - 1) ps h)))
+
+-- a number that stands for a truth value
+pub at_most_one : (b : Bool) (n : ℕ) → n ≡ from_bool b → n ≤ 1
+at_most_one true n e = let one : n ≡ 1 = e in omega arith
+at_most_one false n e = let none : n ≡ 0 = e in omega arith

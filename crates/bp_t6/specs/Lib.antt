@@ -2,6 +2,7 @@ pub mod Coding
 pub mod Faults
 pub mod Gathered
 pub mod Modes
+pub mod Near
 pub mod Places
 pub mod Read
 pub mod Reading

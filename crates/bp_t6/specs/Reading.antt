@@ -8,8 +8,8 @@ use Rattle.bp_t6.specs.declared.reading.Under.{Under}
 use Rattle.bp_t6.specs.declared.reading.Stop.{Stop}
 use Rattle.bp_t6.specs.declared.reading.Stop.TheVariants.{Fault, OutOfMemory}
 use Rattle.bp_t6.specs.declared.run_reader.ReadFault.{ReadFault}
-use Rattle.bp_t6.specs.Places.{Place}
-use Rattle.bp_t6.specs.Modes.{Run, Mode, Vertical, HasCodes, pixels_of, run_bits, mode_bits, after, painted, Moves}
+use Rattle.bp_t6.specs.Places.{Place, start}
+use Rattle.bp_t6.specs.Modes.{Run, Mode, Vertical, HasCodes, pixels_of, run_bits, mode_bits, after, painted, codes_of, end_of, pixels, Moves, AllMove}
 use Rattle.bp_t6.specs.Read.{RowReads}
 use Rattle.bp_t6.specs.Faults.{ModeFault, RowFault}
 use Rattle.bp_rows.specs.Changes.{Shows, odd}
@@ -79,6 +79,14 @@ pub record VerticalStops (width : ℕ) (above : List ℕ) (u : Under) (n : ℕ) 
       Shows above width over →
       ((after over (place_under u) (Vertical n)).right ≤ u.right)
       ⊎ (length over + 1 < (after over (place_under u) (Vertical n)).right)
+
+-- some modes are read from a bit on, up to the place under way, and the list shows what they paint
+pub record ModesRead (over bits : List Bool) (first : ℕ) (line : List ℕ) (u : Under) : Type 0 where
+  pub modes : List Mode
+  pub move : AllMove over start modes
+  pub reads : drop first bits ≡ codes_of over start modes ++ drop u.at bits
+  pub there : end_of over start modes ≡ place_under u
+  pub shows : Shows line (u.right - 1) (pixels over start modes)
 
 -- a row is read from one bit to another, and the list shows it
 pub record RowIsRead (over bits : List Bool) (start next width : ℕ) (line : List ℕ) : Type 0 where

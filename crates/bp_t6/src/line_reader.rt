@@ -5,6 +5,7 @@ ghost use Rattle.bp_rows.specs.Changes.{Shows, Rises};
 ghost use Rattle.bp_t6.specs.Reading.{IfFault, RowIsRead, RowStops};
 
 use crate::mode_reader::read_mode;
+use crate::quick_reader::read_quick_modes;
 use crate::reading::{Stop, Under};
 use crate::tables::CodeTables;
 use bp_codes::BitSpan;
@@ -39,7 +40,8 @@ pub fn read_row(
         at: start,
     };
     while under.right <= width {
-        under = read_mode(tables, span, width, above, under, line)?;
+        let next = read_mode(tables, span, width, above, under, line)?;
+        under = read_quick_modes(span, width, above, next, line);
     }
     Ok(under.at)
 }

@@ -55,18 +55,42 @@ pub fn read_run(
         IfErr result (λ f. RunFault black room (drop start bits) f.kind (f.bit - start)) }
 {
     if let Some(word) = ahead {
-        if start - from <= MOST_SKIPPED {
-            if let Some(code) = code_ahead(word, start - from, black) {
-                if code.row < TERMINATING_CODES && code.row as u32 <= room {
-                    return Ok(RunRead {
-                        pixels: code.row as u32,
-                        next: start + code.len,
-                    });
-                }
+        if let Some(run) = run_ahead(span, word, from, start, black) {
+            if run.pixels <= room {
+                return Ok(run);
             }
         }
     }
     look_up_run(tables, span, start, black, room)
+}
+
+/// The run of one code at a place, found in a word with the bits that come next at a bit `from` on the
+/// way there, where it is.
+#[inline(always)]
+pub fn run_ahead(span: &BitSpan, word: u64, from: u64, start: u64, black: bool) -> Option<RunRead>
+    requires ahead { IsAhead word (drop from (span_bits span.now)) }
+    requires from { from ≤ start }
+    requires place { start ≤ length (span_bits span.now) }
+    ensures found { let bits = span_bits span.now in
+        IfSome result (λ r. RunReads black (drop start bits) r.pixels (drop r.next bits)) }
+    ensures short { IfSome result (λ r. r.pixels < MAKE_UP_STEP) }
+    ensures next { IfSome result (λ r. r.next ≤ length (span_bits span.now)) }
+    ensures after { IfSome result (λ r. start ≤ r.next) }
+{
+    if start - from > MOST_SKIPPED {
+        return None;
+    }
+    let code = match code_ahead(word, start - from, black) {
+        Some(code) => code,
+        None => return None,
+    };
+    if code.row >= TERMINATING_CODES {
+        return None;
+    }
+    Some(RunRead {
+        pixels: code.row as u32,
+        next: start + code.len,
+    })
 }
 
 // The run code behind the first bits of a look-ahead.

@@ -11,16 +11,17 @@ loop-under-init c = record {
   read = λ over shows. none_read over (span_bits c.args.span.now) c.args.start c.clear.new.self.items _ c.clear.ensures.items refl refl refl;
 }
 
-pub returns-in_err-under-clause-fault : goal.returns-in_err-under-clause-fault
-returns-in_err-under-clause-fault c = λ over shows.
-    let fault = fault_of_row over (span_bits c.args.span.now) c.args.start c.args.width c.args.above.now c.loop-under.line.items c.loop-under.under _ shows (c.loop-under.invariant.read over shows) c.loop-under-test.true c.requires.place c.loop-under.invariant.within c.in_err-under.ensures.fault in
-    same_stop c.from_residual.result c.in_err-under.field-0.0 (IfFault (RowStops over (span_bits c.args.span.now) c.args.start)) c.from_residual.ensures.1 fault
+pub returns-in_err-next-clause-fault : goal.returns-in_err-next-clause-fault
+returns-in_err-next-clause-fault c = λ over shows.
+    let fault = fault_of_row over (span_bits c.args.span.now) c.args.start c.args.width c.args.above.now c.loop-under.line.items c.loop-under.under _ shows (c.loop-under.invariant.read over shows) c.loop-under-test.true c.requires.place c.loop-under.invariant.within c.in_err-next.ensures.fault in
+    same_stop c.from_residual.result c.in_err-next.field-0.0 (IfFault (RowStops over (span_bits c.args.span.now) c.args.start)) c.from_residual.ensures.1 fault
 
 pub loop-under-preserved : goal.loop-under-preserved
 loop-under-preserved c = record {
-  under = c.in_ok-under.ensures.under;
-  within = c.in_ok-under.ensures.next;
-  read = λ over shows. mode_more over (span_bits c.args.span.now) c.args.start c.args.width c.args.above.now c.loop-under.line.items c.read_mode.new.line.items c.loop-under.under c.in_ok-under.under shows (c.loop-under.invariant.read over shows) c.in_ok-under.ensures.read;
+  under = c.read_quick_modes-under.ensures.under;
+  within = c.read_quick_modes-under.ensures.next;
+  read = λ over shows. c.read_quick_modes-under.ensures.read over c.args.start shows
+      (mode_more over (span_bits c.args.span.now) c.args.start c.args.width c.args.above.now c.loop-under.line.items c.read_mode.new.line.items c.loop-under.under c.in_ok-next.next shows (c.loop-under.invariant.read over shows) c.in_ok-next.ensures.read);
 }
 
 pub returns-clause-read : goal.returns-clause-read

@@ -1,8 +1,7 @@
 use Rattle.std.proofs.Common.{◌+◌, ◌-◌, ◌≤◌, List, Bool, length}
 use Rattle.bp_codes.specs.Span.{span_bits}
 use Rattle.bp_rows.specs.Changes.{Shows}
-use Rattle.bp_t6.specs.Reading.{IsUnder}
-use Rattle.bp_t6.proofs.StepLemmas.{ModesRead}
+use Rattle.bp_t6.specs.Reading.{IsUnder, ModesRead}
 use Rattle.bp_t6.proofs.line_reader.read_row.Given as goal
 
 abbrev pub invariant-loop-under : goal.invariant-loop-under

@@ -1,0 +1,111 @@
+// Modes near b1 read.
+ghost use Rattle.std.specs.Prelude.{◌≡◌, ◌<◌, ◌≤◌, ◌+◌, ◌-◌, ◌*◌, ◌^◌, ℕ, Bool, List, IfSome, None, true, false, [], ◌∷◌, ◌++◌, vec_len, vec_capacity, not};
+ghost use Rattle.bp_rows.specs.Changes.{Shows, Rises};
+ghost use Rattle.bp_t6.specs.Near.{Holds, BeginsNear, near_mode};
+ghost use Rattle.bp_t6.specs.Reading.{IsUnder, Steps};
+
+use crate::lengths::VERTICAL_REACH;
+use crate::near_index::NEAR_INDEX;
+use crate::reading::Under;
+use crate::row::next_near_two;
+use bp_rows::MAX_WIDTH;
+
+/// A mode near b1: vertical with a1 at b1 + shift - 3, or pass, whose shift is 7. `len` is the length
+/// of its code in bits.
+#[derive(Clone, Copy)]
+pub struct Near {
+    pub shift: u32,
+    pub len: u64,
+}
+
+// The place of b1 and the shift are so much past the first place right of a1.
+const PAST: u32 = VERTICAL_REACH - 1;
+
+// The shift that stands for pass mode.
+const PASS_SHIFT: u32 = 2 * VERTICAL_REACH + 1;
+
+/// The mode near b1 whose code begins the bits that a word holds, where one does.
+#[inline(always)]
+pub fn near_ahead(word: u64) -> Option<Near>
+    ensures { (count : ℕ) (bits : List Bool) → Holds word count bits → 7 ≤ count
+        → IfSome result (BeginsNear bits) }
+{
+    let entry = NEAR_INDEX[(word >> 57) as usize];
+    if entry < 256 {
+        return None;
+    }
+    Some(Near {
+        shift: entry % 256,
+        len: u64::from(entry / 256),
+    })
+}
+
+// Turns the colour at a place right of all turns before it, or leaves it. A turn that is put and taken
+// back is no branch, which would often be guessed wrong.
+#[inline(always)]
+fn turn_unless(line: &mut Vec<u32>, place: u32, stays: bool)
+    requires { vec_len line.old < vec_capacity line.old }
+    ensures stays { stays ≡ true → line.new.items ≡ line.old.items }
+    ensures turns { stays ≡ false → line.new.items ≡ line.old.items ++ place ∷ [] }
+{
+    line.push_reserved(place);
+    if stays {
+        line.pop();
+    }
+}
+
+// The colour behind a place where it turns, or stays.
+#[inline(always)]
+fn colour_unless(black: bool, stays: bool) -> bool
+    ensures stays { stays ≡ true → result ≡ black }
+    ensures turns { stays ≡ false → result ≡ not black }
+{
+    black == stays
+}
+
+/// A mode near b1, where it leads right and stays left of the width, the change that it starts from has
+/// one on each side, and the list has room; else nothing is done. So no push lacks memory, and no turn is
+/// taken back. Pass mode ends where a vertical mode of shift 3 from b2 would, in the same colour.
+#[inline(always)]
+pub fn read_near(
+    width: u32,
+    above: &[u32],
+    under: Under,
+    near: Near,
+    line: &mut Vec<u32>,
+) -> Option<Under>
+    requires wide { width ≤ MAX_WIDTH }
+    requires above { Rises above.now width }
+    requires on { under.right ≤ width }
+    requires onward { 0 < under.right }
+    requires place { under.at + near.len < 2 ^ 64 }
+    requires shift { near.shift ≤ PASS_SHIFT }
+    requires under { IsUnder above.now line.old.items width under }
+    ensures at { IfSome result (λ new. new.at ≡ under.at + near.len) }
+    ensures under { IfSome result (λ new. IsUnder above.now line.new.items width new) }
+    ensures moves { IfSome result (λ new. under.right < new.right) }
+    ensures on { IfSome result (λ new. new.right ≤ width) }
+    ensures kept { result ≡ None → line.new.items ≡ line.old.items }
+    ensures steps { (over px : List Bool) → Shows above.now width over
+        → Shows line.old.items (under.right - 1) px
+        → IfSome result (λ new. Steps over px line.new.items under new (near_mode near.shift)) }
+{
+    let is_pass = near.shift == PASS_SHIFT;
+    let change = under.from + usize::from(is_pass);
+    let shift = if is_pass { VERTICAL_REACH } else { near.shift };
+    if change == 0 || change + 1 >= above.len() || line.len() >= line.capacity() {
+        return None;
+    }
+    let past = above[change] + shift;
+    if past <= under.right + PAST || width + PAST < past {
+        return None;
+    }
+    let right = past - PAST;
+    turn_unless(line, right - 1, is_pass);
+    Some(Under {
+        right,
+        black: colour_unless(under.black, is_pass),
+        from: next_near_two(above, change - 1, right, width),
+        at: under.at + near.len,
+    })
+}

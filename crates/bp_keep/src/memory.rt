@@ -89,7 +89,7 @@ impl Keeper for MemKeeper {
         let changes = copy_reversed(alloc, puts.as_slice())?;
         move_in(&mut self.given, &mut self.slots)?;
         let made = put_in(&mut self.slots, changes);
-        drop_empty(&mut self.slots, puts.as_slice());
+        drop_empty(&mut self.slots, puts.as_slice(), made.is_err());
         made?;
         Ok(())
     }

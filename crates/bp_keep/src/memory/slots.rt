@@ -43,14 +43,17 @@ pub fn put_in(slots: &mut Slots, changes: Vec<Put>) -> Result<(), OutOfMemory>
     Ok(())
 }
 
-// Drops the slots of these puts that are empty. No row goes with them.
-pub fn drop_empty(slots: &mut Slots, changes: &[Put])
+// Drops the slots that these puts left empty: those of removals, and of all where none was made. No row
+// goes with them.
+pub fn drop_empty(slots: &mut Slots, changes: &[Put], failed: bool)
     requires { IsTrue (in_order 0 slots.old.entries) }
     ensures rows { held slots.new.entries ≡ held slots.old.entries }
     ensures in_order { IsTrue (in_order 0 slots.new.entries) }
 {
     for change in changes {
-        drop_if_empty(slots, key_of(change));
+        if failed || change.body.is_none() {
+            drop_if_empty(slots, key_of(change));
+        }
     }
 }
 

@@ -241,9 +241,18 @@ fn put_count(decided: Decided) -> u64 {
 }
 
 fn rows_of(tables: &Tables) -> u64 {
-    let marks = (tables.boxes.len() as u64).wrapping_add(tables.held.len() as u64);
-    let rest = (tables.calls.len() as u64).wrapping_add(tables.entries.len() as u64);
+    let marks = count_on(tables.boxes.as_slice()).wrapping_add(count_on(tables.held.as_slice()));
+    let rest = count_on(tables.calls.as_slice()).wrapping_add(count_on(tables.entries.as_slice()));
     marks.wrapping_add(rest)
+}
+
+// How many rows stand on shelves.
+fn count_on<T>(shelves: &[Vec<T>]) -> u64 {
+    let mut count = 0u64;
+    for shelf in shelves {
+        count = count.wrapping_add(shelf.len() as u64);
+    }
+    count
 }
 
 // A box of this number on the first page; the place tells which pixel.
@@ -302,7 +311,7 @@ impl Office {
         let Some(row) = self.tables.pages.get(place) else {
             bail!("there is no page");
         };
-        let copy = Vec::from_slice(self.alloc, row.image.strip())?;
+        let copy = Vec::from_slice(self.alloc, row.image.page().strip())?;
         Ok(last_byte(copy.as_slice()))
     }
 }

@@ -135,13 +135,14 @@ fn digest_and_put<F: Folder>(
 // The page file of a page with these boxes, under its label and the designation.
 fn file_of(alloc: Global, row: &PageRow, boxes: &RectList, designation: &Text) -> Result<Bytes> {
     let label = Text::from_string(format!(in alloc; "ABC{:08}", row.doc.0)?);
-    if !import_sides(row.image.width(), row.image.height()) {
+    let page = row.image.page();
+    if !import_sides(page.width(), page.height()) {
         bail!("the page is too large");
     }
     if !has_glyphs(&label) || !has_glyphs(designation) {
         bail!("a text can't be drawn");
     }
-    let image = produced(alloc, &row.image, boxes, &label, designation)?;
+    let image = produced(alloc, page, boxes, &label, designation)?;
     Ok(write_tiff(alloc, Form::G4, &image)?)
 }
 

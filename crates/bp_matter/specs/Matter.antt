@@ -31,10 +31,18 @@ pub record Matter : Type 0 where
   pub batches : List BatchRow
   pub words : List PageWords
 
--- the matter, and how many rows can be added to each list without taking memory
+-- the rooms of the shelves of documents, for each kind of row that has them
+pub record ShelfRooms : Type 0 where
+  pub calls : List ℕ
+  pub boxes : List ℕ
+  pub held : List ℕ
+  pub entries : List ℕ
+
+-- the matter, and how many rows can be added without taking memory: to each list, and to each shelf
 pub record Shown : Type 0 where
   pub matter : Matter
   pub spare : ℕ
+  pub rooms : ShelfRooms
 
 -- the key of each kind of row in its list
 abbrev pub staff_key : StaffRow → ℕ

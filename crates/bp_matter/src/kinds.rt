@@ -2,7 +2,10 @@
 ghost use Rattle.std.specs.Prelude.{◌≡◌, ℕ, ◌<◌, slice_index, Bool, true, Option, Some, None, ◌==◌, IfOk, IfSome, IsTrue, length, if◌then◌else◌, ◌++◌, OnOk, map};
 ghost use Rattle.std.specs.List.{list_all};
 ghost use Rattle.bp_core.specs.declared.kept.Row.{Row};
+ghost use Rattle.bp_shelves.specs.Shelves.{rows_on};
+ghost use Rattle.bp_matter.specs.KeptRows.{box_kept, call_kept, entry_kept, held_kept};
 ghost use Rattle.bp_matter.specs.ReadRows.{run_of};
+ghost use Rattle.bp_matter.specs.Written.{box_written, call_written, entry_written, held_written};
 ghost use Rattle.bp_matter.specs.declared.reading.ReadFault.TheVariants.{Malformed};
 
 use crate::reading::{
@@ -10,8 +13,8 @@ use crate::reading::{
     take_page, take_prefix, take_production, take_staff, take_words,
 };
 use crate::rows::{
-    BatchRow, CallRow, DocBox, DocEntry, DocHeld, DocRow, FieldRow, PageRow, PageWords, PrefixRow,
-    ProductionRow, StaffRow,
+    BatchRow, CallRow, CallShelves, DocBox, DocBoxShelves, DocEntry, DocHeld, DocHeldShelves,
+    DocRow, EntryShelves, FieldRow, PageRow, PageWords, PrefixRow, ProductionRow, StaffRow,
 };
 use crate::writing::{
     put_batch_body, put_box_body, put_call_body, put_doc_body, put_entry_body, put_field_body,
@@ -19,6 +22,7 @@ use crate::writing::{
     put_words_body,
 };
 use bp_core::{Bytes, Keyed, OutOfMemory, Row};
+use bp_shelves::{Shelved, Shelves};
 use bp_t6::laws::strip_law;
 use std::alloc::Global;
 
@@ -545,4 +549,55 @@ pub(crate) fn add_four<A: Kind, B: Kind, C: Kind, D: Kind>(
     add_rows(alloc, kept, b)?;
     add_rows(alloc, kept, c)?;
     add_rows(alloc, kept, d)
+}
+
+// Adds the kept rows of all shelves.
+pub(crate) fn add_shelves<T: Kind + Shelved>(
+    alloc: Global,
+    kept: &mut Vec<Row>,
+    rows: &Shelves<T>,
+) -> Result<(), OutOfMemory>
+    requires { IsTrue (list_all T.is_written rows.now.rows) }
+    ensures { OnOk result (kept.new.items ≡ kept.old.items ++ map T.kept_of rows.now.rows) }
+{
+    add_each(alloc, kept, rows.as_slice())
+}
+
+fn add_each<T: Kind>(
+    alloc: Global,
+    kept: &mut Vec<Row>,
+    shelves: &[Vec<T>],
+) -> Result<(), OutOfMemory>
+    requires { IsTrue (list_all T.is_written (rows_on shelves.now)) }
+    ensures { OnOk result (kept.new.items ≡ kept.old.items ++ map T.kept_of (rows_on shelves.now)) }
+{
+    let mut rest = shelves;
+    while let Some((shelf, others)) = rest.split_first() {
+        add_rows(alloc, kept, shelf)?;
+        rest = others;
+    }
+    Ok(())
+}
+
+// Adds the kept rows of what was decided of the documents.
+pub(crate) fn add_marks(
+    alloc: Global,
+    kept: &mut Vec<Row>,
+    calls: &CallShelves,
+    boxes: &DocBoxShelves,
+    held: &DocHeldShelves,
+    entries: &EntryShelves,
+) -> Result<(), OutOfMemory>
+    requires calls { IsTrue (list_all call_written calls.now.rows) }
+    requires boxes { IsTrue (list_all box_written boxes.now.rows) }
+    requires held { IsTrue (list_all held_written held.now.rows) }
+    requires entries { IsTrue (list_all entry_written entries.now.rows) }
+    ensures { OnOk result (kept.new.items ≡ kept.old.items
+        ++ (map call_kept calls.now.rows ++ (map box_kept boxes.now.rows
+        ++ (map held_kept held.now.rows ++ map entry_kept entries.now.rows)))) }
+{
+    add_shelves(alloc, kept, calls)?;
+    add_shelves(alloc, kept, boxes)?;
+    add_shelves(alloc, kept, held)?;
+    add_shelves(alloc, kept, entries)
 }

@@ -21,6 +21,7 @@ mod marks;
 mod parts;
 mod reading;
 mod rows;
+mod shared_page;
 mod tables;
 mod taking;
 mod texts;
@@ -34,10 +35,11 @@ pub use limits::{
     MAX_NAME, MAX_PAGES, MAX_PIXELS, MAX_PRODUCTIONS, MAX_STAFF,
 };
 pub use rows::{
-    BatchList, BatchRow, BoxList, BoxRow, CallList, CallRow, DocBox, DocBoxList, DocEntry, DocHeld,
-    DocHeldList, DocList, DocRow, Entry, EntryList, FieldList, FieldRow, HeldList, HeldRow, Item,
-    ItemList, PageList, PageRow, PageWords, PageWordsList, PrefixList, PrefixRow, Production,
-    ProductionList, ProductionRow, Request, StaffList, StaffRow, State,
+    BatchList, BatchRow, BoxList, BoxRow, CallRow, CallShelves, DocBox, DocBoxShelves, DocEntry,
+    DocHeld, DocHeldShelves, DocList, DocRow, Entry, EntryShelves, FieldList, FieldRow, HeldList,
+    HeldRow, Item, ItemList, PageList, PageRow, PageWords, PageWordsList, PrefixList, PrefixRow,
+    Production, ProductionList, ProductionRow, Request, StaffList, StaffRow, State,
 };
+pub use shared_page::SharedPage;
 pub use tables::Tables;
 pub use taking::read_tables;

@@ -1,16 +1,18 @@
 // Looking things up in the tables. None of these calls takes memory.
-ghost use Rattle.std.specs.Prelude.{◌≡◌, length};
+ghost use Rattle.std.specs.Prelude.{◌≡◌, IsTrue, length};
 ghost use Rattle.std.specs.Option.{option_copied};
+ghost use Rattle.bp_core.specs.Sorted.{find_key};
 ghost use Rattle.bp_matter.specs.Confirming.{boxes_on, held_on};
 ghost use Rattle.bp_matter.specs.LookUps.{call_with, called_state, doc_with, entry_with, field_with, lead_digest_in, of_row, page_with, prefix_with, production_with, staff_with, state_of_doc, words_with};
+ghost use Rattle.bp_matter.specs.ValidRows.{is_numbered};
 
-use crate::marks::{boxes_on, held_on};
+use crate::marks::{boxes_of, held_of};
 use crate::rows::{
     CallRow, DocBox, DocEntry, DocHeld, DocRow, FieldRow, PageRow, PageWords, PrefixRow,
     Production, ProductionRow, StaffRow, State,
 };
 use crate::tables::Tables;
-use bp_core::{DocNo, PageNo, Text, find_row, two_keys};
+use bp_core::{DocNo, Keyed, PageNo, Text, find_row, two_keys};
 
 impl Tables {
     /// The production of this id.
@@ -68,11 +70,10 @@ impl Tables {
     }
 
     /// The row of a document.
-    #[tactic(auto, using(crate::proofs::NumberedLemmas::orders))]
     pub fn doc_with(&self, doc: DocNo) -> Option<&DocRow>
         ensures { option_copied result ≡ doc_with doc.0 self.now.matter }
     {
-        find_row(&self.docs, two_keys(0, doc.0))
+        row_numbered(&self.docs, doc.0)
     }
 
     /// The row of a page of a document.
@@ -93,28 +94,28 @@ impl Tables {
     pub fn call_with(&self, doc: DocNo) -> Option<&CallRow>
         ensures { option_copied result ≡ call_with doc.0 self.now.matter }
     {
-        find_row(&self.calls, two_keys(0, doc.0))
+        self.calls.find(doc, two_keys(0, doc.0))
     }
 
     /// The boxes of a document, in ascending order of number.
     pub fn boxes_on(&self, doc: DocNo) -> &[DocBox]
         ensures { result.now ≡ boxes_on doc.0 self.now.matter.boxes }
     {
-        boxes_on(&self.boxes, doc)
+        boxes_of(&self.boxes, doc)
     }
 
     /// The fields of a document that are held back, in ascending order of number.
     pub fn held_on(&self, doc: DocNo) -> &[DocHeld]
         ensures { result.now ≡ held_on doc.0 self.now.matter.held }
     {
-        held_on(&self.held, doc)
+        held_of(&self.held, doc)
     }
 
     /// What the privilege log says of a document.
     pub fn entry_with(&self, doc: DocNo) -> Option<&DocEntry>
         ensures { option_copied result ≡ entry_with doc.0 self.now.matter }
     {
-        find_row(&self.entries, two_keys(0, doc.0))
+        self.entries.find(doc, two_keys(0, doc.0))
     }
 
     /// The member of the staff whose key has this SHA-256.
@@ -147,4 +148,16 @@ fn called_state(call: Option<&CallRow>) -> State
         None => State::Uncalled,
         Some(row) => row.state,
     }
+}
+
+// The row of this number, in a list of rows that are numbered from 1 without a gap.
+fn row_numbered<T: Keyed>(rows: &[T], number: u32) -> Option<&T>
+    requires { IsTrue (is_numbered T.key_of 1 rows.now) }
+    ensures { option_copied result ≡ find_key T.key_of number rows.now }
+{
+    let count = number as usize;
+    if count == 0 || rows.len() < count {
+        return None;
+    }
+    Some(&rows[count - 1])
 }

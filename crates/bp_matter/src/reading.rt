@@ -9,6 +9,7 @@ use crate::rows::{
     BatchRow, BoxRow, CallRow, DocBox, DocEntry, DocHeld, DocRow, Entry, FieldRow, HeldRow, Item,
     PageRow, PageWords, PrefixRow, Production, ProductionRow, Request, StaffRow, State,
 };
+use crate::shared_page::SharedPage;
 use bp_bates::{Prefix, Span};
 use bp_core::{Basis, DocNo, ListOf, OutOfMemory, PageNo, Rect, Role, StaffNo, Text, Treatment};
 use bp_rows::{Page, Res, Unit};
@@ -488,7 +489,7 @@ pub(crate) fn take_page(
     Ok(PageRow {
         doc: DocNo(doc),
         page: PageNo(page),
-        image,
+        image: SharedPage::new(alloc, image)?,
     })
 }
 

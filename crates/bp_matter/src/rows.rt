@@ -1,9 +1,10 @@
 // The rows of the tables.
+use crate::shared_page::SharedPage;
 use bp_bates::{Prefix, Span};
 use bp_core::{
     Basis, DocNo, Keyed, ListOf, PageNo, Rect, Role, StaffNo, Text, TextList, Treatment, two_keys,
 };
-use bp_rows::Page;
+use bp_shelves::{Shelved, Shelves};
 use bp_text::WordList;
 
 pub type BoxList = ListOf<BoxRow>;
@@ -13,6 +14,7 @@ pub type HeldList = ListOf<HeldRow>;
 pub type ItemList = ListOf<Item>;
 
 // The lists of the tables are `Vec`s: how many rows they take without more memory is part of them.
+// What comes and goes with a document stands on the document's shelf.
 pub type StaffList = Vec<StaffRow>;
 
 pub type FieldList = Vec<FieldRow>;
@@ -23,11 +25,19 @@ pub type PageList = Vec<PageRow>;
 
 pub type CallList = Vec<CallRow>;
 
+pub type CallShelves = Shelves<CallRow>;
+
 pub type DocBoxList = Vec<DocBox>;
+
+pub type DocBoxShelves = Shelves<DocBox>;
 
 pub type DocHeldList = Vec<DocHeld>;
 
+pub type DocHeldShelves = Shelves<DocHeld>;
+
 pub type EntryList = Vec<DocEntry>;
+
+pub type EntryShelves = Shelves<DocEntry>;
 
 pub type PrefixList = Vec<PrefixRow>;
 
@@ -69,7 +79,7 @@ pub struct DocRow {
 pub struct PageRow {
     pub doc: DocNo,
     pub page: PageNo,
-    pub image: Page,
+    pub image: SharedPage,
 }
 
 /// How far the review of a document has come.
@@ -325,5 +335,49 @@ impl Keyed for PageWords {
 
     fn key(&self) -> u128 {
         two_keys(self.doc.0, self.page.0)
+    }
+}
+
+// A document has one call at most, and one log entry.
+impl Shelved for CallRow {
+    ghost span = { 1 };
+
+    ghost doc_of = { λ row. row.doc.0 };
+
+    fn doc(&self) -> DocNo {
+        self.doc
+    }
+}
+
+impl Shelved for DocEntry {
+    ghost span = { 1 };
+
+    ghost doc_of = { λ row. row.doc.0 };
+
+    fn doc(&self) -> DocNo {
+        self.doc
+    }
+}
+
+// A document's boxes and held fields are numbered below 2^32.
+impl Shelved for DocBox {
+    ghost span = { 4294967296 };
+
+    ghost doc_of = { λ row. row.doc.0 };
+
+    fn doc(&self) -> DocNo {
+        let _num = self.row.num;
+        self.doc
+    }
+}
+
+impl Shelved for DocHeld {
+    ghost span = { 4294967296 };
+
+    ghost doc_of = { λ row. row.doc.0 };
+
+    fn doc(&self) -> DocNo {
+        let _field = self.row.field;
+        self.doc
     }
 }

@@ -8,27 +8,28 @@ ghost use Rattle.bp_matter.specs.Matter.{call_key, entry_key};
 ghost use Rattle.bp_matter.specs.KeptRows.{rows_of};
 ghost use Rattle.bp_matter.specs.Valid.{IsValid};
 
-use crate::kinds::add_four;
+use crate::kinds::{add_four, add_marks};
 use crate::laws::order_law;
 use crate::rows::{
-    BatchList, CallList, DocBoxList, DocHeldList, DocList, EntryList, FieldList, PageList,
-    PageWordsList, PrefixList, ProductionList, StaffList,
+    BatchList, CallShelves, DocBoxShelves, DocHeldShelves, DocList, EntryShelves, FieldList,
+    PageList, PageWordsList, PrefixList, ProductionList, StaffList,
 };
 use bp_core::{DocNo, ListOf, OutOfMemory, RowList, find_row};
 use std::alloc::Global;
 use std::marker::Model;
 
-/// The tables of a matter, one list for each kind of row.
+/// The tables of a matter, one list for each kind of row; calls, boxes, held fields and log entries stand
+/// on the shelves of their documents.
 #[derive(Debug, Drop)]
 pub struct Tables {
     pub staff: StaffList,
     pub fields: FieldList,
     pub docs: DocList,
     pub pages: PageList,
-    pub calls: CallList,
-    pub boxes: DocBoxList,
-    pub held: DocHeldList,
-    pub entries: EntryList,
+    pub calls: CallShelves,
+    pub boxes: DocBoxShelves,
+    pub held: DocHeldShelves,
+    pub entries: EntryShelves,
     pub prefixes: PrefixList,
     pub productions: ProductionList,
     pub batches: BatchList,
@@ -49,10 +50,10 @@ impl Model for Tables {
         fields = t.fields.items;
         docs = t.docs.items;
         pages = t.pages.items;
-        calls = t.calls.items;
-        boxes = t.boxes.items;
-        held = t.held.items;
-        entries = t.entries.items;
+        calls = t.calls.rows;
+        boxes = t.boxes.rows;
+        held = t.held.rows;
+        entries = t.entries.rows;
         prefixes = t.prefixes.items;
         productions = t.productions.items;
         batches = t.batches.items;
@@ -62,14 +63,16 @@ impl Model for Tables {
           (min (vec_capacity t.fields - vec_len t.fields)
           (min (vec_capacity t.docs - vec_len t.docs)
           (min (vec_capacity t.pages - vec_len t.pages)
-          (min (vec_capacity t.calls - vec_len t.calls)
-          (min (vec_capacity t.boxes - vec_len t.boxes)
-          (min (vec_capacity t.held - vec_len t.held)
-          (min (vec_capacity t.entries - vec_len t.entries)
           (min (vec_capacity t.prefixes - vec_len t.prefixes)
           (min (vec_capacity t.productions - vec_len t.productions)
           (min (vec_capacity t.batches - vec_len t.batches)
-          (vec_capacity t.words - vec_len t.words)))))))))));
+          (vec_capacity t.words - vec_len t.words)))))));
+      rooms = record {
+        calls = t.calls.rooms;
+        boxes = t.boxes.rooms;
+        held = t.held.rooms;
+        entries = t.entries.rooms;
+      };
     } };
 
     ghost invariant = { λ t. IsValid (record {
@@ -77,10 +80,10 @@ impl Model for Tables {
       fields = t.fields.items;
       docs = t.docs.items;
       pages = t.pages.items;
-      calls = t.calls.items;
-      boxes = t.boxes.items;
-      held = t.held.items;
-      entries = t.entries.items;
+      calls = t.calls.rows;
+      boxes = t.boxes.rows;
+      held = t.held.rows;
+      entries = t.entries.rows;
       prefixes = t.prefixes.items;
       productions = t.productions.items;
       batches = t.batches.items;
@@ -105,7 +108,7 @@ impl Tables {
             &self.docs,
             &self.pages,
         )?;
-        add_four(
+        add_marks(
             alloc,
             &mut rows,
             &self.calls,

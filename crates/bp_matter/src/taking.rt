@@ -1,17 +1,20 @@
 // Reading the kept rows of a matter.
 ghost use Rattle.std.specs.Prelude.{◌≡◌, IfOk, false, None, length};
+ghost use Rattle.bp_matter.specs.Lists.{matter_of};
 ghost use Rattle.bp_matter.specs.ReadRows.{is_formed};
 ghost use Rattle.bp_matter.specs.ReadTables.{ReadsTables, least_bad, lesser, bad_rule, kept_row_bad};
+ghost use Rattle.bp_matter.specs.Valid.{IsValid};
 ghost use Rattle.bp_matter.specs.declared.reading.ReadFault.TheVariants.{Malformed};
 
 use crate::checking::is_valid;
-use crate::lists::take_lists;
+use crate::lists::{Lists, take_lists};
 use crate::reading::{
     ReadFault, take_batch, take_box, take_call, take_doc, take_entry, take_field, take_held,
     take_page, take_prefix, take_production, take_staff, take_words,
 };
 use crate::tables::Tables;
 use bp_core::{Keyed, OutOfMemory, Refusal, Row, RowList, Rule, RuleKind};
+use bp_shelves::Shelves;
 use bp_t6::laws::strip_law;
 use std::alloc::Global;
 
@@ -25,23 +28,31 @@ pub fn read_tables(alloc: Global, rows: &RowList) -> Result<Tables, Refusal>
     let (lists, rest) = take_lists(alloc, rows)?;
     let good = is_valid(alloc, &lists)?;
     if rest.is_empty() && good {
-        return Ok(Tables {
-            staff: lists.staff,
-            fields: lists.fields,
-            docs: lists.docs,
-            pages: lists.pages,
-            calls: lists.calls,
-            boxes: lists.boxes,
-            held: lists.held,
-            entries: lists.entries,
-            prefixes: lists.prefixes,
-            productions: lists.productions,
-            batches: lists.batches,
-            words: lists.words,
-        });
+        return Ok(tables_of(alloc, lists)?);
     }
     let least = least_bad(alloc, rows)?;
     Err(Refusal::Rule(bad_rule(least)))
+}
+
+// The tables of these lists.
+fn tables_of(alloc: Global, lists: Lists) -> Result<Tables, OutOfMemory>
+    requires { IsValid (matter_of lists) }
+    ensures { IfOk result (λ tables. tables.matter ≡ matter_of lists) }
+{
+    Ok(Tables {
+        staff: lists.staff,
+        fields: lists.fields,
+        docs: lists.docs,
+        pages: lists.pages,
+        calls: Shelves::from_rows(alloc, lists.calls)?,
+        boxes: Shelves::from_rows(alloc, lists.boxes)?,
+        held: Shelves::from_rows(alloc, lists.held)?,
+        entries: Shelves::from_rows(alloc, lists.entries)?,
+        prefixes: lists.prefixes,
+        productions: lists.productions,
+        batches: lists.batches,
+        words: lists.words,
+    })
 }
 
 fn lesser(number: u128, least: Option<u128>) -> u128

@@ -296,7 +296,7 @@ pub(crate) fn put_page_body(
     ensures { OnOk result (out.new.items ≡ out.old.items ++ page_body row.now) }
 {
     put_byte(out, 1)?;
-    put_image(alloc, out, &row.image)
+    put_image(alloc, out, row.image.page())
 }
 
 // Adds the body of a call.

@@ -57,7 +57,7 @@ pub(crate) fn page_file(
         unreachable!()
     };
     let rects = rects_on(alloc, &item.boxes, page)?;
-    let image = produced(alloc, &row.image, &rects, label, &item.designation)?;
+    let image = produced(alloc, row.image.page(), &rects, label, &item.designation)?;
     write_tiff(alloc, Form::G4, &image)
 }
 

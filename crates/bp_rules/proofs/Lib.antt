@@ -17,6 +17,7 @@ pub mod FreezingLemmas
 pub mod ReviewingLemmas
 pub mod KeepingLemmas
 pub mod RunningLemmas
+pub mod StepLemmas
 pub mod Examples
 pub mod StepExamples
 pub mod FreezeExamples

@@ -28,31 +28,23 @@ kept-count rows =
     )
 
 -- what is left in each list
-pub record Rooms (n a b c d e f g h i j k l : ℕ) : Type 0 where
+pub record Rooms (n a b c d e f g h : ℕ) : Type 0 where
   pub staff : n ≤ a
   pub fields : n ≤ b
   pub docs : n ≤ c
   pub pages : n ≤ d
-  pub calls : n ≤ e
-  pub boxes : n ≤ f
-  pub held : n ≤ g
-  pub entries : n ≤ h
-  pub prefixes : n ≤ i
-  pub productions : n ≤ j
-  pub batches : n ≤ k
-  pub words : n ≤ l
+  pub prefixes : n ≤ e
+  pub productions : n ≤ f
+  pub batches : n ≤ g
+  pub words : n ≤ h
 
-pub rooms : (n a b c d e f g h i j k l : ℕ) → n ≤ min a (min b (min c (min d (min e (min f (min g (min h (min i (min j (min k l)))))))))) → Rooms n a b c d e f g h i j k l
-rooms n a b c d e f g h i j k l le =
-    let p1 = min-parts n a (min b (min c (min d (min e (min f (min g (min h (min i (min j (min k l)))))))))) le in
-    let p2 = min-parts n b (min c (min d (min e (min f (min g (min h (min i (min j (min k l))))))))) p1.1 in
-    let p3 = min-parts n c (min d (min e (min f (min g (min h (min i (min j (min k l)))))))) p2.1 in
-    let p4 = min-parts n d (min e (min f (min g (min h (min i (min j (min k l))))))) p3.1 in
-    let p5 = min-parts n e (min f (min g (min h (min i (min j (min k l)))))) p4.1 in
-    let p6 = min-parts n f (min g (min h (min i (min j (min k l))))) p5.1 in
-    let p7 = min-parts n g (min h (min i (min j (min k l)))) p6.1 in
-    let p8 = min-parts n h (min i (min j (min k l))) p7.1 in
-    let p9 = min-parts n i (min j (min k l)) p8.1 in
-    let p10 = min-parts n j (min k l) p9.1 in
-    let p11 = min-parts n k l p10.1 in
-    record { staff = p1.0; fields = p2.0; docs = p3.0; pages = p4.0; calls = p5.0; boxes = p6.0; held = p7.0; entries = p8.0; prefixes = p9.0; productions = p10.0; batches = p11.0; words = p11.1 }
+pub rooms : (n a b c d e f g h : ℕ) → n ≤ min a (min b (min c (min d (min e (min f (min g h)))))) → Rooms n a b c d e f g h
+rooms n a b c d e f g h le =
+    let p1 = min-parts n a (min b (min c (min d (min e (min f (min g h)))))) le in
+    let p2 = min-parts n b (min c (min d (min e (min f (min g h))))) p1.1 in
+    let p3 = min-parts n c (min d (min e (min f (min g h)))) p2.1 in
+    let p4 = min-parts n d (min e (min f (min g h))) p3.1 in
+    let p5 = min-parts n e (min f (min g h)) p4.1 in
+    let p6 = min-parts n f (min g h) p5.1 in
+    let p7 = min-parts n g h p6.1 in
+    record { staff = p1.0; fields = p2.0; docs = p3.0; pages = p4.0; prefixes = p5.0; productions = p6.0; batches = p7.0; words = p7.1 }

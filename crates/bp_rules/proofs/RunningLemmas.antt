@@ -42,7 +42,7 @@ pub ran-none : (book : Book) → Ran book [] book.keeper.faults book
 ran-none book = record { matter = refl; answers = sym (append-nil book.answers); kept = λ h. h; told = told-itself book.keeper.rows; faults = refl; sure = refl }
 
 -- a run that stopped before its first
-pub one-stopped : (m : Matter) (asked : Asked) (keeper : KeeperView) (told now : List Answer) (refusal : StepRefusal) (n : Matter) (after_it : KeeperView) → now ≡ told → StopsAt refusal (answered m asked).answer → Stays m keeper (faults_stopped keeper.faults refusal) n after_it
+pub one-stopped : (m : Matter) (asked : Asked) (keeper : KeeperView) (told now : List Answer) (refusal : StepRefusal) (n : Matter) (after_it : KeeperView) → now ≡ told → StopsAt m refusal (answered m asked) → Stays m keeper (faults_stopped keeper.faults refusal) n after_it
     → Stopped (book_of m keeper told) (asked ∷ []) refusal (book_of n after_it now)
 one-stopped m asked keeper told now refusal n after_it same reason s =
     record {
@@ -58,7 +58,7 @@ one-stopped m asked keeper told now refusal n after_it same reason s =
         faults = s.faults;
         sure = s.sure;
       };
-      reason = subst (λ (x : Matter). StopsAt refusal (answered x asked).answer) (sym s.matter) reason;
+      reason = subst (λ (x : Matter). StopsAt x refusal (answered x asked)) (sym s.matter) reason;
     }
 
 told-as : (a : Option (List Row)) → IfSome a (λ now. a ≡ Some now)

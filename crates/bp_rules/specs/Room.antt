@@ -1,22 +1,22 @@
 -- Room in the lists of tables.
-use Rattle.std.specs.Prelude.{ℕ, ◌-◌, ◌≤◌, IsTrue, List, length, vec_len}
+use Rattle.std.specs.Prelude.{ℕ, ◌-◌, ◌≤◌, IsTrue, List, length, true, vec_len}
 use Rattle.std.specs.Global.{Vec}
 use Rattle.std.specs.Vec.{vec_capacity}
-use Rattle.bp_core.specs.Sorted.{ascends}
-use Rattle.bp_matter.specs.Matter.{box_key, call_key, entry_key, held_key}
+use Rattle.bp_matter.specs.Matter.{ShelfRooms, Shown}
 use Rattle.bp_matter.specs.declared.rows.BatchRow.{BatchRow}
-use Rattle.bp_matter.specs.declared.rows.CallRow.{CallRow}
-use Rattle.bp_matter.specs.declared.rows.DocBox.{DocBox}
-use Rattle.bp_matter.specs.declared.rows.DocEntry.{DocEntry}
-use Rattle.bp_matter.specs.declared.rows.DocHeld.{DocHeld}
 use Rattle.bp_matter.specs.declared.rows.DocRow.{DocRow}
 use Rattle.bp_matter.specs.declared.rows.FieldRow.{FieldRow}
 use Rattle.bp_matter.specs.declared.rows.PageRow.{PageRow}
 use Rattle.bp_matter.specs.declared.rows.PageWords.{PageWords}
-use Rattle.bp_rules.specs.Changes.{call_puts, mark_puts}
+use Rattle.bp_rules.specs.Changes.{puts_of}
 use Rattle.bp_rules.specs.declared.changes.CallEdit.{CallEdit}
+use Rattle.bp_rules.specs.declared.changes.CallEdit.TheVariants as call_edits
+use Rattle.bp_rules.specs.declared.changes.Edit.{Edit}
+use Rattle.bp_rules.specs.declared.changes.Edit.TheVariants.{Review}
 use Rattle.bp_rules.specs.declared.changes.ImportRows.{ImportRows}
 use Rattle.bp_rules.specs.declared.changes.MarkEdit.{MarkEdit}
+use Rattle.bp_rules.specs.declared.changes.MarkEdit.TheVariants as mark_edits
+use Rattle.bp_shelves.specs.Shelves.{room_of}
 
 -- so many rows can be added to a list without taking memory
 abbrev pub HasRoom : {T : Type 0} → ℕ → Vec T → Type 0
@@ -39,18 +39,24 @@ pub record HasRoomForRows (fields : Vec FieldRow) (docs : Vec DocRow) (pages : V
   pub of_batch : HasRoom 1 batches
   pub of_words : HasRoom (length rows.words) words
 
--- and the rows of a document, each to its list
-pub record HasRoomForEdit (calls : Vec CallRow) (boxes : Vec DocBox) (held : Vec DocHeld)
-    (entries : Vec DocEntry) (call : CallEdit) (mark : MarkEdit) : Type 0 where
-  pub of_call : HasRoom (length (call_puts call)) calls
-  pub of_box : HasRoom (length (mark_puts mark)) boxes
-  pub of_held : HasRoom (length (mark_puts mark)) held
-  pub of_entry : HasRoom (length (mark_puts mark)) entries
+-- the call that a review puts finds room on the shelf of its document
+abbrev pub HasRoomForCall : List ℕ → CallEdit → Type 0
+HasRoomForCall rooms (call_edits.Put row) = 1 ≤ room_of rooms row.doc.0
+HasRoomForCall rooms _ = IsTrue true
 
--- lists in order of key, as they stand in tables
-pub record ListsAscend (calls : List CallRow) (boxes : List DocBox) (held : List DocHeld)
-    (entries : List DocEntry) : Type 0 where
-  pub in_calls : IsTrue (ascends call_key 0 calls)
-  pub in_boxes : IsTrue (ascends box_key 0 boxes)
-  pub in_held : IsTrue (ascends held_key 0 held)
-  pub in_entries : IsTrue (ascends entry_key 0 entries)
+-- and so does the box, the held field or the log entry
+abbrev pub HasRoomForMark : List ℕ → List ℕ → List ℕ → MarkEdit → Type 0
+HasRoomForMark boxes held entries (mark_edits.PutBox row) = 1 ≤ room_of boxes row.doc.0
+HasRoomForMark boxes held entries (mark_edits.PutHeld row) = 1 ≤ room_of held row.doc.0
+HasRoomForMark boxes held entries (mark_edits.PutEntry row) = 1 ≤ room_of entries row.doc.0
+HasRoomForMark boxes held entries _ = IsTrue true
+
+abbrev pub HasRoomForEdit : ShelfRooms → CallEdit → MarkEdit → Type 0
+HasRoomForEdit rooms call mark =
+    HasRoomForCall rooms.calls call × HasRoomForMark rooms.boxes rooms.held rooms.entries mark
+
+-- tables have room for what a change puts: a review on the shelves of its document, any other
+-- change in each list for as many rows as it has puts
+abbrev pub HasRoomFor : Shown → Edit → Type 0
+HasRoomFor tables (Review call mark) = HasRoomForEdit tables.rooms call mark
+HasRoomFor tables edit = length (puts_of edit) ≤ tables.spare

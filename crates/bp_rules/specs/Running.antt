@@ -1,5 +1,5 @@
 -- Calls and imports in turn on a matter, with what is answered to each.
-use Rattle.std.specs.Prelude.{◌≡◌, ℕ, Bool, false, true, IsTrue, not, List, [], ◌∷◌, ◌++◌, is_some, Result, Ok, Err, IfSome}
+use Rattle.std.specs.Prelude.{◌≡◌, ◌≢◌, ℕ, Bool, false, true, IsTrue, not, List, [], ◌∷◌, ◌++◌, is_some, Result, Ok, Err, IfSome}
 use Rattle.bp_core.specs.Counts.{risen}
 use Rattle.bp_core.specs.declared.rules.Rule.{Rule}
 use Rattle.bp_keep.specs.Keeper.{KeeperView}
@@ -81,11 +81,12 @@ abbrev pub is_broken : Answer → Bool
 is_broken (answers.Refused rule) = true
 is_broken _ = false
 
--- a run stops where the keeper fails at what breaks no rule, and at no broken rule
-abbrev pub StopsAt : StepRefusal → Answer → Type 0
-StopsAt (stops.Rule rule) answer = ⊥
-StopsAt stops.KeeperFault answer = IsTrue (not (is_broken answer))
-StopsAt stops.OutOfMemory answer = Unit {0}
+-- a run stops where the keeper fails at what breaks no rule and changes the matter, and at no broken
+-- rule
+abbrev pub StopsAt : Matter → StepRefusal → Answered → Type 0
+StopsAt m (stops.Rule rule) next = ⊥
+StopsAt m stops.KeeperFault next = IsTrue (not (is_broken next.answer)) × (next.matter ≢ m)
+StopsAt m stops.OutOfMemory next = Unit {0}
 
 -- only a fault of the keeper raises its count
 abbrev pub faults_stopped : ℕ → StepRefusal → ℕ
@@ -100,7 +101,7 @@ pub record Stopped (before : Book) (asked : List Asked) (refusal : StepRefusal) 
   pub others : List Asked
   pub parts : asked ≡ first ++ next ∷ others
   pub ran : Ran before first (faults_stopped before.keeper.faults refusal) now
-  pub reason : StopsAt refusal (answered now.matter next).answer
+  pub reason : StopsAt now.matter refusal (answered now.matter next)
 
 -- what a run gives: all made and answered in turn, or what was asked before the one that it
 -- stopped at
@@ -138,7 +139,7 @@ abbrev pub AnswersOne : Matter → Asked → KeeperView → Result Answer StepRe
     → KeeperView → Type 0
 AnswersOne m asked keeper (Ok answer) m' keeper' = OneAnswered m asked keeper answer m' keeper'
 AnswersOne m asked keeper (Err refusal) m' keeper' =
-    StopsAt refusal (answered m asked).answer
+    StopsAt m refusal (answered m asked)
     × Stays m keeper (faults_stopped keeper.faults refusal) m' keeper'
 
 -- ---- loaded after a run

@@ -1,7 +1,6 @@
 -- Steps: what a matter and its keeper are after one.
-use Rattle.std.specs.Prelude.{◌≡◌, ℕ, [], List, Option, Some, Result, Ok, Err, IfSome}
+use Rattle.std.specs.Prelude.{◌≡◌, ◌≢◌, ℕ, [], List, Option, Some, Result, Ok, Err, IfSome, IsOkAnd}
 use Rattle.std.specs.Option.{option_map}
-use Rattle.std.specs.Result.{IsOk}
 use Rattle.bp_core.specs.Counts.{risen}
 use Rattle.bp_core.specs.declared.kept.Row.{Row}
 use Rattle.bp_keep.specs.Keeper.{KeeperView}
@@ -49,36 +48,39 @@ pub record Stays (m : Matter) (keeper : KeeperView) (count : ℕ) (m' : Matter)
   pub sure : keeper'.sure ≡ keeper.sure
 
 -- what making a change gives: the change made and kept, and nothing asked of the keeper where
--- there are no puts; or a fault of the keeper or want of memory, which leave all
+-- there are no puts; or a fault of the keeper, which was asked for puts, or want of memory, which
+-- leave all
 abbrev pub Makes : Matter → KeeperView → Edit → Result (Unit {0}) KeepRefusal → Matter → KeeperView
     → Type 0
 Makes m keeper edit (Ok _) m' keeper' =
     Made m keeper edit m' keeper' × (puts_of edit ≡ [] → keeper' ≡ keeper)
 Makes m keeper edit (Err keeps.Failed) m' keeper' =
-    Stays m keeper (risen keeper.faults) m' keeper'
+    (puts_of edit ≢ []) × Stays m keeper (risen keeper.faults) m' keeper'
 Makes m keeper edit (Err keeps.OutOfMemory) m' keeper' = Stays m keeper keeper.faults m' keeper'
 
 -- the numbers that are told of an import
 abbrev pub counted_of : Imported → Counted
 counted_of imported = record { documents = imported.documents; pages = imported.pages }
 
--- an import was made, and its numbers told
+-- an import was made, and its numbers told; the keeper is asked for nothing where there are no puts
 pub record ImportMade (m : Matter) (b : BatchShown) (keeper : KeeperView) (counted : Counted)
     (m' : Matter) (keeper' : KeeperView) : Type 0 where
   pub imported : Imported
   pub answer : import_of m b ≡ Ok imported
   pub numbers : counted ≡ counted_of imported
   pub made : Made m keeper imported.change m' keeper'
+  pub quiet : puts_of imported.change ≡ [] → keeper' ≡ keeper
 
--- what a step of an import gives: the import made and kept; or a rule, a fault of the keeper or
--- want of memory, which leave all
+-- what a step of an import gives: the import made and kept; or a rule, a fault of the keeper at an
+-- import that has puts, or want of memory, which leave all
 abbrev pub StepsImport : Matter → BatchShown → KeeperView → Result Counted StepRefusal → Matter
     → KeeperView → Type 0
 StepsImport m b keeper (Ok counted) m' keeper' = ImportMade m b keeper counted m' keeper'
 StepsImport m b keeper (Err (stops.Rule rule)) m' keeper' =
     (import_of m b ≡ Err rule) × (m' ≡ m) × (keeper' ≡ keeper)
 StepsImport m b keeper (Err stops.KeeperFault) m' keeper' =
-    IsOk (import_of m b) × Stays m keeper (risen keeper.faults) m' keeper'
+    IsOkAnd (import_of m b) (λ imported. puts_of imported.change ≢ [])
+    × Stays m keeper (risen keeper.faults) m' keeper'
 StepsImport m b keeper (Err stops.OutOfMemory) m' keeper' = Stays m keeper keeper.faults m' keeper'
 
 -- a call was made, and its reply told; the keeper is asked for nothing where the matter stays
@@ -89,14 +91,15 @@ pub record CallMade (m : Matter) (key : List ℕ) (call : Call) (keeper : Keeper
   pub made : Made m keeper edit m' keeper'
   pub quiet : after m edit ≡ m → keeper' ≡ keeper
 
--- what a step gives: the call made and kept; or a rule, a fault of the keeper or want of memory,
--- which leave all
+-- what a step gives: the call made and kept; or a rule, a fault of the keeper at a call that
+-- changes the matter, or want of memory, which leave all
 abbrev pub StepsCall : Matter → List ℕ → Call → KeeperView → Result Reply StepRefusal → Matter
     → KeeperView → Type 0
 StepsCall m key call keeper (Ok reply) m' keeper' = CallMade m key call keeper reply m' keeper'
 StepsCall m key call keeper (Err (stops.Rule rule)) m' keeper' =
     (step_of m key call ≡ Err rule) × (m' ≡ m) × (keeper' ≡ keeper)
 StepsCall m key call keeper (Err stops.KeeperFault) m' keeper' =
-    IsOk (step_of m key call) × Stays m keeper (risen keeper.faults) m' keeper'
+    IsOkAnd (step_of m key call) (λ stepped. stepped.matter ≢ m)
+    × Stays m keeper (risen keeper.faults) m' keeper'
 StepsCall m key call keeper (Err stops.OutOfMemory) m' keeper' =
     Stays m keeper keeper.faults m' keeper'

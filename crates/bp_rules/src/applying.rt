@@ -1,38 +1,42 @@
 // Making a decided change.
 ghost use Rattle.std.specs.Prelude.{[], ◌≡◌, ◌≤◌, ◌++◌, ◌∷◌, length, IsTrue, OnOk};
 ghost use Rattle.bp_core.specs.Sorted.{ascends, put};
-ghost use Rattle.bp_matter.specs.Matter.{call_key, prefix_key};
+ghost use Rattle.bp_matter.specs.Matter.{prefix_key};
 ghost use Rattle.bp_matter.specs.Valid.{IsValid};
 ghost use Rattle.bp_rules.specs.Calling.{with_staff};
-ghost use Rattle.bp_rules.specs.Changes.{after, boxes_after, call_puts, calls_after, entries_after, held_after, mark_puts, puts_of, rows_kept, with_produced, with_rows};
-ghost use Rattle.bp_rules.specs.Room.{HasRoom, HasRoomForEdit, HasRoomForFour, HasRoomForRows, ListsAscend};
+ghost use Rattle.bp_rules.specs.Changes.{after, boxes_after, calls_after, entries_after, held_after, rows_kept, with_produced, with_rows};
+ghost use Rattle.bp_rules.specs.Room.{HasRoom, HasRoomFor, HasRoomForCall, HasRoomForEdit, HasRoomForFour, HasRoomForMark, HasRoomForRows};
 ghost use Rattle.bp_rules.specs.declared.changes.Edit.TheVariants.{Review};
 
 use crate::changes::{CallEdit, Change, Edit, ImportRows, MarkEdit};
-use bp_core::{Keyed, ListOf, OutOfMemory, put_row, remove_row, two_keys};
+use bp_core::{Keyed, ListOf, OutOfMemory, put_row, two_keys};
 use bp_matter::{
-    BatchRow, CallRow, DocBox, DocEntry, DocHeld, DocRow, FieldRow, PageRow, PageWords, PrefixRow,
-    ProductionRow, StaffRow, Tables,
+    BatchRow, CallShelves, DocBoxShelves, DocHeldShelves, DocRow, EntryShelves, FieldRow, PageRow,
+    PageWords, PrefixRow, ProductionRow, StaffRow, Tables,
 };
 
-/// Makes room in each list for as many rows as the change has puts. The contents stay as they are.
+/// Makes room for the rows of a change: on the shelves of a document for those that a review puts, else in
+/// each list for as many rows as there are puts. The contents stay as they are.
 pub fn make_room(tables: &mut Tables, change: &Change) -> Result<(), OutOfMemory>
     ensures same { tables.new.matter ≡ tables.old.matter }
-    ensures room { OnOk result (length (puts_of change.now) ≤ tables.new.spare) }
+    ensures room { OnOk result (HasRoomFor tables.new change.now) }
 {
-    let count = change.puts().len();
+    match change.edit() {
+        Edit::Review(call, mark) => reserve_shelves(tables, call, mark),
+        _ => reserve_lists(tables, change.puts().len()),
+    }
+}
+
+// Makes room for so many rows in each list.
+fn reserve_lists(tables: &mut Tables, count: usize) -> Result<(), OutOfMemory>
+    ensures same { tables.new.matter ≡ tables.old.matter }
+    ensures room { OnOk result (count ≤ tables.new.spare) }
+{
     reserve_four(
         &mut tables.staff,
         &mut tables.fields,
         &mut tables.docs,
         &mut tables.pages,
-        count,
-    )?;
-    reserve_four(
-        &mut tables.calls,
-        &mut tables.boxes,
-        &mut tables.held,
-        &mut tables.entries,
         count,
     )?;
     reserve_four(
@@ -43,6 +47,51 @@ pub fn make_room(tables: &mut Tables, change: &Change) -> Result<(), OutOfMemory
         count,
     )?;
     Ok(())
+}
+
+// Makes room for what a review puts on the shelves of a document.
+fn reserve_shelves(tables: &mut Tables, call: &CallEdit, mark: &MarkEdit) -> Result<(), OutOfMemory>
+    ensures same { tables.new.matter ≡ tables.old.matter }
+    ensures room { OnOk result (HasRoomForEdit tables.new.rooms call.now mark.now) }
+{
+    reserve_call(&mut tables.calls, call)?;
+    reserve_mark(
+        &mut tables.boxes,
+        &mut tables.held,
+        &mut tables.entries,
+        mark,
+    )?;
+    Ok(())
+}
+
+fn reserve_call(calls: &mut CallShelves, call: &CallEdit) -> Result<(), OutOfMemory>
+    ensures same { calls.new.rows ≡ calls.old.rows }
+    ensures room { OnOk result (HasRoomForCall calls.new.rooms call.now) }
+{
+    match call {
+        CallEdit::Put(row) => calls.reserve(row.doc),
+        _ => Ok(()),
+    }
+}
+
+fn reserve_mark(
+    boxes: &mut DocBoxShelves,
+    held: &mut DocHeldShelves,
+    entries: &mut EntryShelves,
+    mark: &MarkEdit,
+) -> Result<(), OutOfMemory>
+    ensures boxes { boxes.new.rows ≡ boxes.old.rows }
+    ensures held { held.new.rows ≡ held.old.rows }
+    ensures entries { entries.new.rows ≡ entries.old.rows }
+    ensures room { OnOk result
+        (HasRoomForMark boxes.new.rooms held.new.rooms entries.new.rooms mark.now) }
+{
+    match mark {
+        MarkEdit::PutBox(row) => boxes.reserve(row.doc),
+        MarkEdit::PutHeld(row) => held.reserve(row.doc),
+        MarkEdit::PutEntry(row) => entries.reserve(row.doc),
+        _ => Ok(()),
+    }
 }
 
 // Makes room for so many rows in each of four lists.
@@ -69,7 +118,7 @@ fn reserve_four<A, B, C, D>(
 /// Makes a change that was decided on these tables, with room for it. It takes no memory.
 pub fn apply(tables: &mut Tables, change: Change)
     requires valid { IsValid (after tables.old.matter change) }
-    requires room { length (puts_of change) ≤ tables.old.spare }
+    requires room { HasRoomFor tables.old change }
     ensures { tables.new.matter ≡ after tables.old.matter change }
 {
     match change.into_edit() {
@@ -124,7 +173,7 @@ fn produce(
 // Changes the rows of a document. Between the lists the tables need not be valid.
 fn edit_rows(tables: &mut Tables, call: CallEdit, mark: MarkEdit)
     requires valid { IsValid (after tables.old.matter (Review call mark)) }
-    requires room { length (call_puts call ++ mark_puts mark) ≤ tables.old.spare }
+    requires room { HasRoomForEdit tables.old.rooms call mark }
     ensures { tables.new.matter ≡ after tables.old.matter (Review call mark) }
 {
     edit_lists(
@@ -138,40 +187,39 @@ fn edit_rows(tables: &mut Tables, call: CallEdit, mark: MarkEdit)
 }
 
 fn edit_lists(
-    calls: &mut Vec<CallRow>,
-    boxes: &mut Vec<DocBox>,
-    held: &mut Vec<DocHeld>,
-    entries: &mut Vec<DocEntry>,
+    calls: &mut CallShelves,
+    boxes: &mut DocBoxShelves,
+    held: &mut DocHeldShelves,
+    entries: &mut EntryShelves,
     call: CallEdit,
     mark: MarkEdit,
 )
-    requires order { ListsAscend calls.old.items boxes.old.items held.old.items entries.old.items }
-    requires room { HasRoomForEdit calls.old boxes.old held.old entries.old call mark }
-    ensures calls { calls.new.items ≡ calls_after call calls.old.items }
-    ensures boxes { boxes.new.items ≡ boxes_after mark boxes.old.items }
-    ensures held { held.new.items ≡ held_after mark held.old.items }
-    ensures entries { entries.new.items ≡ entries_after mark entries.old.items }
+    requires call_room { HasRoomForCall calls.old.rooms call }
+    requires mark_room { HasRoomForMark boxes.old.rooms held.old.rooms entries.old.rooms mark }
+    ensures calls { calls.new.rows ≡ calls_after call calls.old.rows }
+    ensures boxes { boxes.new.rows ≡ boxes_after mark boxes.old.rows }
+    ensures held { held.new.rows ≡ held_after mark held.old.rows }
+    ensures entries { entries.new.rows ≡ entries_after mark entries.old.rows }
 {
     edit_call(calls, call);
     match mark {
         MarkEdit::Stays => {}
-        MarkEdit::PutBox(row) => put_in(boxes, row),
-        MarkEdit::DropBox(doc, num) => remove_row(boxes, two_keys(doc.0, num)),
-        MarkEdit::PutHeld(row) => put_in(held, row),
-        MarkEdit::DropHeld(doc, field) => remove_row(held, two_keys(doc.0, field)),
-        MarkEdit::PutEntry(row) => put_in(entries, row),
+        MarkEdit::PutBox(row) => boxes.put(row),
+        MarkEdit::DropBox(doc, num) => boxes.remove(doc, two_keys(doc.0, num)),
+        MarkEdit::PutHeld(row) => held.put(row),
+        MarkEdit::DropHeld(doc, field) => held.remove(doc, two_keys(doc.0, field)),
+        MarkEdit::PutEntry(row) => entries.put(row),
     }
 }
 
-fn edit_call(calls: &mut Vec<CallRow>, call: CallEdit)
-    requires order { IsTrue (ascends call_key 0 calls.old.items) }
-    requires room { HasRoom (length (call_puts call)) calls.old }
-    ensures { calls.new.items ≡ calls_after call calls.old.items }
+fn edit_call(calls: &mut CallShelves, call: CallEdit)
+    requires { HasRoomForCall calls.old.rooms call }
+    ensures { calls.new.rows ≡ calls_after call calls.old.rows }
 {
     match call {
         CallEdit::Stays => {}
-        CallEdit::Put(row) => put_in(calls, row),
-        CallEdit::Gone(doc) => remove_row(calls, u128::from(doc.0)),
+        CallEdit::Put(row) => calls.put(row),
+        CallEdit::Gone(doc) => calls.remove(doc, u128::from(doc.0)),
     }
 }
 

@@ -4,6 +4,7 @@ ghost use Rattle.bp_rules.specs.Beginning.{begun};
 
 use bp_core::{OutOfMemory, Role, StaffNo, Text};
 use bp_matter::{StaffRow, Tables};
+use bp_shelves::Shelves;
 use std::alloc::Global;
 
 /// The tables of a new matter: staff 1, named `lead`, is a lead whose key has this SHA-256, and
@@ -25,10 +26,10 @@ pub fn begin(alloc: Global, digest: [u8; 32]) -> Result<Tables, OutOfMemory>
         fields: Vec::new(alloc),
         docs: Vec::new(alloc),
         pages: Vec::new(alloc),
-        calls: Vec::new(alloc),
-        boxes: Vec::new(alloc),
-        held: Vec::new(alloc),
-        entries: Vec::new(alloc),
+        calls: Shelves::new(alloc),
+        boxes: Shelves::new(alloc),
+        held: Shelves::new(alloc),
+        entries: Shelves::new(alloc),
         prefixes: Vec::new(alloc),
         productions: Vec::new(alloc),
         batches: Vec::new(alloc),

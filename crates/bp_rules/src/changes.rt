@@ -98,6 +98,12 @@ impl Change {
     }
 
     // What it does to the tables.
+    pub(crate) fn edit(&self) -> &Edit
+        ensures { result.now ≡ self.now }
+    {
+        &self.edit
+    }
+
     pub(crate) fn into_edit(self) -> Edit
         ensures { result ≡ self }
     {

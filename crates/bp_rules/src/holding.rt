@@ -15,7 +15,7 @@ use crate::calling::edited;
 use crate::changes::MarkEdit;
 use crate::deciding::{Decided, reviewed, told};
 use crate::refusing::{is_called_redact, no_document};
-use bp_core::{Basis, DocNo, Refusal, Rule, RuleKind, StaffNo, Text, find_row, two_keys};
+use bp_core::{Basis, DocNo, Refusal, Rule, RuleKind, StaffNo, Text, two_keys};
 use bp_matter::{Call, DocHeld, FieldRow, HeldRow, Reply, Tables};
 use std::alloc::Global;
 
@@ -116,7 +116,7 @@ fn held_with(tables: &Tables, doc: DocNo, field: u32) -> Option<&DocHeld>
     ensures { option_copied result ≡ held_with doc.0 field tables.now.matter }
 {
     tables.know_valid();
-    find_row(&tables.held, two_keys(doc.0, field))
+    tables.held.find(doc, two_keys(doc.0, field))
 }
 
 fn is_held(tables: &Tables, doc: DocNo, field: u32) -> bool

@@ -7,7 +7,7 @@ ghost use Rattle.bp_rules.specs.ImportRows.{batch_row, doc_row, doc_rows, field_
 ghost use Rattle.bp_rules.specs.Limits.{WithinLimits, limit_passed};
 
 use crate::changes::ImportRows;
-use crate::copies::{copy_page, copy_text, copy_words};
+use crate::copies::{copy_text, copy_words};
 use crate::limits::{has_field, pages_of_batch};
 use bp_core::{DocNo, ListOf, OutOfMemory, PageNo, Text, TextList};
 use bp_matter::{
@@ -234,11 +234,12 @@ impl OfPage for PageRow {
 
     ghost row_of = { page_row };
 
-    fn row(alloc: Global, doc: u32, page: u32, from: &BatchPage) -> Result<PageRow, OutOfMemory> {
+    // The row holds the batch's page with it, so that no pixels are copied.
+    fn row(_alloc: Global, doc: u32, page: u32, from: &BatchPage) -> Result<PageRow, OutOfMemory> {
         Ok(PageRow {
             doc: DocNo(doc),
             page: PageNo(page),
-            image: copy_page(alloc, &from.page)?,
+            image: from.page.share()?,
         })
     }
 }

@@ -11,6 +11,7 @@ use bp_matter::{
     Batch, BatchDoc, BatchPage, FieldRow, MAX_BATCHES, MAX_DOCUMENTS, MAX_FIELDS, MAX_PAGES,
     MAX_PIXELS, PageRow, Tables,
 };
+use bp_rows::Page;
 
 // The numbers of the limits.
 pub const DOCUMENTS: u64 = 1;
@@ -153,6 +154,12 @@ fn pages_in(docs: &[BatchDoc]) -> u32
     count
 }
 
+fn pixels(page: &Page) -> u64
+    ensures { result ≡ page.now.width * page.now.height }
+{
+    u64::from(page.width()) * u64::from(page.height())
+}
+
 fn pixels_of(pages: &[PageRow]) -> u64
     requires { pixels_of pages.now < 2 ^ 63 }
     ensures { result ≡ pixels_of pages.now }
@@ -160,7 +167,7 @@ fn pixels_of(pages: &[PageRow]) -> u64
     let mut sum = 0;
     let mut rest = pages;
     while let Some((row, others)) = rest.split_first() {
-        sum += u64::from(row.image.width()) * u64::from(row.image.height());
+        sum += pixels(row.image.page());
         rest = others;
     }
     sum
@@ -173,7 +180,7 @@ fn pixels_on(pages: &[BatchPage]) -> u64
     let mut sum = 0;
     let mut rest = pages;
     while let Some((page, others)) = rest.split_first() {
-        sum += u64::from(page.page.width()) * u64::from(page.page.height());
+        sum += pixels(page.page.page());
         rest = others;
     }
     sum

@@ -16,7 +16,7 @@ use crate::calling::edited;
 use crate::changes::MarkEdit;
 use crate::deciding::{Decided, reviewed, told};
 use crate::refusing::{is_box, is_called_redact, no_document, no_page};
-use bp_core::{DocNo, Refusal, Rule, RuleKind, StaffNo, find_row, two_keys};
+use bp_core::{DocNo, Refusal, Rule, RuleKind, StaffNo, two_keys};
 use bp_matter::{BoxRow, Call, DocBox, PageRow, Reply, Tables};
 use std::alloc::Global;
 
@@ -79,7 +79,8 @@ fn know_box(row: DocBox)
 fn lies_on(row: &BoxRow, page: &PageRow) -> bool
     ensures { result ≡ inside_page (Some page.now) row.now.rect }
 {
-    row.rect.inside(page.image.width(), page.image.height())
+    let image = page.image.page();
+    row.rect.inside(image.width(), image.height())
 }
 
 // The box of its number, or nothing where it stands.
@@ -112,7 +113,7 @@ fn box_with(tables: &Tables, doc: DocNo, num: u32) -> Option<&DocBox>
     ensures { option_copied result ≡ box_with doc.0 num tables.now.matter }
 {
     tables.know_valid();
-    find_row(&tables.boxes, two_keys(doc.0, num))
+    tables.boxes.find(doc, two_keys(doc.0, num))
 }
 
 fn has_box(tables: &Tables, doc: DocNo, num: u32) -> bool

@@ -50,7 +50,7 @@ pub(crate) fn see_page(
     let Some(row) = tables.page_with(doc, page) else {
         return Err(Refusal::Rule(no_page(page)));
     };
-    let image = copy_page(alloc, &row.image)?;
+    let image = copy_page(alloc, row.image.page())?;
     told(alloc, tables, Reply::Image(image))
 }
 

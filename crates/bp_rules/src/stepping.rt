@@ -40,9 +40,9 @@ pub enum StepRefusal {
 }
 
 /// Imports a batch: the tables and the kept rows are those after it. Room is made before the rows
-/// are committed, so after the commit nothing can fail. A refusal leaves tables and rows. Stored
-/// productions stay kept, and what comes stands behind the fields, documents, pages and words that
-/// were there.
+/// are committed, so after the commit nothing can fail; of a batch that was imported before nothing is
+/// committed. A refusal leaves tables and rows. Stored productions stay kept, and what comes stands
+/// behind the fields, documents, pages and words that were there.
 pub fn step_import<K: Keeper>(
     alloc: Global,
     tables: &mut Tables,

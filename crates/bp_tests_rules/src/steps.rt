@@ -1,9 +1,10 @@
 // Steps: an import and a call once more, faults of the keeper, and a run of calls.
 use bp_core::{
-    Basis, DocNo, ListOf, NumberList, OutOfMemory, PageNo, Rect, Rule, RuleKind, StaffNo, Treatment,
+    Basis, DocNo, ListOf, NumberList, OutOfMemory, PageNo, Rect, Row as KeptRow, Rule, RuleKind,
+    StaffNo, Treatment,
 };
 use bp_keep::{Keeper, MemKeeper};
-use bp_matter::{BoxRow, Reply, State};
+use bp_matter::{Batch, BoxRow, Reply, State, Tables};
 use bp_rules::{
     Answer, Asked, Counted, LoadRefusal, StepRefusal, begin, load_tables, step_all, step_import,
 };
@@ -16,6 +17,7 @@ use bp_samples::told::Told::{Done, KeeperFault};
 use bp_samples::told::{Seen, Told};
 use bp_samples::usual_matter::first_misfit;
 use std::alloc::Global;
+use std::process::Abort;
 use std::test::Fail;
 
 // The kept row of staff 1, whose key has the digest of zeros: version, lead, digest, and `lead`.
@@ -40,37 +42,61 @@ const NOTHING: Counted = Counted {
     pages: 0,
 };
 
-// The keeper fails at the first load and at the first commit, which leave all. The batch then comes
-// in, once, and another one of its name doesn't.
-#[test]
-fn a_batch_comes_in_once(rt: HostRuntime) -> Result<(), Fail> {
-    let alloc = rt.alloc();
+// The tables of a new matter, and its keeper, which fails at the first load, that leaves all, and is to
+// fail at the first commit.
+fn loaded_again(rt: &impl Abort, alloc: Global) -> Result<(Tables, MemKeeper), Fail> {
     let rows = begin(alloc, ZEROS)?.rows(alloc)?;
     let failing = NumberList::from_vec(Vec::from_slice(alloc, &[0, 2])?);
     let mut keeper = MemKeeper::over(rows, failing);
     let failed = load_tables(alloc, &mut keeper).err();
     assert_eq!(rt; failed, Some(LoadRefusal::KeeperFault));
-    let mut tables = load_tables(alloc, &mut keeper)?;
-    let batch = batch_in(alloc, "B1", HEADER.as_bytes(), "", "", NEVER)??;
-    let failed = step_import(alloc, &mut tables, &mut keeper, &batch);
+    let tables = load_tables(alloc, &mut keeper)?;
+    Ok((tables, keeper))
+}
+
+// The commit fails and leaves all. The batch then comes in, and is told once more; another one of its
+// name is refused.
+fn comes_in(
+    rt: &impl Abort,
+    alloc: Global,
+    tables: &mut Tables,
+    keeper: &mut MemKeeper,
+    batch: &Batch,
+    other: &Batch,
+) -> Result<(), Fail> {
+    let failed = step_import(alloc, tables, keeper, batch);
     assert_eq!(rt; failed, Err(StepRefusal::KeeperFault));
     assert!(rt; tables.batches.is_empty() && keeper.load(alloc)?.len() == 1);
     for _ in 0..2 {
-        let told = step_import(alloc, &mut tables, &mut keeper, &batch);
+        let told = step_import(alloc, tables, keeper, batch);
         assert_eq!(rt; told, Ok(NOTHING));
     }
-    let other = batch_in(alloc, "B1", OTHER_HEADER.as_bytes(), "", "", NEVER)??;
-    let told = step_import(alloc, &mut tables, &mut keeper, &other);
+    let told = step_import(alloc, tables, keeper, other);
     let rule = Rule::bare(RuleKind::BatchDiffers);
     assert_eq!(rt; told, Err(StepRefusal::Rule(rule)));
-    let rows = keeper.load(alloc)?;
-    let [lead, kept] = rows.as_slice() else {
+    Ok(())
+}
+
+// The rows are those of the lead and of the batch.
+fn lead_and_batch(rt: &impl Abort, rows: &[KeptRow]) {
+    let [lead, kept] = rows else {
         panic!(rt; "other rows");
     };
     assert_eq!(rt; (lead.kind, lead.k1, lead.k2), (1, 1, 0));
     assert_eq!(rt; lead.body.as_slice(), LEAD.as_slice());
     assert_eq!(rt; (kept.kind, kept.k1, kept.k2), (11, 1, 0));
     assert_eq!(rt; kept.body.as_slice(), BATCH.as_slice());
+}
+
+#[test]
+fn a_batch_comes_in_once(rt: HostRuntime) -> Result<(), Fail> {
+    let alloc = rt.alloc();
+    let batch = batch_in(alloc, "B1", HEADER.as_bytes(), "", "", NEVER)??;
+    let other = batch_in(alloc, "B1", OTHER_HEADER.as_bytes(), "", "", NEVER)??;
+    let (mut tables, mut keeper) = loaded_again(&rt, alloc)?;
+    comes_in(&rt, alloc, &mut tables, &mut keeper, &batch, &other)?;
+    let rows = keeper.load(alloc)?;
+    lead_and_batch(&rt, rows.as_slice());
     Ok(())
 }
 
@@ -145,61 +171,72 @@ fn a_fault_leaves_the_call(rt: HostRuntime) -> Result<(), Fail> {
     Ok(())
 }
 
-// By the lead.
-fn asked(alloc: Global, made: Made) -> Result<Asked, OutOfMemory> {
+// Adds a call by the lead.
+fn push_call(alloc: Global, calls: &mut Vec<Asked>, made: Made) -> Result<(), OutOfMemory> {
     let call = call_of(alloc, made)?;
-    Ok(Asked::Call { key: ZEROS, call })
+    calls.push(Asked::Call { key: ZEROS, call })?;
+    Ok(())
 }
 
-// The keeper's first commit, that of the send-back, fails once, and ends the run. The confirmation
-// is refused each time, as the lead called the document last.
-#[test]
-fn a_run_goes_on_past_a_refused_call(rt: HostRuntime) -> Result<(), Fail> {
-    let alloc = rt.alloc();
-    let (mut tables, mut keeper) = matter_of(alloc, ALONE, &[1])?;
+// A confirmation, a send-back and an import.
+fn three_asked(alloc: Global, batch: Batch) -> Result<Vec<Asked>, OutOfMemory> {
     let mut calls = Vec::new(alloc);
-    calls.push(asked(alloc, Confirm(1))?)?;
-    calls.push(asked(alloc, SendBack(1))?)?;
-    let batch = batch_in(
-        alloc,
-        "B1",
-        TWO.as_bytes(),
-        "A1,,a.tif,Y\nA3,,a.tif,Y\n",
-        "",
-        NEVER,
-    )??;
+    push_call(alloc, &mut calls, Confirm(1))?;
+    push_call(alloc, &mut calls, SendBack(1))?;
     calls.push(Asked::Import { batch })?;
-    let mut answers = Vec::new(alloc);
-    let stopped = step_all(
-        alloc,
-        &mut tables,
-        &mut keeper,
-        calls.as_slice(),
-        &mut answers,
-    );
+    Ok(calls)
+}
+
+// The keeper's first commit, that of the send-back, fails once, and ends the run.
+fn run_twice(
+    rt: &impl Abort,
+    alloc: Global,
+    tables: &mut Tables,
+    keeper: &mut MemKeeper,
+    calls: &[Asked],
+    answers: &mut Vec<Answer>,
+) {
+    let stopped = step_all(alloc, tables, keeper, calls, answers);
     assert_eq!(rt; stopped, Err(StepRefusal::KeeperFault));
     assert_eq!(rt; tables.state(DocNo(1)), Some(State::First(StaffNo(1))));
-    let ended = step_all(
-        alloc,
-        &mut tables,
-        &mut keeper,
-        calls.as_slice(),
-        &mut answers,
-    );
+    let ended = step_all(alloc, tables, keeper, calls, answers);
     assert_eq!(rt; ended, Ok(()));
     assert_eq!(rt; tables.state(DocNo(1)), Some(State::Uncalled));
+}
+
+// The confirmation was refused each time, as the lead called the document last.
+fn refused_and_made(rt: &impl Abort, answers: &[Answer]) {
     let [
         Answer::Refused(first),
         Answer::Refused(second),
         Answer::Replied(reply),
         Answer::Counted(counted),
-    ] = answers.as_slice()
+    ] = answers
     else {
         panic!(rt; "other answers");
     };
     let rule = Rule::bare(RuleKind::SamePerson);
     assert!(rt; *first == rule && *second == rule && matches!(reply, Reply::Done));
     assert_eq!(rt; (counted.documents, counted.pages), (2, 2));
+}
+
+#[test]
+fn a_run_goes_on_past_a_refused_call(rt: HostRuntime) -> Result<(), Fail> {
+    let alloc = rt.alloc();
+    let lines = "A1,,a.tif,Y\nA3,,a.tif,Y\n";
+    let batch = batch_in(alloc, "B1", TWO.as_bytes(), lines, "", NEVER)??;
+    let calls = three_asked(alloc, batch)?;
+    let mut answers = Vec::new(alloc);
+    let (mut tables, mut keeper) = matter_of(alloc, ALONE, &[1])?;
+    run_twice(
+        &rt,
+        alloc,
+        &mut tables,
+        &mut keeper,
+        calls.as_slice(),
+        &mut answers,
+    );
+    refused_and_made(&rt, answers.as_slice());
     assert!(rt; keeper.load(alloc)? == tables.rows(alloc)?);
     Ok(())
 }

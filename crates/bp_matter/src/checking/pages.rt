@@ -1,7 +1,7 @@
 // Whether rows are the pages of a matter, and where a page is.
 ghost use Rattle.std.specs.List.{list_all};
 ghost use Rattle.std.specs.Option.{option_copied};
-ghost use Rattle.std.specs.Prelude.{IsTrue, length, nat_le, ◌*◌, ◌<◌, ◌^◌, ◌≡◌, ◌≤◌};
+ghost use Rattle.std.specs.Prelude.{IsTrue, Some, length, nat_le, ◌*◌, ◌<◌, ◌^◌, ◌≡◌, ◌≤◌};
 ghost use Rattle.bp_core.specs.Sorted.{ascends};
 ghost use Rattle.bp_matter.specs.Written.{page_written};
 ghost use Rattle.bp_matter.specs.Matter.{page_key};
@@ -53,9 +53,8 @@ pub(crate) fn are_paged<T: Keyed>(docs: &[DocRow], rows: &[T]) -> bool
 fn pixels(row: &PageRow) -> u64
     ensures { result ≡ row.now.image.width * row.now.image.height }
 {
-    let width = row.image.width();
-    let height = row.image.height();
-    u64::from(width) * u64::from(height)
+    let page = row.image.page();
+    u64::from(page.width()) * u64::from(page.height())
 }
 
 fn pixels_of(pages: &[PageRow]) -> u128
@@ -79,7 +78,8 @@ fn pixels_few(pages: &[PageRow]) -> bool
 fn page_fits(row: &PageRow) -> bool
     ensures { result ≡ page_fits row.now }
 {
-    import_sides(row.image.width(), row.image.height())
+    let page = row.image.page();
+    import_sides(page.width(), page.height())
 }
 
 fn pages_fit(rows: &[PageRow]) -> bool
@@ -120,8 +120,16 @@ pub(crate) fn inside_page(page: Option<&PageRow>, rect: Rect) -> bool
 {
     match page {
         None => false,
-        Some(row) => rect.inside(row.image.width(), row.image.height()),
+        Some(row) => inside(row, rect),
     }
+}
+
+// Whether no pixel of the rectangle passes an edge of the page.
+fn inside(row: &PageRow, rect: Rect) -> bool
+    ensures { result ≡ inside_page (Some row.now) rect }
+{
+    let page = row.image.page();
+    rect.inside(page.width(), page.height())
 }
 
 pub(crate) fn page_in(pages: &[PageRow], doc: DocNo, page: PageNo) -> Option<&PageRow>

@@ -12,6 +12,7 @@ pub returns-then-good : goal.returns-then-good
 returns-then-good c =
     sym c.as_slice-rows.ensures
     ∙ all_of_them c.as_slice-rows.result.now (rows_of (matter_of c.in_ok-lists.lists)) c.in_ok-lists.rest.now c.in_ok-lists.ensures.parts (sym c.is_empty.ensures ∙ c.if-is_empty.true)
+    ∙ ap rows_of (sym c.in_ok-tables_of.ensures)
 
 pub returns : goal.returns
 returns c =

@@ -12,7 +12,6 @@ push_staff-requires c =
     let t = c.tables.inside in
     let room = subst (λ (s : Shown). 1 ≤ s.spare) (sym c.tables.view_is) c.requires.room in
     (rooms 1 (vec_capacity t.staff - vec_len t.staff) (vec_capacity t.fields - vec_len t.fields) (vec_capacity t.docs - vec_len t.docs) (vec_capacity t.pages - vec_len t.pages)
-    (vec_capacity t.calls - vec_len t.calls) (vec_capacity t.boxes - vec_len t.boxes) (vec_capacity t.held - vec_len t.held) (vec_capacity t.entries - vec_len t.entries)
     (vec_capacity t.prefixes - vec_len t.prefixes) (vec_capacity t.productions - vec_len t.productions) (vec_capacity t.batches - vec_len t.batches) (vec_capacity t.words - vec_len t.words) room).staff
 
 pub invariant_of-tables : goal.invariant_of-tables

@@ -1,0 +1,98 @@
+-- The step of an import as an answer of a run. One at which the keeper fails changes the matter.
+use Rattle.std.proofs.Common.{◌≡◌, ◌≢◌, Bool, true, false, List, [], ◌∷◌, ◌++◌, length, Option, Some, None, refl, sym, ap, subst, ◌∙◌, arith}
+use Rattle.std.specs.Prelude.{Result, Ok, Err, IsOkAnd, IfSome, is_some, if◌then◌else◌}
+use Rattle.std.specs.Option.{option_map}
+use Rattle.std.specs.Str.{bytes_eq}
+use Rattle.std.proofs.lemmas.List.{length-append}
+use Rattle.bp_core.specs.Rules.{bare_rule}
+use Rattle.bp_core.specs.declared.kept.Put.{Put}
+use Rattle.bp_core.specs.declared.kept.Row.{Row}
+use Rattle.bp_core.specs.declared.rules.Rule.{Rule}
+use Rattle.bp_core.specs.declared.rules.RuleKind.TheVariants.{BatchDiffers}
+use Rattle.bp_keep.specs.Keeper.{KeeperView}
+use Rattle.bp_keep.specs.Puts.{put_all}
+use Rattle.bp_matter.specs.Batches.{BatchShown}
+use Rattle.bp_matter.specs.Matter.{Matter}
+use Rattle.bp_matter.specs.declared.rows.BatchRow.{BatchRow}
+use Rattle.bp_rules.specs.Changes.{puts_of, with_rows}
+use Rattle.bp_rules.specs.ImportRows.{import_rows}
+use Rattle.bp_rules.specs.Importing.{batch_with, import_by, import_of, unless_full}
+use Rattle.bp_rules.specs.Limits.{limit_passed}
+use Rattle.bp_rules.specs.Running.{AnswersOne, Answered, OneAnswered, StopsAt, answered, counted_answer, refused_by, to_import}
+use Rattle.bp_rules.specs.Steps.{KeepsRows, StepsImport, counted_of}
+use Rattle.bp_rules.specs.declared.changes.Edit.TheVariants.{Nothing}
+use Rattle.bp_rules.specs.declared.changes.ImportRows.{ImportRows}
+use Rattle.bp_rules.specs.declared.importing.Imported.{Imported}
+use Rattle.bp_rules.specs.declared.running.Answer.{Answer}
+use Rattle.bp_rules.specs.declared.running.Answer.TheVariants as answers
+use Rattle.bp_rules.specs.declared.running.Asked.{Asked}
+use Rattle.bp_rules.specs.declared.running.Asked.TheVariants as asks
+use Rattle.bp_rules.specs.declared.stepping.Counted.{Counted}
+use Rattle.bp_rules.specs.declared.stepping.StepRefusal.{StepRefusal}
+use Rattle.bp_rules.specs.declared.stepping.StepRefusal.TheVariants.{KeeperFault, OutOfMemory}
+use Rattle.bp_rules.specs.declared.stepping.StepRefusal.TheVariants as stops
+
+-- ---- where the keeper fails
+
+-- rows that come make another matter of it
+more-rows : (m : Matter) (rows : ImportRows) → with_rows m rows ≡ m → ⊥
+more-rows m rows still =
+    let more : length (m.batches ++ rows.batch ∷ []) ≡ length m.batches = ap (λ (n : Matter). length n.batches) still in
+    omega (arith, more, length-append m.batches (rows.batch ∷ []))
+
+-- a batch that was imported has no puts
+no-puts : (row : BatchRow) (same : Bool) → IsOkAnd {T = Imported} {E = Rule} (if same then Ok (record { change = Nothing; documents = row.documents; pages = row.pages }) else Err (bare_rule BatchDiffers)) (λ imported. puts_of imported.change ≢ []) → ⊥
+no-puts row true puts = puts refl
+no-puts row false puts = puts
+
+new-stops : (m : Matter) (b : BatchShown) (full : Option Rule) → IsOkAnd (unless_full m b full) (λ imported. puts_of imported.change ≢ []) → StopsAt m KeeperFault (to_import m (unless_full m b full))
+new-stops m b (Some rule) puts = absurd puts
+new-stops m b None puts = (refl, more-rows m (import_rows m b))
+
+found-stops : (m : Matter) (b : BatchShown) (found : Option BatchRow) → IsOkAnd (import_by m b found) (λ imported. puts_of imported.change ≢ []) → StopsAt m KeeperFault (to_import m (import_by m b found))
+found-stops m b (Some row) puts = absurd (no-puts row (bytes_eq row.digest b.digest) puts)
+found-stops m b None puts = new-stops m b (limit_passed m b) puts
+
+import-stops : (m : Matter) (b : BatchShown) → IsOkAnd (import_of m b) (λ imported. puts_of imported.change ≢ []) → StopsAt m KeeperFault (to_import m (import_of m b))
+unfolding import_of
+import-stops m b puts = found-stops m b (batch_with b.name m) puts
+
+-- ---- answers
+
+told-itself : (a : Option (List Row)) → IfSome a (λ _. is_some a ≡ true)
+told-itself None = tt
+told-itself (Some a) = refl
+
+told-made : (puts : List Put) (before now : Option (List Row)) → IfSome now (λ rows. option_map (put_all puts) before ≡ Some rows) → IfSome now (λ _. is_some before ≡ true)
+told-made puts before None made = tt
+told-made puts None (Some rows) made = absurd cc
+told-made puts (Some before) (Some rows) made = refl
+
+abbrev answered_by : Answer → Matter → Answered
+answered_by answer m = record { answer = answer; matter = m }
+
+-- a broken rule, which leaves all
+rule-answered : (m : Matter) (asked : Asked) (keeper : KeeperView) (rule : Rule) (m' : Matter) (keeper' : KeeperView) → answered m asked ≡ refused_by m rule → m' ≡ m → keeper' ≡ keeper
+    → OneAnswered m asked keeper (answers.Refused rule) m' keeper'
+rule-answered m asked keeper rule m' keeper' is still left =
+    record {
+      answered = is ∙ ap (answered_by (answers.Refused rule)) (sym still);
+      kept = λ h. subst (λ (k : KeeperView). KeepsRows k m') (sym left) (subst (λ (n : Matter). KeepsRows keeper n) (sym still) h);
+      told = subst (λ (k : KeeperView). IfSome k.rows (λ _. is_some keeper.rows ≡ true)) (sym left) (told-itself keeper.rows);
+      faults = ap (λ (k : KeeperView). k.faults) left;
+      sure = ap (λ (k : KeeperView). k.sure) left;
+    }
+
+pub import-answered : (m : Matter) (b : BatchShown) (keeper : KeeperView) (r : Result Counted StepRefusal) (m' : Matter) (keeper' : KeeperView) → StepsImport m b keeper r m' keeper'
+    → AnswersOne m (asks.Import b) keeper (counted_answer r) m' keeper'
+import-answered m b keeper (Ok counted) m' keeper' step =
+    record {
+      answered = ap (to_import m) step.answer ∙ ap (answered_by (answers.Counted (counted_of step.imported))) (sym step.made.matter) ∙ ap (λ (c : Counted). answered_by (answers.Counted c) m') (sym step.numbers);
+      kept = step.made.kept;
+      told = told-made (puts_of step.imported.change) keeper.rows keeper'.rows step.made.puts;
+      faults = step.made.faults;
+      sure = step.made.sure;
+    }
+import-answered m b keeper (Err (stops.Rule rule)) m' keeper' step = rule-answered m (asks.Import b) keeper rule m' keeper' (ap (to_import m) step.0) step.1 step.2
+import-answered m b keeper (Err KeeperFault) m' keeper' step = (import-stops m b step.0, step.1)
+import-answered m b keeper (Err OutOfMemory) m' keeper' step = (tt, step)

@@ -1,10 +1,18 @@
 // The changing elements of packed pixels, found eight bytes at a time (ITU-T T.6, 2.2.2).
 ghost use Rattle.std.specs.Prelude.{◌≡◌, ◌<◌, ◌≤◌, ◌+◌, ◌-◌, ◌*◌, ◌++◌, Bool, false, List, [], ◌∷◌, OnOk, length, take, drop, replicate, slice_index};
-ghost use Rattle.bp_rows.specs.Changes.{changes_from, changes_of};
+ghost use Rattle.bp_rows.specs.Changes.{changes_from, changes_of, place_at};
 ghost use Rattle.bp_rows.specs.Words.{pixels_in, word_ones, word_pixels};
 
 use crate::limits::MAX_WIDTH;
 use std::alloc::AllocError;
+
+/// The place at a position of a list of places, or the width past its end.
+#[inline(always)]
+pub fn place_in(places: &[u32], at: usize, width: u32) -> u32
+    ensures { result ≡ place_at places.now width at }
+{
+    if at < places.len() { places[at] } else { width }
+}
 
 /// The places of the changing elements of all pixels of the bytes and of a white one after them.
 pub fn find_changes(bytes: &[u8], places: &mut Vec<u32>) -> Result<(), AllocError>

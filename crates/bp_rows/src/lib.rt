@@ -11,6 +11,7 @@ mod resolution;
 mod runs;
 
 pub use bits::{bytes_of_row, bytes_of_strip};
+pub use changes::place_in;
 pub use limits::{MAX_WIDTH, allowed_sides, import_sides};
 pub use page::{Page, StripFault};
 pub use paint::push_row;

@@ -13,13 +13,13 @@ ghost use Rattle.bp_t6.specs.Reading.{IfFault, IsUnder, Steps, ModeReads, ModeSt
 use crate::lengths::VERTICAL_REACH;
 use crate::missing::missing_kind;
 use crate::reading::{Stop, Under};
-use crate::row::{next_from, next_near, place_in};
+use crate::row::{next_from, next_near};
 use crate::run_reader::{ReadFault, read_run};
 use crate::tables::CodeTables;
 use crate::turns::turn;
 use bp_codes::{BitSpan, mode_ahead};
 use bp_core::RuleKind;
-use bp_rows::MAX_WIDTH;
+use bp_rows::{MAX_WIDTH, place_in};
 
 /// The code of a mode that was read: its row in the mode table, and the bit after it.
 #[derive(Clone, Copy)]

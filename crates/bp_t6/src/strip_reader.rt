@@ -1,7 +1,6 @@
 // Strips read, one after another.
-ghost use Rattle.std.specs.Prelude.{◌≡◌, ◌<◌, ◌≤◌, ◌^◌, ◌+◌, Bool, List, IfOk, IfErr, OnOk, IsTrue, ℕ, length, Ok, Err, false, replicate};
+ghost use Rattle.std.specs.Prelude.{◌≡◌, ◌<◌, ◌≤◌, ◌^◌, ◌+◌, Bool, List, IfOk, IfErr, OnOk, IsTrue, ℕ, length, Ok, Err, false};
 ghost use Rattle.bp_core.specs.declared.refusals.Refusal.TheVariants as refusals;
-ghost use Rattle.bp_rows.specs.Bits.{row_bytes};
 ghost use Rattle.bp_rows.specs.Limits.{sides_are_allowed};
 ghost use Rattle.bp_core.specs.Rules.{page_limit_rule};
 ghost use Rattle.bp_codes.specs.Bits.{bits_of};
@@ -18,12 +17,9 @@ use crate::reading::Stop;
 use crate::tables::CodeTables;
 use bp_codes::{BitSpan, Fill};
 use bp_core::{Refusal, Rule, RuleKind};
-use bp_rows::{MAX_WIDTH, Page, Res, Unit, allowed_sides, bytes_of_row, bytes_of_strip, push_row};
+use bp_rows::{MAX_WIDTH, Page, Res, Unit, allowed_sides, push_row};
 use std::alloc::Global;
 use std::mem;
-
-// A white row of the greatest width.
-static WHITE_ROW: [u8; 2500] = [0; 2500];
 
 /// A reader of strips with its tables, and with rooms for the changes of two rows and for the bytes
 /// of one, which serve one strip after another.
@@ -64,7 +60,6 @@ impl StripReader {
             IfRule (SaysFault (span_bits span.now) width rows first)) }
         ensures kept { StandsBehind out.old.items out.new.items }
     {
-        let white = white_row(width);
         self.above.clear();
         let mut at = 0;
         for row in 0..rows {
@@ -72,18 +67,11 @@ impl StripReader {
                 Ok(next) => next,
                 Err(stop) => return Err(refusal_of(stop, u64::from(first) + u64::from(row))),
             };
-            push_row(out, &mut self.packed, white, &self.line, width)?;
+            push_row(out, &mut self.packed, &self.line, width)?;
             mem::swap(&mut self.line, &mut self.above);
         }
         Ok(())
     }
-}
-
-fn white_row(width: u32) -> &'static [u8]
-    requires { width ≤ MAX_WIDTH }
-    ensures { result.now ≡ replicate (row_bytes width) 0 }
-{
-    &WHITE_ROW[..bytes_of_row(width)]
 }
 
 // What is answered of a row where reading stops.

@@ -1,33 +1,38 @@
-use Rattle.std.proofs.Common.{◌≡◌, ◌+◌, refl, sym, ap, ◌∙◌, length}
-use Rattle.std.proofs.lemmas.List.{length-replicate, get_or_default, get_or_past}
-use Rattle.bp_rows.specs.Changes.{place_at}
-use Rattle.bp_rows.specs.Bits.{row_bytes}
-use Rattle.bp_rows.proofs.ShownLemmas.{odd_two}
-use Rattle.bp_rows.proofs.PaintLemmas.{painted_none, bytes_none, painted_more, painted_all}
+use Rattle.std.proofs.Common.{◌+◌, ◌*◌, ◌/◌, ◌∙◌, ap, length, arith}
+use Rattle.std.proofs.lemmas.List.{length-replicate}
+use Rattle.bp_rows.proofs.PaintLemmas.{white_at, bytes_none, painted_more, painted_all}
 use Rattle.bp_rows.proofs.paint.paint_row.Goals as goal
-use Rattle.bp_rows.proofs.paint.paint_row.Goals.{then-k-places, else-k-places}
 
-pub loop-k-init : goal.loop-k-init
-loop-k-init c = record {
-  even = refl;
-  long = ap length c.requires.white ∙ length-replicate (row_bytes c.args.width) 0;
-  bytes = bytes_none c.args.row.now (row_bytes c.args.width) c.requires.white;
-  painted = painted_none c.args.places.now c.args.width c.args.row.now (row_bytes c.args.width) c.requires.white;
-}
-
-pub loop-k-preserved : goal.loop-k-preserved
-loop-k-preserved c =
-    let ps = c.args.places.now in let w = c.args.width in let k = c.loop-k.k in
-    let to : c.if-k-places.to ≡ place_at ps w (k + 1) = elim c.if-k-places.branch [
-      | then-k-places u ↦ u.to-is ∙ sym (get_or_default ps (k + 1) w 0 u.if-k-places.true)
-      | else-k-places u ↦ u.to-is ∙ sym (get_or_past ps (k + 1) w u.if-k-places.false)
-    ] in
+pub loop-word-init : goal.loop-word-init
+loop-word-init c =
+    let size = 8 * (c.args.width / 64 + 1) in
     record {
-      even = odd_two k ∙ c.loop-k.invariant.even;
-      long = c.blacken.auto.bytes ∙ c.loop-k.invariant.long;
-      bytes = c.blacken.ensures.fit;
-      painted = painted_more ps w k c.loop-k.invariant.even c.loop-k.row c.blacken.new.bytes _ _ (sym (get_or_default ps k w 0 c.loop-k-test.true)) to c.loop-k.invariant.painted c.blacken.ensures.pixels;
+      below = omega arith;
+      long = ap length c.requires.white ∙ length-replicate size 0;
+      bytes = bytes_none c.args.row.now size c.requires.white;
+      painted = record { done = λ line i shows none. absurd (omega arith); white = λ i since. white_at c.args.row.now size i c.requires.white };
+      behind = λ j none. absurd (omega arith);
+      ahead = λ within. omega arith;
     }
 
-pub returns : goal.returns
-returns c = λ line shows. painted_all c.args.places.now c.args.width c.loop-k.row c.loop-k.k c.loop-k-test.false c.loop-k.invariant.long c.loop-k.invariant.bytes c.loop-k.invariant.painted line shows
+pub loop-word-preserved : goal.loop-word-preserved
+loop-word-preserved c =
+    let ps = c.args.places.now in let w = c.args.width in
+    let so = c.loop-word.invariant in
+    let to = c.place_in-to.result / 64 in
+    let ahead = so.ahead (omega (arith, c.loop-word-test.true)) in
+    let within = c.requires.rises.within c.loop-word.next in
+    record {
+      below = omega (arith, within, c.place_in-to.ensures);
+      long = c.put_word.ensures.long ∙ c.fill_words.ensures.long ∙ so.long;
+      bytes = c.put_word.ensures.fit;
+      painted = painted_more ps w c.loop-word.next c.loop-word.word to c.loop-word.row c.fill_words.new.row c.put_word.new.row c.paint_word-painted.result.pixels
+          so.behind (omega (arith, ahead, c.place_in-to.ensures)) (omega (arith, c.place_in-to.ensures)) c.fill_words.ensures.pixels c.put_word.ensures.pixels
+          so.painted c.paint_word-painted.ensures.pixels;
+      behind = λ j e. omega (arith, c.paint_word-painted.ensures.behind j e);
+      ahead = λ goes. omega (arith, c.paint_word-painted.ensures.ahead (omega (arith, goes)));
+    }
+
+pub returns-clause-pixels : goal.returns-clause-pixels
+returns-clause-pixels c = λ line i shows.
+    painted_all c.args.places.now c.args.width c.loop-word.row (64 * c.loop-word.word) (omega (arith, c.loop-word-test.false)) c.loop-word.invariant.painted line i shows

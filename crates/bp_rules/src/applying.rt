@@ -4,7 +4,7 @@ ghost use Rattle.bp_core.specs.Sorted.{ascends, put};
 ghost use Rattle.bp_matter.specs.Matter.{prefix_key};
 ghost use Rattle.bp_matter.specs.Valid.{IsValid};
 ghost use Rattle.bp_rules.specs.Calling.{with_staff};
-ghost use Rattle.bp_rules.specs.Changes.{after, boxes_after, calls_after, entries_after, held_after, rows_kept, with_produced, with_rows};
+ghost use Rattle.bp_rules.specs.Changes.{after, boxes_after, calls_after, entries_after, held_after, puts_of, rows_kept, with_produced, with_rows};
 ghost use Rattle.bp_rules.specs.Room.{HasRoom, HasRoomFor, HasRoomForCall, HasRoomForEdit, HasRoomForFour, HasRoomForMark, HasRoomForRows};
 ghost use Rattle.bp_rules.specs.declared.changes.Edit.TheVariants.{Review};
 
@@ -15,15 +15,17 @@ use bp_matter::{
     PageWords, PrefixRow, ProductionRow, StaffRow, Tables,
 };
 
-/// Makes room for the rows of a change: on the shelves of a document for those that a review puts, else in
-/// each list for as many rows as there are puts. The contents stay as they are.
+/// Makes room for the rows of a change: in each list for as many rows as there are puts, and on the shelves
+/// of a document for those that a review puts. The contents stay as they are.
 pub fn make_room(tables: &mut Tables, change: &Change) -> Result<(), OutOfMemory>
     ensures same { tables.new.matter ≡ tables.old.matter }
+    ensures spare { OnOk result (length (puts_of change.now) ≤ tables.new.spare) }
     ensures room { OnOk result (HasRoomFor tables.new change.now) }
 {
+    reserve_lists(tables, change.puts().len())?;
     match change.edit() {
         Edit::Review(call, mark) => reserve_shelves(tables, call, mark),
-        _ => reserve_lists(tables, change.puts().len()),
+        _ => Ok(()),
     }
 }
 
@@ -52,6 +54,7 @@ fn reserve_lists(tables: &mut Tables, count: usize) -> Result<(), OutOfMemory>
 // Makes room for what a review puts on the shelves of a document.
 fn reserve_shelves(tables: &mut Tables, call: &CallEdit, mark: &MarkEdit) -> Result<(), OutOfMemory>
     ensures same { tables.new.matter ≡ tables.old.matter }
+    ensures spare { tables.new.spare ≡ tables.old.spare }
     ensures room { OnOk result (HasRoomForEdit tables.new.rooms call.now mark.now) }
 {
     reserve_call(&mut tables.calls, call)?;

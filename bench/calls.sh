@@ -1,8 +1,9 @@
 #!/bin/sh
 # Review calls over a matter of 10,000 documents and 20,000 boxes, with a keeper in memory, beside those over a matter of
-# 100 documents and 200 boxes: `step` of a mix of eight calls, each of which changes one row, made in turn for one document
-# after another across the matter (confirm, send back, call, put a box, hold a field, enter, drop the box, free the field);
-# then of parts of the mix, which show where the time goes. A time is processor time, that of a run with many calls less
+# 100 documents and 200 boxes: `step` of a mix of eight calls, each of which changes one row (confirm, send back, call, put
+# a box, hold a field, enter, drop the box, free the field). The calls of five desks come in turn, and each desk goes through
+# its part of the matter, document by document; then the same mix for scattered documents, in strides across the matter, which
+# the processor's caches hold least of; then parts of the mix so, which show where the time goes. A time is processor time, that of a run with many calls less
 # that of a run with few, the least of three each; the making of the call is in it. Then SeePage of letter pages at 300 dots
 # an inch beside a copy of their bytes.
 # A word: how many calls of the mix, 1,000,000 where none is given; each part of it has a quarter of them.
@@ -32,17 +33,18 @@ rows=$("$bench" call_rows 100 2 mixed 8000)
 [ "$rows" = 8000 ] || stop "8,000 calls of the mix change $rows rows"
 echo "8,000 calls of the mix change 8,000 rows"
 
-# mix, calls
+# job, mix, calls
 compare() {
-    small=$(call_of calls 100 2 "$1" "$2")
-    large=$(call_of calls 10000 2 "$1" "$2")
-    awk -v mix="$1" -v calls="$2" -v small="$small" -v large="$large" -v bounds="${3:-}" 'BEGIN {
-        printf "%8s, %7d calls: 100 documents %.2f us, 10,000 documents %.2f us a call%s, %.2f times%s\n", mix, calls,
+    small=$(call_of "$1" 100 2 "$2" "$3")
+    large=$(call_of "$1" 10000 2 "$2" "$3")
+    awk -v job="$1" -v mix="$2" -v calls="$3" -v small="$small" -v large="$large" -v bounds="${4:-}" 'BEGIN {
+        printf "%15s, %8s, %7d calls: 100 documents %.2f us, 10,000 documents %.2f us a call%s, %.2f times%s\n", job, mix, calls,
             1000000 * small, 1000000 * large, bounds ? " (at most 2)" : "", large / small, bounds ? " (at most 1.5)" : "" }'
 }
 
-compare mixed "$count" bounds
-for mix in reviews boxes moves fields entries; do compare "$mix" $((count / 4 / 6 * 6)); done
+compare calls mixed "$count" bounds
+compare scattered_calls mixed "$count"
+for mix in reviews boxes moves fields entries; do compare scattered_calls "$mix" $((count / 4 / 6 * 6)); done
 
 see=$(call_of see "$letter" 40 2000)
 copy=$(call_of page_copies "$letter" 40 2000)

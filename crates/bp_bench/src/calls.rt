@@ -1,8 +1,9 @@
 // Review calls: `calls DOCS BOXES MIX COUNT` makes so many calls over a matter of so many
-// documents of a small page, each with so many boxes, and a keeper in memory. They go from
-// document to document across the matter. `call_rows DOCS BOXES MIX COUNT` also counts the rows
-// that they change. `see FILE DOCS COUNT` asks for the pages of a matter, and `page_copies FILE
-// DOCS COUNT` copies their bytes alone.
+// documents of a small page, each with so many boxes, and a keeper in memory. They come from five
+// desks in turn, each of which goes through its part of the matter in order; those of
+// `scattered_calls DOCS BOXES MIX COUNT` go from document to document across the matter.
+// `call_rows DOCS BOXES MIX COUNT` also counts the rows that `calls` changes. `see FILE DOCS COUNT`
+// asks for the pages of a matter, and `page_copies FILE DOCS COUNT` copies their bytes alone.
 use crate::made::{FIELD, Shape, page_of, small_page};
 use crate::office::{Office, REVIEWER, SECOND, called, pixel};
 use anyhow::{Result, bail};
@@ -13,8 +14,20 @@ use bp_rules::{Decided, decide};
 use std::alloc::Global;
 use std::rt::Files;
 
-// From one document to the next; a prime, so that all documents come in turn.
+// So many desks review at a time.
+const DESKS: u32 = 5;
+
+// From one document to the next of scattered calls; a prime, so that all documents come in turn.
 const STRIDE: u32 = 7919;
+
+// In which order documents are reviewed.
+#[derive(Clone, Copy)]
+enum Order {
+    /// Each desk goes through its part of the matter, document by document.
+    Desks,
+    /// One desk goes across the matter in strides.
+    Scattered,
+}
 
 // What is done to a document.
 #[derive(Clone, Copy)]
@@ -69,6 +82,7 @@ fn acts_of(mix: &str) -> Result<&'static [Act]> {
 // Which calls are made, over a matter of so many documents with so many boxes each.
 #[derive(Clone, Copy)]
 struct Plan {
+    order: Order,
     docs: u32,
     boxes: u32,
     acts: &'static [Act],
@@ -84,13 +98,22 @@ struct Visit {
     num: u32,
 }
 
-/// The number of rows that stand after the calls.
+/// The number of rows that stand after the calls of the desks.
 pub fn run(alloc: Global, operands: &[String]) -> Result<u64> {
+    run_in(alloc, Order::Desks, operands)
+}
+
+/// The same of scattered calls.
+pub fn run_scattered(alloc: Global, operands: &[String]) -> Result<u64> {
+    run_in(alloc, Order::Scattered, operands)
+}
+
+fn run_in(alloc: Global, order: Order, operands: &[String]) -> Result<u64> {
     let [docs, boxes, mix, count] = operands else {
-        bail!("calls DOCS BOXES MIX COUNT");
+        bail!("DOCS BOXES MIX COUNT");
     };
     let count = count.parse::<u32>()?;
-    let plan = plan_of(docs.as_str(), boxes.as_str(), mix.as_str())?;
+    let plan = plan_of(order, docs.as_str(), boxes.as_str(), mix.as_str())?;
     let mut office = office_of(alloc, plan)?;
     for turn in 0..count {
         office.make(plan, turn)?;
@@ -104,7 +127,7 @@ pub fn rows(alloc: Global, operands: &[String]) -> Result<u64> {
         bail!("call_rows DOCS BOXES MIX COUNT");
     };
     let count = count.parse::<u32>()?;
-    let plan = plan_of(docs.as_str(), boxes.as_str(), mix.as_str())?;
+    let plan = plan_of(Order::Desks, docs.as_str(), boxes.as_str(), mix.as_str())?;
     let mut office = office_of(alloc, plan)?;
     let mut sum = 0u64;
     for turn in 0..count {
@@ -114,8 +137,9 @@ pub fn rows(alloc: Global, operands: &[String]) -> Result<u64> {
     Ok(sum)
 }
 
-fn plan_of(docs: &str, boxes: &str, mix: &str) -> Result<Plan> {
+fn plan_of(order: Order, docs: &str, boxes: &str, mix: &str) -> Result<Plan> {
     Ok(Plan {
+        order,
         docs: docs.parse::<u32>()?,
         boxes: boxes.parse::<u32>()?,
         acts: acts_of(mix)?,
@@ -137,16 +161,33 @@ fn visit_at(plan: Plan, turn: u32) -> Result<Visit> {
     if length == 0 || plan.docs == 0 {
         bail!("there is nothing to do");
     }
-    let Some(act) = plan.acts.get((turn % length) as usize) else {
+    let (desk, own) = match plan.order {
+        Order::Desks => (turn % DESKS, turn / DESKS),
+        Order::Scattered => (0, turn),
+    };
+    let Some(act) = plan.acts.get((own % length) as usize) else {
         bail!("there is no act");
     };
-    let visit = turn / length;
+    let (place, time) = place_at(plan, desk, own / length);
     Ok(Visit {
         act: *act,
-        doc: DocNo(visit.wrapping_mul(STRIDE) % plan.docs + 1),
-        time: visit / plan.docs,
+        doc: DocNo(place.wrapping_add(1)),
+        time,
         num: plan.boxes.wrapping_add(1),
     })
+}
+
+// Which document a desk comes to on a visit, counted from 0, and how often it was there before.
+fn place_at(plan: Plan, desk: u32, visit: u32) -> (u32, u32) {
+    let docs = plan.docs.max(1);
+    match plan.order {
+        Order::Desks => {
+            let part = (docs / DESKS).max(1);
+            let place = desk.wrapping_mul(part).wrapping_add(visit % part);
+            (place % docs, visit / part)
+        }
+        Order::Scattered => (visit.wrapping_mul(STRIDE) % docs, visit / docs),
+    }
 }
 
 // The key that an act is done with.

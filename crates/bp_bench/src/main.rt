@@ -13,6 +13,7 @@
 //     bp_bench import_parts FOLDER NAME TIMES
 //     bp_bench volume FOLDER NAME OUT
 //     bp_bench calls DOCS BOXES MIX COUNT
+//     bp_bench scattered_calls DOCS BOXES MIX COUNT
 //     bp_bench call_rows DOCS BOXES MIX COUNT
 //     bp_bench see FILE DOCS COUNT
 //     bp_bench page_copies FILE DOCS COUNT
@@ -81,6 +82,7 @@ fn decide_or_press<R: Files + Alloc>(
 ) -> Result<u64> {
     match job {
         "calls" => calls::run(alloc, operands),
+        "scattered_calls" => calls::run_scattered(alloc, operands),
         "call_rows" => calls::rows(alloc, operands),
         "see" => calls::see(rt, alloc, operands),
         "page_copies" => calls::copies(rt, alloc, operands),

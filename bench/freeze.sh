@@ -1,8 +1,8 @@
 #!/bin/sh
 # The freeze of 10,000 documents with 20,000 boxes, all called Redact and confirmed, beside a copy of the production that it
 # gives, and the call Freeze by `step` with a keeper in memory; then of 1,000 to 10,000 documents, which is to grow in a
-# line. A time is processor time: that of a run with several, less that of a run with one (of the step: less that of a run
-# which only makes the matters), the least of three each.
+# line. A time is processor time: that of a run with several, less that of a run with one, the least of three each (of the
+# step: less that of a run which only makes the matters, the least of five).
 # A word: how many documents, 10,000 where none is given, which is the most that a matter has. Needs rt on PATH and python3.
 set -eu
 here=$(CDPATH='' cd -- "$(dirname -- "$0")" && pwd)

@@ -1,7 +1,11 @@
 // Kept rows both ways: bodies of their form, and bodies of none.
-use bp_core::{Bytes, DocNo, ListOf, OutOfMemory, Refusal, StaffNo, Text, Treatment};
+use bp_core::{
+    Basis, Bytes, DocNo, ListOf, OutOfMemory, Rect, Refusal, Role, StaffNo, Text, Treatment,
+};
 use bp_matter::{Call, State, read_tables};
+use bp_samples::calls::{Made, call_of};
 use bp_samples::matters::{ROWS, ZEROS, bad, kept, matter, refusal, spoil};
+use bp_samples::told::Texts;
 use std::alloc::Global;
 use std::test::Fail;
 
@@ -145,5 +149,47 @@ fn a_copied_call_is_equal(rt: HostRuntime) -> Result<(), Fail> {
         return Ok(());
     };
     assert_eq!(rt; designation.as_str(), "CONFIDENTIAL");
+    Ok(())
+}
+
+const PIXEL: Rect = Rect {
+    left: 0,
+    top: 0,
+    width: 1,
+    height: 1,
+};
+
+const ENTRY: Texts = Texts {
+    date: "2019-03-04",
+    author: "Ng",
+    recipients: "Ortiz",
+    description: "A letter",
+};
+
+// A call of each kind.
+static EACH: [Made; 14] = [
+    Made::AddStaff("Ng", Role::Clerk, 7),
+    Made::SeeDoc(1),
+    Made::SeePage(1, 1),
+    Made::SeeWords(1, 1),
+    Made::SetCall(1, true, Treatment::Redact, "CONFIDENTIAL"),
+    Made::PutBox(1, 1, 1, PIXEL, Basis::Pi),
+    Made::DropBox(1, 1),
+    Made::HoldField(1, "AUTHOR", Basis::Pi),
+    Made::FreeField(1, "AUTHOR"),
+    Made::PutEntry(1, ENTRY),
+    Made::Confirm(1),
+    Made::SendBack(1),
+    Made::Freeze("R", 1, 2),
+    Made::GetProduction("R"),
+];
+
+#[test]
+fn each_call_is_copied(rt: HostRuntime) -> Result<(), Fail> {
+    let alloc = rt.alloc();
+    for made in &EACH {
+        let copy = call_of(alloc, *made)?.copy(alloc);
+        assert!(rt; copy.is_ok());
+    }
     Ok(())
 }

@@ -6,7 +6,8 @@ use bp_core::{
 use bp_keep::{Keeper, MemKeeper};
 use bp_matter::{Batch, BoxRow, Reply, State, Tables};
 use bp_rules::{
-    Answer, Asked, Counted, LoadRefusal, StepRefusal, begin, load_tables, step_all, step_import,
+    Answer, Asked, Counted, LoadRefusal, StepRefusal, begin, decide, load_tables, make_room,
+    step_all, step_import,
 };
 use bp_samples::batches::{HEADER, NEVER, TWO, batch_in};
 use bp_samples::calls::Made::{Confirm, PutBox, SeeDoc, SendBack, SetCall};
@@ -168,6 +169,24 @@ fn a_fault_leaves_the_call(rt: HostRuntime) -> Result<(), Fail> {
     assert_eq!(rt; misfit, None);
     assert_eq!(rt; keeper.faults(), 1);
     assert!(rt; keeper.load(alloc)? == tables.rows(alloc)?);
+    Ok(())
+}
+
+// What a step begins with: a call is decided, and finds room.
+#[test]
+fn a_call_is_decided_and_finds_room(rt: HostRuntime) -> Result<(), Fail> {
+    let alloc = rt.alloc();
+    let (mut tables, _keeper) = matter_of(alloc, ALONE, &[])?;
+    let call = call_of(alloc, SetCall(1, true, REDACT, ""))?;
+    let Ok(decided) = decide(alloc, &tables, &ZEROS, &call) else {
+        panic!(rt; "the call is refused");
+    };
+    assert!(rt; matches!(decided.reply, Reply::Done));
+    let [put] = decided.change.puts().as_slice() else {
+        panic!(rt; "other puts");
+    };
+    assert!(rt; (put.kind, put.k1, put.k2) == (5, 1, 0) && put.body.is_some());
+    assert!(rt; make_room(&mut tables, &decided.change).is_ok());
     Ok(())
 }
 

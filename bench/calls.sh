@@ -2,10 +2,10 @@
 # Review calls over a matter of 10,000 documents and 20,000 boxes, with a keeper in memory, beside those over a matter of
 # 100 documents and 200 boxes: `step` of a mix of eight calls, each of which changes one row (confirm, send back, call, put
 # a box, hold a field, enter, drop the box, free the field). The calls of five desks come in turn, and each desk goes through
-# its part of the matter, document by document; then the same mix for scattered documents, in strides across the matter, which
-# the processor's caches hold least of; then parts of the mix so, which show where the time goes. A time is processor time, that of a run with many calls less
-# that of a run with few, the least of three each; the making of the call is in it. Then SeePage of letter pages at 300 dots
-# an inch beside a copy of their bytes.
+# its part of the matter, document by document; then the same mix for scattered documents, in strides across the matter, of
+# which the processor's caches hold least; then parts of the mix so, which show where the time goes. A time is processor time,
+# that of a run with many calls less that of a run with few, the least of three each; the making of the call is in it. Then
+# SeePage of letter pages at 300 dots an inch beside a copy of their bytes.
 # A word: how many calls of the mix, 1,000,000 where none is given; each part of it has a quarter of them.
 # Needs rt on PATH and python3.
 set -eu

@@ -13,6 +13,7 @@ use bp_tiff::take_tiff;
 use sha2::{Digest, Sha256};
 use std::alloc::Global;
 use std::rt::Files;
+use std::thread::Threads;
 
 const FILE_LIMIT: u64 = 134_217_728;
 
@@ -45,7 +46,11 @@ fn take_batch<S: Source>(alloc: Global, source: &mut S, name: &Text) -> Result<u
 }
 
 /// The sum of the bytes of the images' strips and of a byte of each digest.
-pub fn parts<R: Files + Alloc>(rt: &R, alloc: Global, operands: &[String]) -> Result<u64> {
+pub fn parts<R: Files + Alloc + Threads + Sync>(
+    rt: &R,
+    alloc: Global,
+    operands: &[String],
+) -> Result<u64> {
     let [folder, name, times] = operands else {
         bail!("import_parts FOLDER NAME TIMES");
     };
@@ -65,7 +70,7 @@ pub fn parts<R: Files + Alloc>(rt: &R, alloc: Global, operands: &[String]) -> Re
             let mut hasher = Sha256::new();
             hasher.update(bytes.as_slice());
             sum = sum.wrapping_add(u64::from(hasher.finalize()[0]));
-            let Ok(page) = take_tiff(alloc, bytes) else {
+            let Ok(page) = take_tiff(rt, alloc, bytes) else {
                 bail!("an image isn't read");
             };
             let strip = code_page(alloc, &page)?;

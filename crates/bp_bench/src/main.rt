@@ -44,6 +44,7 @@ use anyhow::{Result, bail};
 use std::alloc::Global;
 use std::env;
 use std::rt::Files;
+use std::thread::Threads;
 
 fn main(rt: HostRuntime) -> Result<()> {
     let words: Vec<String> = env::args(&rt)?.collect(rt.alloc())?;
@@ -53,7 +54,7 @@ fn main(rt: HostRuntime) -> Result<()> {
 }
 
 // What the words ask for; the checksum of what came out.
-fn run<R: Files + Alloc>(rt: &R, alloc: Global, words: &[String]) -> Result<u64> {
+fn run<R: Files + Alloc + Threads + Sync>(rt: &R, alloc: Global, words: &[String]) -> Result<u64> {
     let [_program, job, operands @ ..] = words else {
         bail!("no job was named");
     };

@@ -21,6 +21,7 @@ use bp_outside::{Folder, ReadRefusal, Source, put_parts};
 use bp_rows::{Page, import_sides};
 use bp_tiff::{Form, TiffParts, take_tiff, tiff_parts};
 use std::alloc::Global;
+use std::thread::Threads;
 
 /// The most bytes that a file may have which is read.
 pub const FILE_LIMIT: u64 = 134_217_728;
@@ -92,7 +93,8 @@ pub struct BurnPaths {
 
 /// Burns one box into the page file at IN, and puts the file of the burned page at OUT. The line
 /// that tells how many bytes that file has.
-pub fn burn_box<S: Source, F: Folder>(
+pub fn burn_box<R: Threads + Sync, S: Source, F: Folder>(
+    rt: &R,
     alloc: Global,
     asked: &Burn<'_>,
     source: &mut S,
@@ -105,7 +107,7 @@ pub fn burn_box<S: Source, F: Folder>(
         Ends (uses_of line) (IsOutcome line before) before result after }
 {
     let paths = burn_paths(alloc, asked)?;
-    let page = burned_page(alloc, asked, &paths, source)?;
+    let page = burned_page(rt, alloc, asked, &paths, source)?;
     put_page(alloc, asked.form, &paths, &page, folder)
 }
 
@@ -128,7 +130,8 @@ fn path_named(alloc: Global, word: &str) -> Result<Text, Stop>
 }
 
 // The page of the file at IN with the box burned.
-fn burned_page<S: Source>(
+fn burned_page<R: Threads + Sync, S: Source>(
+    rt: &R,
     alloc: Global,
     asked: &Burn<'_>,
     paths: &BurnPaths,
@@ -141,7 +144,7 @@ fn burned_page<S: Source>(
         Makes (BurnOutcome line before.files) gives before result (S.shows source.new) }
 {
     match source.read(alloc, paths.from.as_str(), FILE_LIMIT) {
-        Ok(file) => burned(alloc, asked.area, file),
+        Ok(file) => burned(rt, alloc, asked.area, file),
         Err(refusal) => Err(stop_of_read(refusal)),
     }
 }
@@ -158,10 +161,10 @@ fn stop_of_read(refusal: ReadRefusal) -> Stop
 }
 
 // The page of this file with the box burned.
-fn burned(alloc: Global, area: Rect, file: Vec<u8>) -> Result<Page, Stop>
+fn burned<R: Threads + Sync>(rt: &R, alloc: Global, area: Rect, file: Vec<u8>) -> Result<Page, Stop>
     ensures { BurnsBytes area file.items result }
 {
-    match take_tiff(alloc, file) {
+    match take_tiff(rt, alloc, file) {
         Ok(page) => match burned_in(area, page) {
             Ok(burned) => Ok(burned),
             Err(rule) => Err(Stop::Broken(rule)),

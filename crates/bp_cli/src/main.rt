@@ -35,7 +35,15 @@ fn main(rt: HostRuntime) -> ExitCode {
     // What a command keeps lasts as long as the program.
     let keeper = MemKeeper::over(RowList::new(alloc), NumberList::new(alloc));
     let answer = env::args(&rt);
-    let ended = run::run_arguments(alloc, answer, &mut source, keeper, &mut folder, &mut out);
+    let ended = run::run_arguments(
+        &rt,
+        alloc,
+        answer,
+        &mut source,
+        keeper,
+        &mut folder,
+        &mut out,
+    );
     ExitCode::from(ended.status)
 }
 

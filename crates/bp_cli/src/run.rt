@@ -24,6 +24,7 @@ use bp_tiff::one_answer;
 use std::alloc::Global;
 use std::env::Args;
 use std::io;
+use std::thread::Threads;
 
 /// How a run ended: its status, and the keeper that it was handed.
 #[derive(Drop)]
@@ -34,7 +35,8 @@ pub struct Ended<K> {
 
 /// Carries out the command line that the system gave, the program's name before its words: see
 /// `run`.
-pub fn run_arguments<S: Source, K: Keeper, F: Folder, O: Out>(
+pub fn run_arguments<R: Threads + Sync, S: Source, K: Keeper, F: Folder, O: Out>(
+    rt: &R,
     alloc: Global,
     answer: io::Result<Args>,
     source: &mut S,
@@ -49,7 +51,7 @@ pub fn run_arguments<S: Source, K: Keeper, F: Folder, O: Out>(
         RunsArguments answer before after result.status }
 {
     match words_of(alloc, answer) {
-        Ok(words) => run(alloc, words.as_slice(), source, keeper, folder, out),
+        Ok(words) => run(rt, alloc, words.as_slice(), source, keeper, folder, out),
         Err(stop) => {
             let status = finish(alloc, out, Err(stop));
             Ended { status, keeper }
@@ -62,7 +64,8 @@ pub fn run_arguments<S: Source, K: Keeper, F: Folder, O: Out>(
 /// the program's name. The keeper is handed back. The status: 0 where all was done, 1 where the
 /// words are no command line, 2 where a rule is broken, 3 at a fault of the source, 4 of the
 /// folder, 5 of the keeper, 6 where memory ran out, 7 at a fault of the out.
-pub fn run<S: Source, K: Keeper, F: Folder, O: Out>(
+pub fn run<R: Threads + Sync, S: Source, K: Keeper, F: Folder, O: Out>(
+    rt: &R,
     alloc: Global,
     words: &[String],
     source: &mut S,
@@ -80,12 +83,13 @@ pub fn run<S: Source, K: Keeper, F: Folder, O: Out>(
     one_answer();
     one_batch();
     rows_law();
-    let ending = work(alloc, words, source, &mut keeper, folder);
+    let ending = work(rt, alloc, words, source, &mut keeper, folder);
     let status = finish(alloc, out, ending);
     Ended { status, keeper }
 }
 
-fn work<S: Source, K: Keeper, F: Folder>(
+fn work<R: Threads + Sync, S: Source, K: Keeper, F: Folder>(
+    rt: &R,
     alloc: Global,
     words: &[String],
     source: &mut S,
@@ -99,7 +103,7 @@ fn work<S: Source, K: Keeper, F: Folder>(
 {
     match command_in(alloc, words)? {
         None => Err(Stop::WordsRefused),
-        Some(Command::Burn(asked)) => burn_box(alloc, &asked, source, folder),
+        Some(Command::Burn(asked)) => burn_box(rt, alloc, &asked, source, folder),
         Some(Command::Init(digest)) => make_matter(alloc, digest, keeper),
         Some(Command::Import(name)) => import_batch(alloc, name, source, keeper),
         Some(Command::Produce(request)) => produce_volume(alloc, request, keeper, folder),

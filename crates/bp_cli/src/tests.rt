@@ -15,6 +15,7 @@ use std::io;
 use std::io::ErrorKind;
 use std::process::Abort;
 use std::test::Fail;
+use std::thread::Threads;
 
 const WORKED: &str = "burn a.tif 0 0 8 1 b.tif plain";
 
@@ -106,13 +107,19 @@ fn source_of(alloc: Global, failing: &[u64]) -> Result<MemSource, Fail> {
 }
 
 // Runs the words of a line over that source and a keeper without rows.
-fn ran(alloc: Global, line: &str, failing: &Failing<'_>) -> Result<Seen, Fail> {
+fn ran<R: Threads + Sync>(
+    rt: &R,
+    alloc: Global,
+    line: &str,
+    failing: &Failing<'_>,
+) -> Result<Seen, Fail> {
     let source = source_of(alloc, failing.source)?;
-    ran_over(alloc, line, source, empty_keeper(alloc, &[])?, failing)
+    ran_over(rt, alloc, line, source, empty_keeper(alloc, &[])?, failing)
 }
 
 // Runs the words of a line over a source and a keeper.
-fn ran_over(
+fn ran_over<R: Threads + Sync>(
+    rt: &R,
     alloc: Global,
     line: &str,
     mut source: MemSource,
@@ -125,7 +132,15 @@ fn ran_over(
         Bytes::from_vec(Vec::new(alloc)),
         numbers(alloc, failing.out)?,
     );
-    let Ended { status, keeper } = run(alloc, &words, &mut source, keeper, &mut folder, &mut out);
+    let Ended { status, keeper } = run(
+        rt,
+        alloc,
+        &words,
+        &mut source,
+        keeper,
+        &mut folder,
+        &mut out,
+    );
     Ok(Seen {
         status,
         folder,
@@ -135,14 +150,14 @@ fn ran_over(
 }
 
 // Runs a line of words, which is to print this and to put these bytes at b.tif and nothing else.
-fn check_put(
-    rt: &impl Abort,
+fn check_put<R: Abort + Threads + Sync>(
+    rt: &R,
     alloc: Global,
     line: &str,
     printed: &str,
     bytes: &[u8],
 ) -> Result<(), Fail> {
-    let seen = ran(alloc, line, &NOTHING_FAILS)?;
+    let seen = ran(rt, alloc, line, &NOTHING_FAILS)?;
     assert!(rt; seen.status == 0, "{line}");
     assert!(rt; seen.out.written() == printed.as_bytes(), "{line}");
     let [file] = seen.folder.files() else {
@@ -154,14 +169,14 @@ fn check_put(
 }
 
 // Runs a line of words, which is to end with this status, to print this and to put nothing.
-fn check_refused(
-    rt: &impl Abort,
+fn check_refused<R: Abort + Threads + Sync>(
+    rt: &R,
     alloc: Global,
     line: &str,
     status: u8,
     printed: &str,
 ) -> Result<(), Fail> {
-    let seen = ran(alloc, line, &NOTHING_FAILS)?;
+    let seen = ran(rt, alloc, line, &NOTHING_FAILS)?;
     assert!(rt; seen.status == status, "{line}");
     assert!(rt; seen.out.written() == printed.as_bytes(), "{line}");
     assert!(rt; seen.folder.files().is_empty(), "{line}");
@@ -296,7 +311,7 @@ fn a_fault_of_the_source_leaves_nothing(rt: HostRuntime) -> Result<(), Fail> {
         source: &[0],
         ..NOTHING_FAILS
     };
-    let seen = ran(rt.alloc(), WORKED, &failing)?;
+    let seen = ran(&rt, rt.alloc(), WORKED, &failing)?;
     assert!(rt; seen.status == 3);
     assert!(rt; seen.out.written() == b"source fault\n".as_slice());
     assert!(rt; seen.folder.files().is_empty());
@@ -313,7 +328,7 @@ fn a_fault_of_the_folder_leaves_a_prefix(rt: HostRuntime) -> Result<(), Fail> {
             folder: &calls,
             ..NOTHING_FAILS
         };
-        let seen = ran(rt.alloc(), WORKED, &failing)?;
+        let seen = ran(&rt, rt.alloc(), WORKED, &failing)?;
         assert!(rt; seen.status == 4, "at call {call}");
         assert!(rt;
             seen.out.written() == b"folder fault\n".as_slice(),
@@ -332,7 +347,7 @@ fn a_fault_of_the_out_leaves_a_prefix(rt: HostRuntime) -> Result<(), Fail> {
         ..NOTHING_FAILS
     };
     for (line, printed, files) in [(WORKED, "burne", 1), ("burn", "words r", 0)] {
-        let seen = ran(rt.alloc(), line, &failing)?;
+        let seen = ran(&rt, rt.alloc(), line, &failing)?;
         assert!(rt; seen.status == 7, "{line}");
         assert!(rt; seen.out.written() == printed.as_bytes(), "{line}");
         assert!(rt; seen.folder.files().len() == files, "{line}");
@@ -341,12 +356,17 @@ fn a_fault_of_the_out_leaves_a_prefix(rt: HostRuntime) -> Result<(), Fail> {
 }
 
 // What the system answers when it is asked for the words.
-fn answered(alloc: Global, answer: io::Result<Args>) -> Result<Seen, Fail> {
+fn answered<R: Threads + Sync>(
+    rt: &R,
+    alloc: Global,
+    answer: io::Result<Args>,
+) -> Result<Seen, Fail> {
     let mut source = source_of(alloc, &[])?;
     let mut folder = MemFolder::over(FileList::new(alloc), numbers(alloc, &[])?);
     let mut out = MemOut::over(Bytes::from_vec(Vec::new(alloc)), numbers(alloc, &[])?);
     let keeper = empty_keeper(alloc, &[])?;
     let Ended { status, keeper } = run_arguments(
+        rt,
         alloc,
         answer,
         &mut source,
@@ -373,7 +393,7 @@ fn the_words_after_the_name_are_carried_out(rt: HostRuntime) -> Result<(), Fail>
         ("", 1),
     ] {
         let words = words_of(alloc, line)?;
-        let seen = answered(alloc, Ok(words.into_iter()))?;
+        let seen = answered(&rt, alloc, Ok(words.into_iter()))?;
         assert!(rt; seen.status == status, "{line}");
         assert!(rt; seen.folder.files().is_empty() == (status > 0), "{line}");
     }
@@ -387,7 +407,7 @@ fn words_that_the_system_does_not_give_are_told_apart(rt: HostRuntime) -> Result
         (ErrorKind::OutOfMemory, 6u8, "out of memory\n"),
         (ErrorKind::InvalidData, 1, "words refused\n"),
     ] {
-        let seen = answered(alloc, Err(io::Error::from(kind)))?;
+        let seen = answered(&rt, alloc, Err(io::Error::from(kind)))?;
         assert!(rt; seen.status == status, "{printed}");
         assert!(rt; seen.out.written() == printed.as_bytes(), "{printed}");
     }

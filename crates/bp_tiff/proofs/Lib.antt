@@ -1,3 +1,4 @@
+pub mod BetweenLemmas
 pub mod Examples
 pub mod FileLemmas
 pub mod FindingLemmas

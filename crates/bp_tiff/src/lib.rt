@@ -2,9 +2,10 @@
 //! one bilevel page.
 //!
 //! `write_tiff` gives the file of a page; its contract cites `tiff_of` of specs/Tiff.antt, the file
-//! to the byte. `read_tiff` gives the page of a file or the first rule that it breaks, and
-//! `take_tiff` makes the page in the file's own memory where it can: `TiffReads` and `TiffFault` of
-//! specs/Read.antt. `written_is_read` and `one_answer` are their laws.
+//! to the byte. `read_tiff` gives the page of a file or the first rule that it breaks: `TiffReads`
+//! and `TiffFault` of specs/Read.antt. `take_tiff` does the same, makes the page in the file's own
+//! memory where it can, and reads the strips of a long file side by side, in threads.
+//! `written_is_read` and `one_answer` are their laws.
 #![tactic(auto)]
 
 mod directory;
@@ -19,6 +20,7 @@ mod passes;
 mod places;
 mod reading;
 mod rules;
+mod side_by_side;
 mod standing;
 mod strips;
 mod tags;

@@ -37,7 +37,8 @@ pub fn put_strips(
     Ok(())
 }
 
-fn put_strip(
+/// Appends the rows of strip k.
+pub fn put_strip(
     reader: &mut StripReader,
     bytes: &[u8],
     layout: &Layout,

@@ -8,6 +8,7 @@ use bp_keep::MemKeeper;
 use bp_rules::{begin, load_tables};
 use std::alloc::Global;
 use std::test::Fail;
+use std::thread::Threads;
 
 // A keeper with the rows of a matter that has begun, whose calls of these numbers are to fail.
 fn begun(alloc: Global, failing: &[u64]) -> Result<MemKeeper, Fail> {
@@ -16,8 +17,12 @@ fn begun(alloc: Global, failing: &[u64]) -> Result<MemKeeper, Fail> {
 }
 
 // A keeper with the rows of the decided matter, whose calls of these numbers are to fail.
-fn decided_failing(alloc: Global, failing: &[u64]) -> Result<MemKeeper, Fail> {
-    let Ok(tables) = load_tables(alloc, &mut decided(alloc, SMITH)?) else {
+fn decided_failing<R: Threads + Sync>(
+    rt: &R,
+    alloc: Global,
+    failing: &[u64],
+) -> Result<MemKeeper, Fail> {
+    let Ok(tables) = load_tables(alloc, &mut decided(rt, alloc, SMITH)?) else {
         return Err(Fail::from("no matter is kept"));
     };
     let rows = tables.rows(alloc)?;
@@ -25,8 +30,12 @@ fn decided_failing(alloc: Global, failing: &[u64]) -> Result<MemKeeper, Fail> {
 }
 
 // The rows of the decided matter after its production.
-fn rows_after(alloc: Global, keeper: MemKeeper) -> Result<RowList, Fail> {
-    let mut seen = ran_on(alloc, PRODUCE, keeper, &NOTHING_FAILS)?;
+fn rows_after<R: Threads + Sync>(
+    rt: &R,
+    alloc: Global,
+    keeper: MemKeeper,
+) -> Result<RowList, Fail> {
+    let mut seen = ran_on(rt, alloc, PRODUCE, keeper, &NOTHING_FAILS)?;
     if seen.status != 0 {
         return Err(Fail::from("nothing is produced"));
     }
@@ -37,10 +46,10 @@ fn rows_after(alloc: Global, keeper: MemKeeper) -> Result<RowList, Fail> {
 #[test]
 fn a_fault_of_the_keeper_freezes_nothing(rt: HostRuntime) -> Result<(), Fail> {
     let alloc = rt.alloc();
-    let before = rows_of(alloc, &mut decided(alloc, SMITH)?)?;
+    let before = rows_of(alloc, &mut decided(&rt, alloc, SMITH)?)?;
     for call in [0u64, 1] {
-        let keeper = decided_failing(alloc, &[call])?;
-        let mut seen = ran_on(alloc, PRODUCE, keeper, &NOTHING_FAILS)?;
+        let keeper = decided_failing(&rt, alloc, &[call])?;
+        let mut seen = ran_on(&rt, alloc, PRODUCE, keeper, &NOTHING_FAILS)?;
         assert!(rt; seen.status == 5, "at call {call}");
         assert!(rt;
             seen.out.written() == b"keeper fault\n".as_slice(),
@@ -57,14 +66,20 @@ fn a_fault_of_the_keeper_freezes_nothing(rt: HostRuntime) -> Result<(), Fail> {
 #[test]
 fn a_fault_of_the_out_leaves_the_volume_of_both(rt: HostRuntime) -> Result<(), Fail> {
     let alloc = rt.alloc();
-    let whole = ran_on(alloc, PRODUCE, decided(alloc, SMITH)?, &NOTHING_FAILS)?;
+    let whole = ran_on(
+        &rt,
+        alloc,
+        PRODUCE,
+        decided(&rt, alloc, SMITH)?,
+        &NOTHING_FAILS,
+    )?;
     let failing = Failing {
         out: &[0],
         ..NOTHING_FAILS
     };
     assert!(rt; whole.status == 0);
-    let one = ran_on(alloc, PRODUCE, decided(alloc, SMITH)?, &failing)?;
-    let other = ran_on(alloc, PRODUCE, decided(alloc, JONES)?, &failing)?;
+    let one = ran_on(&rt, alloc, PRODUCE, decided(&rt, alloc, SMITH)?, &failing)?;
+    let other = ran_on(&rt, alloc, PRODUCE, decided(&rt, alloc, JONES)?, &failing)?;
     assert!(rt; one.out.written() == other.out.written());
     assert!(rt; one.out.written().len() < whole.out.written().len());
     for seen in [&one, &other] {
@@ -83,9 +98,9 @@ fn a_fault_of_the_out_leaves_the_production_kept(rt: HostRuntime) -> Result<(), 
         ..NOTHING_FAILS
     };
     for held in [SMITH, JONES] {
-        let mut seen = ran_on(alloc, PRODUCE, decided(alloc, held)?, &failing)?;
+        let mut seen = ran_on(&rt, alloc, PRODUCE, decided(&rt, alloc, held)?, &failing)?;
         let rows = rows_of(alloc, &mut seen.keeper)?;
-        let after = rows_after(alloc, decided(alloc, held)?)?;
+        let after = rows_after(&rt, alloc, decided(&rt, alloc, held)?)?;
         assert!(rt; rows.as_slice() == after.as_slice());
     }
     Ok(())
@@ -101,7 +116,7 @@ fn a_fault_of_each_read_leaves_the_rows(rt: HostRuntime) -> Result<(), Fail> {
     let before = rows_of(alloc, &mut keeper)?;
     for call in 0..READS {
         let source = batch_source(alloc, SMITH, &[call])?;
-        let seen = ran_over(alloc, "import B1", source, keeper, &NOTHING_FAILS)?;
+        let seen = ran_over(&rt, alloc, "import B1", source, keeper, &NOTHING_FAILS)?;
         assert!(rt; seen.status == 3, "at read {call}");
         assert!(rt;
             seen.out.written() == b"source fault\n".as_slice(),
@@ -112,7 +127,7 @@ fn a_fault_of_each_read_leaves_the_rows(rt: HostRuntime) -> Result<(), Fail> {
         assert!(rt; rows.as_slice() == before.as_slice(), "at read {call}");
     }
     let source = batch_source(alloc, SMITH, &[READS])?;
-    let seen = ran_over(alloc, "import B1", source, keeper, &NOTHING_FAILS)?;
+    let seen = ran_over(&rt, alloc, "import B1", source, keeper, &NOTHING_FAILS)?;
     assert!(rt; seen.status == 0);
     Ok(())
 }
@@ -125,7 +140,7 @@ fn a_fault_of_the_keeper_leaves_the_batch_out(rt: HostRuntime) -> Result<(), Fai
     let mut keeper = begun(alloc, &[0, 3])?;
     for status in [5u8, 5, 0] {
         let source = batch_source(alloc, SMITH, &[])?;
-        let seen = ran_over(alloc, "import B1", source, keeper, &NOTHING_FAILS)?;
+        let seen = ran_over(&rt, alloc, "import B1", source, keeper, &NOTHING_FAILS)?;
         assert!(rt; seen.status == status);
         keeper = seen.keeper;
         let rows = rows_of(alloc, &mut keeper)?;

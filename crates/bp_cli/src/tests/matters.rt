@@ -7,6 +7,7 @@ use bp_rules::begin;
 use std::alloc::{AllocError, Global};
 use std::process::Abort;
 use std::test::Fail;
+use std::thread::Threads;
 
 const INIT: &str = "init ba7816bf8f01cfea414140de5dae2223b00361a396177a9cb410ff61f20015ad";
 
@@ -45,8 +46,8 @@ fn begun_keeper(alloc: Global, failing: &[u64]) -> Result<MemKeeper, Fail> {
 }
 
 // Runs a line over that source, which is to end with this status and to print this.
-fn check_over(
-    rt: &impl Abort,
+fn check_over<R: Abort + Threads + Sync>(
+    rt: &R,
     alloc: Global,
     line: &str,
     dat: &[u8],
@@ -59,7 +60,7 @@ fn check_over(
         folder,
         out,
         keeper,
-    } = ran_over(alloc, line, source, keeper, &NOTHING_FAILS)?;
+    } = ran_over(rt, alloc, line, source, keeper, &NOTHING_FAILS)?;
     assert!(rt; ended == status, "{line}");
     assert!(rt; out.written() == printed.as_bytes(), "{line}");
     assert!(rt; folder.files().is_empty(), "{line}");

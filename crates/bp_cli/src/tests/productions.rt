@@ -12,6 +12,7 @@ use sha2::{Digest, Sha256};
 use std::alloc::Global;
 use std::process::Abort;
 use std::test::Fail;
+use std::thread::Threads;
 
 pub const LEAD: [u8; 32] = [1; 32];
 
@@ -189,11 +190,15 @@ fn confirm(alloc: Global, tables: &mut Tables, keeper: &mut MemKeeper) -> Result
 }
 
 // A keeper with the rows of the decided matter.
-pub fn decided(alloc: Global, held: Held<'_>) -> Result<MemKeeper, Fail> {
+pub fn decided<R: Threads + Sync>(
+    rt: &R,
+    alloc: Global,
+    held: Held<'_>,
+) -> Result<MemKeeper, Fail> {
     let rows = begin(alloc, LEAD)?.rows(alloc)?;
     let keeper = MemKeeper::over(rows, numbers(alloc, &[])?);
     let source = batch_source(alloc, held, &[])?;
-    let mut keeper = ran_over(alloc, "import B1", source, keeper, &NOTHING_FAILS)?.keeper;
+    let mut keeper = ran_over(rt, alloc, "import B1", source, keeper, &NOTHING_FAILS)?.keeper;
     let Ok(mut tables) = load_tables(alloc, &mut keeper) else {
         return Err(Fail::from("no matter came in"));
     };
@@ -204,14 +209,15 @@ pub fn decided(alloc: Global, held: Held<'_>) -> Result<MemKeeper, Fail> {
 }
 
 // Runs a line over a source without files.
-pub fn ran_on(
+pub fn ran_on<R: Threads + Sync>(
+    rt: &R,
     alloc: Global,
     line: &str,
     keeper: MemKeeper,
     failing: &Failing<'_>,
 ) -> Result<Seen, Fail> {
     let source = MemSource::over(FileList::new(alloc), numbers(alloc, &[])?);
-    ran_over(alloc, line, source, keeper, failing)
+    ran_over(rt, alloc, line, source, keeper, failing)
 }
 
 fn bytes_at<'a>(folder: &'a MemFolder, path: &str) -> Result<&'a [u8], Fail> {
@@ -246,7 +252,13 @@ fn line_of(alloc: Global, folder: &MemFolder) -> Result<String, Fail> {
 #[test]
 fn a_volume_is_produced(rt: HostRuntime) -> Result<(), Fail> {
     let alloc = rt.alloc();
-    let seen = ran_on(alloc, PRODUCE, decided(alloc, SMITH)?, &NOTHING_FAILS)?;
+    let seen = ran_on(
+        &rt,
+        alloc,
+        PRODUCE,
+        decided(&rt, alloc, SMITH)?,
+        &NOTHING_FAILS,
+    )?;
     assert!(rt; seen.status == 0);
     assert!(rt; seen.out.written() == line_of(alloc, &seen.folder)?.as_bytes());
     let files = seen.folder.files();
@@ -269,7 +281,13 @@ fn a_volume_is_produced(rt: HostRuntime) -> Result<(), Fail> {
 #[test]
 fn images_are_burned_and_banded(rt: HostRuntime) -> Result<(), Fail> {
     let alloc = rt.alloc();
-    let seen = ran_on(alloc, PRODUCE, decided(alloc, SMITH)?, &NOTHING_FAILS)?;
+    let seen = ran_on(
+        &rt,
+        alloc,
+        PRODUCE,
+        decided(&rt, alloc, SMITH)?,
+        &NOTHING_FAILS,
+    )?;
     for (path, sides) in [
         ("V1/IMAGES/0001/AB-0001.TIF", (64, 64)),
         ("V1/IMAGES/0001/AB-0002.TIF", (1700, 2232)),
@@ -285,8 +303,20 @@ fn images_are_burned_and_banded(rt: HostRuntime) -> Result<(), Fail> {
 #[test]
 fn two_matters_give_one_volume(rt: HostRuntime) -> Result<(), Fail> {
     let alloc = rt.alloc();
-    let one = ran_on(alloc, PRODUCE, decided(alloc, SMITH)?, &NOTHING_FAILS)?;
-    let other = ran_on(alloc, PRODUCE, decided(alloc, JONES)?, &NOTHING_FAILS)?;
+    let one = ran_on(
+        &rt,
+        alloc,
+        PRODUCE,
+        decided(&rt, alloc, SMITH)?,
+        &NOTHING_FAILS,
+    )?;
+    let other = ran_on(
+        &rt,
+        alloc,
+        PRODUCE,
+        decided(&rt, alloc, JONES)?,
+        &NOTHING_FAILS,
+    )?;
     assert!(rt; (one.status, other.status) == (0, 0));
     assert!(rt; one.out.written() == other.out.written());
     assert!(rt; one.folder.files() == other.folder.files());
@@ -296,17 +326,23 @@ fn two_matters_give_one_volume(rt: HostRuntime) -> Result<(), Fail> {
 #[test]
 fn a_kept_production_is_pressed_and_logged(rt: HostRuntime) -> Result<(), Fail> {
     let alloc = rt.alloc();
-    let first = ran_on(alloc, PRODUCE, decided(alloc, SMITH)?, &NOTHING_FAILS)?;
+    let first = ran_on(
+        &rt,
+        alloc,
+        PRODUCE,
+        decided(&rt, alloc, SMITH)?,
+        &NOTHING_FAILS,
+    )?;
     let (line, files) = (first.out, first.folder);
     let mut keeper = first.keeper;
     for again in ["press R-1", PRODUCE] {
-        let seen = ran_on(alloc, again, keeper, &NOTHING_FAILS)?;
+        let seen = ran_on(&rt, alloc, again, keeper, &NOTHING_FAILS)?;
         assert!(rt; seen.status == 0, "{again}");
         assert!(rt; seen.out.written() == line.written(), "{again}");
         assert!(rt; seen.folder.files() == files.files(), "{again}");
         keeper = seen.keeper;
     }
-    let log = ran_on(alloc, "log R-1", keeper, &NOTHING_FAILS)?;
+    let log = ran_on(&rt, alloc, "log R-1", keeper, &NOTHING_FAILS)?;
     assert!(rt; log.status == 0);
     assert!(rt; log.out.written() == LOG.as_bytes());
     assert!(rt; log.folder.files().is_empty());
@@ -316,7 +352,13 @@ fn a_kept_production_is_pressed_and_logged(rt: HostRuntime) -> Result<(), Fail> 
 #[test]
 fn later_edits_leave_a_production(rt: HostRuntime) -> Result<(), Fail> {
     let alloc = rt.alloc();
-    let first = ran_on(alloc, PRODUCE, decided(alloc, SMITH)?, &NOTHING_FAILS)?;
+    let first = ran_on(
+        &rt,
+        alloc,
+        PRODUCE,
+        decided(&rt, alloc, SMITH)?,
+        &NOTHING_FAILS,
+    )?;
     let mut keeper = first.keeper;
     let Ok(mut tables) = load_tables(alloc, &mut keeper) else {
         return Err(Fail::from("no matter is kept"));
@@ -326,7 +368,7 @@ fn later_edits_leave_a_production(rt: HostRuntime) -> Result<(), Fail> {
         num: 1,
     };
     ask(alloc, &mut tables, &mut keeper, &REVIEWER, call)?;
-    let again = ran_on(alloc, PRODUCE, keeper, &NOTHING_FAILS)?;
+    let again = ran_on(&rt, alloc, PRODUCE, keeper, &NOTHING_FAILS)?;
     assert!(rt; again.out.written() == first.out.written());
     assert!(rt; again.folder.files() == first.folder.files());
     Ok(())
@@ -335,7 +377,14 @@ fn later_edits_leave_a_production(rt: HostRuntime) -> Result<(), Fail> {
 #[test]
 fn refused_requests_write_nothing(rt: HostRuntime) -> Result<(), Fail> {
     let alloc = rt.alloc();
-    let mut keeper = ran_on(alloc, PRODUCE, decided(alloc, SMITH)?, &NOTHING_FAILS)?.keeper;
+    let mut keeper = ran_on(
+        &rt,
+        alloc,
+        PRODUCE,
+        decided(&rt, alloc, SMITH)?,
+        &NOTHING_FAILS,
+    )?
+    .keeper;
     for (line, status, printed) in [
         ("press X", 2, "refused 33 NoProduction 0 0 0\n"),
         ("log X", 2, "refused 33 NoProduction 0 0 0\n"),
@@ -363,7 +412,7 @@ fn refused_requests_write_nothing(rt: HostRuntime) -> Result<(), Fail> {
         ("produce R-2 V2 AB- 4 1", 1, "words refused\n"),
         ("press", 1, "words refused\n"),
     ] {
-        let seen = ran_on(alloc, line, keeper, &NOTHING_FAILS)?;
+        let seen = ran_on(&rt, alloc, line, keeper, &NOTHING_FAILS)?;
         assert!(rt; seen.status == status, "{line}");
         assert!(rt; seen.out.written() == printed.as_bytes(), "{line}");
         assert!(rt; seen.folder.files().is_empty(), "{line}");
@@ -376,13 +425,19 @@ fn refused_requests_write_nothing(rt: HostRuntime) -> Result<(), Fail> {
 #[test]
 fn a_fault_of_the_folder_leaves_first_files(rt: HostRuntime) -> Result<(), Fail> {
     let alloc = rt.alloc();
-    let whole = ran_on(alloc, PRODUCE, decided(alloc, SMITH)?, &NOTHING_FAILS)?;
+    let whole = ran_on(
+        &rt,
+        alloc,
+        PRODUCE,
+        decided(&rt, alloc, SMITH)?,
+        &NOTHING_FAILS,
+    )?;
     let failing = Failing {
         source: &[],
         folder: &[13],
         out: &[],
     };
-    let cut = ran_on(alloc, PRODUCE, decided(alloc, SMITH)?, &failing)?;
+    let cut = ran_on(&rt, alloc, PRODUCE, decided(&rt, alloc, SMITH)?, &failing)?;
     assert!(rt; cut.status == 4);
     assert!(rt; cut.out.written() == b"folder fault\n".as_slice());
     let files: &[FileRow] = cut.folder.files();
@@ -390,7 +445,7 @@ fn a_fault_of_the_folder_leaves_first_files(rt: HostRuntime) -> Result<(), Fail>
     for (file, other) in files.iter().zip(whole.folder.files()).take(4) {
         assert!(rt; file == other);
     }
-    let rest = ran_on(alloc, "press R-1", cut.keeper, &NOTHING_FAILS)?;
+    let rest = ran_on(&rt, alloc, "press R-1", cut.keeper, &NOTHING_FAILS)?;
     assert!(rt; rest.status == 0);
     assert!(rt; rest.out.written() == whole.out.written());
     assert!(rt; rest.folder.files() == whole.folder.files());

@@ -1,7 +1,7 @@
 // The top call.
 ghost use Rattle.std.specs.Prelude.{◌≡◌};
 ghost use Rattle.bp_cli.specs.Words.{word_bytes};
-ghost use Rattle.bp_cli.specs.Commands.{command_of, Works};
+ghost use Rattle.bp_cli.specs.Commands.{command_of, ReadsAndWorks};
 ghost use Rattle.bp_cli.specs.Endings.{world};
 ghost use Rattle.bp_cli.specs.Runs.{Runs, outside};
 ghost use Rattle.bp_cli.specs.Arguments.{RunsArguments};
@@ -99,7 +99,7 @@ fn work<R: Threads + Sync, S: Source, K: Keeper, F: Folder>(
     ensures { let command = command_of (word_bytes words.now) in
         let before = world (S.shows source.old) (K.shows keeper.old) (F.shows folder.old) in
         let after = world (S.shows source.new) (K.shows keeper.new) (F.shows folder.new) in
-        Works command before result after }
+        ReadsAndWorks command before result after }
 {
     match command_in(alloc, words)? {
         None => Err(Stop::WordsRefused),

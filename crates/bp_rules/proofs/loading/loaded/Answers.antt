@@ -9,10 +9,11 @@ returns-in-Ok-read_tables g c =
     let some = sym c.is_empty.ensures ∙ c.if-is_empty.false in
     let good = loaded-ok rows tables c.know_valid.ensures c.rows_law.ensures some c.in-Ok-read_tables.ensures in
     record {
-      told_before = told-ok (g.K.Keeper.shows c.args.keeper.now).rows rows tables c.in-Ok.ensures.told_before good;
       told_after = told-ok (g.K.Keeper.shows c.load.new.self).rows rows tables c.in-Ok.ensures.told_after good;
       rule = tt;
       same = c.in-Ok.ensures.same;
       faults = c.in-Ok.ensures.faults;
+      loads = c.in-Ok.ensures.loads;
+      commits = c.in-Ok.ensures.commits;
       sure = c.in-Ok.ensures.sure;
     }

@@ -1,6 +1,6 @@
 pub mod CallsLemmas
 pub mod CountsLemmas
-mod DifferLemmas
+pub mod DifferLemmas
 mod DigitLemmas
 pub mod InTurnLemmas
 mod PathLemmas

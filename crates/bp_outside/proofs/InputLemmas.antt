@@ -1,10 +1,10 @@
 -- Carry what one read of an input leaves to the whole of it.
-use Rattle.std.proofs.Common.{◌≡◌, ℕ, ◌+◌, ◌<◌, ◌≤◌, ◌==◌, Bool, true, false, List, [], ◌++◌, length, take, refl, sym, ap, ◌∙◌, arith, inl, inr, length-append}
+use Rattle.std.proofs.Common.{◌≡◌, ℕ, ◌+◌, ◌≤◌, ◌==◌, Bool, true, false, List, [], ◌++◌, length, take, refl, sym, ap, ◌∙◌, arith, inl, inr, length-append}
 use Rattle.std.specs.Prelude.{Err}
 use Rattle.std.proofs.lemmas.Bool.Decides.{nat_tests}
 use Rattle.std.proofs.lemmas.List.{append-nil, length-take-le}
 use Rattle.bp_outside.specs.Door.{DoorView, ReadsFirst, after_refusal, changed, took}
-use Rattle.bp_outside.specs.Input.{StopsAt, TakesInput, TakesMore, TakesPart, TakesSome, WasNeeded}
+use Rattle.bp_outside.specs.Input.{TakesInput, TakesMore, TakesPart, TakesSome, WasNeeded}
 use Rattle.bp_outside.specs.declared.input.InputStop.{InputStop}
 use Rattle.bp_outside.specs.declared.input.InputStop.TheVariants.{LackedMemory, Refused}
 use Rattle.bp_outside.specs.declared.input.TheConstants.{INPUT_CHUNK}

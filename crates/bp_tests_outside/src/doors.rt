@@ -65,10 +65,20 @@ fn each_call_at_a_door_fails_in_turn(rt: HostRuntime) -> Result<(), Fail> {
         door.hang_up();
         let told = door.exchanges().first().map(passed);
         let bytes = ([1u8, 2, 3], [7u8, 8]);
-        let wanted = (&bytes.0[..read], false, &bytes.1[..written], failing < 4, true);
+        let wanted = (
+            &bytes.0[..read],
+            false,
+            &bytes.1[..written],
+            failing < 4,
+            true,
+        );
         assert_eq!(rt; told, Some(wanted), "at call {failing}");
         let last = door.accept(alloc);
-        let closed = if failing == 4 { Err(DoorRefusal::Failed) } else { Ok(false) };
+        let closed = if failing == 4 {
+            Err(DoorRefusal::Failed)
+        } else {
+            Ok(false)
+        };
         assert_eq!(rt; last, closed, "at call {failing}");
     }
     Ok(())

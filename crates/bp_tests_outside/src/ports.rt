@@ -48,7 +48,11 @@ fn a_door_asks_for_its_port_alone(rt: HostRuntime) -> Result<(), Fail> {
 fn a_door_fails_where_the_system_does(rt: HostRuntime) -> Result<(), Fail> {
     let alloc = rt.alloc();
     for failing in [0, 1, 2, 3, 4, 5, 6, 7, 8, 9] {
-        let error = if failing == 4 { WOULD_WAIT } else { CLOSED_PIPE };
+        let error = if failing == 4 {
+            WOULD_WAIT
+        } else {
+            CLOSED_PIPE
+        };
         let stage = Stage::new(alloc, failing, error, b"ping", 9)?;
         let mut door = TcpDoor::of(&stage, 16);
         let answer = serve(alloc, &mut door);

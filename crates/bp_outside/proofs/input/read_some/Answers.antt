@@ -1,5 +1,5 @@
-use Rattle.std.proofs.Common.{refl, arith}
-use Rattle.bp_outside.proofs.InputLemmas.{no_more_bytes, takes_more, takes_part}
+use Rattle.std.proofs.Common.{refl}
+use Rattle.bp_outside.proofs.InputLemmas.{no_more_bytes, takes_part}
 use Rattle.bp_outside.proofs.input.read_some.Goals as goal
 
 pub returns-then-taken-eq0 : goal.returns-then-taken-eq0

@@ -1,5 +1,5 @@
-use Rattle.std.proofs.Common.{◌≡◌, ◌∙◌, ap, refl, sym}
-use Rattle.bp_outside.specs.Door.{refused, to_last}
+use Rattle.std.proofs.Common.{◌∙◌, refl}
+use Rattle.bp_outside.specs.Door.{refused}
 use Rattle.bp_outside.specs.declared.refusals.DoorRefusal.TheVariants.{Failed, OutOfMemory}
 use Rattle.bp_outside.proofs.MemoryDoorLemmas.{last_set}
 use Rattle.bp_outside.proofs.memory.door.refuse.Goals as goal

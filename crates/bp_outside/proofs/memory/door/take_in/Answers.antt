@@ -1,4 +1,4 @@
-use Rattle.std.proofs.Common.{◌≡◌, ◌∙◌, ap, refl}
+use Rattle.std.proofs.Common.{◌∙◌}
 use Rattle.bp_outside.specs.Door.{took}
 use Rattle.bp_outside.proofs.MemoryDoorLemmas.{last_set}
 use Rattle.bp_outside.proofs.memory.door.take_in.Goals as goal

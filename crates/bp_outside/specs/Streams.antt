@@ -11,8 +11,8 @@ AppendsTo contents (Some old) (Some new) result piece =
 AppendsTo contents None new result piece = ⊥
 AppendsTo contents (Some old) None result piece = ⊥
 
--- what the answer says of the bytes that are left to read, where they are known: as many of the next
--- ones stand at the front of the room as it says. A stream is open before and after
+-- what the answer says of the bytes that are left to read, where they are known: as many of the
+-- next ones stand at the front of the room as it says. A stream is open before and after
 abbrev pub ReadsFrom : {S E : Type 0} → (S → Option (List ℕ)) → Option S → Option S
     → Result ℕ E → List ℕ → Type 0
 ReadsFrom remaining (Some old) (Some new) result room =

@@ -1,12 +1,12 @@
 //! The outside: where bytes come from and go to.
 //!
 //! `Source`, `Folder`, `Out` and `Door` are the world as traits. Each has one ghost view, `shows`,
-//! which contracts cite (`SourceView`, `FolderView`, `OutView`, `DoorView`): what is held, where that
-//! is told, and counts that never fall. A refusal raises the count of its own cause. `MemSource`,
-//! `MemFolder`, `MemOut` and `MemDoor` tell all that they hold; `FileSource`, `FileFolder`, `StdOut`
-//! and `TcpDoor` stand on the system and tell nothing. A whole file is put by `put_file` or
-//! `put_parts`, and a whole piece by `write_all`; the input of an exchange is read by `read_input`,
-//! and its reply sent by `send`.
+//! which contracts cite (`SourceView`, `FolderView`, `OutView`, `DoorView`): what is held, where
+//! that is told, and counts that never fall. A refusal raises the count of its own cause.
+//! `MemSource`, `MemFolder`, `MemOut` and `MemDoor` tell all that they hold; `FileSource`,
+//! `FileFolder`, `StdOut` and `TcpDoor` stand on the system and tell nothing. A whole file is put by
+//! `put_file` or `put_parts`, and a whole piece by `write_all`; the input of an exchange is read by
+//! `read_input`, and its reply sent by `send`.
 #![tactic(auto)]
 
 mod counts;

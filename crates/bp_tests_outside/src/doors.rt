@@ -53,8 +53,8 @@ fn a_door_in_memory_passes_bytes(rt: HostRuntime) -> Result<(), Fail> {
     Ok(())
 }
 
-// The calls are accept (0), two reads (1 and 2), a write (3) and an accept that finds it closed (4).
-// A call that fails leaves what passed before it, and half of what it was to write.
+// The calls are accept (0), two reads (1 and 2), a write (3) and an accept that finds the door
+// closed (4). A call that fails leaves what passed before it, and half of what it was to write.
 #[test]
 fn each_call_at_a_door_fails_in_turn(rt: HostRuntime) -> Result<(), Fail> {
     let alloc = rt.alloc();

@@ -10,7 +10,7 @@ use std::net::{Ipv4Addr, Net, OpenListener, OpenStream, Shutdown, SocketAddr, So
 use std::test::Fail;
 use std::time::{Clock, Duration};
 
-// What a door does for one peer: whether it came, how many bytes were read, whether a reply was sent.
+// Serves one peer, and tells how many bytes of it were read.
 fn serve<D: Door>(alloc: Global, door: &mut D) -> Result<usize, DoorRefusal> {
     let mut room = [0u8; 4];
     let came = door.accept(alloc)?;
@@ -93,6 +93,21 @@ struct Loopback<'a, R: Net> {
     peer: Cell<Option<R::Stream>>,
 }
 
+impl<'a, R: Net> Loopback<'a, R> {
+    fn over(rt: &'a R, sends: &'a [u8]) -> Loopback<'a, R> {
+        Loopback {
+            rt,
+            sends,
+            peer: Cell::new(None),
+        }
+    }
+
+    // The peer that came.
+    fn take_peer(&self) -> Option<R::Stream> {
+        self.peer.replace(None)
+    }
+}
+
 impl<'a, R: Net> Net for Loopback<'a, R> {
     type Stream = R::Stream;
 
@@ -137,14 +152,10 @@ fn reply<S: Read + Drop>(alloc: Global, peer: Option<S>) -> io::Result<Vec<u8>> 
 fn a_peer_gets_the_reply(rt: HostRuntime) -> Result<(), Fail> {
     let alloc = rt.alloc();
     let long = counted(alloc, 20_000)?;
-    let network = Loopback {
-        rt: &rt,
-        sends: long.as_slice(),
-        peer: Cell::new(None),
-    };
+    let network = Loopback::over(&rt, long.as_slice());
     let mut door = TcpDoor::of(&network, 1);
     assert_eq!(rt; serve(alloc, &mut door), Ok(4));
-    let bytes = reply(alloc, network.peer.replace(None))?;
+    let bytes = reply(alloc, network.take_peer())?;
     assert_eq!(rt; bytes.as_slice(), b"pong".as_slice());
     Ok(())
 }

@@ -33,8 +33,8 @@ const DRAIN_LIMIT: usize = 2_097_152;
 // How many bytes are read off at a time.
 const CHUNK: usize = 65536;
 
-/// A port of this machine, on 127.0.0.1, at which peers connect. It tells no exchanges, and is never
-/// found closed.
+/// A port of this machine, on 127.0.0.1, at which peers connect. It tells no exchanges, and is
+/// never found closed.
 #[derive(Drop)]
 pub struct TcpDoor<'a, R: Net + Clock> {
     rt: &'a R,

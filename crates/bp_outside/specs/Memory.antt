@@ -40,6 +40,10 @@ source_shown source =
 abbrev pub source_calls : MemSource → Calls
 source_calls source = source.calls
 
+-- how often it was asked to read
+abbrev pub source_reads : MemSource → ℕ
+source_reads source = source.calls.made
+
 abbrev pub source_files : MemSource → List FileRow
 source_files source = source.files
 

@@ -3,6 +3,7 @@ use Rattle.std.specs.Prelude.{ℕ, Bool, false, None}
 use Rattle.bp_outside.specs.Source.{SourceView}
 use Rattle.bp_outside.specs.Folder.{FolderView}
 use Rattle.bp_outside.specs.Out.{OutView}
+use Rattle.bp_outside.specs.Door.{DoorView}
 use Rattle.bp_outside.specs.declared.counts.ReadCounts.{ReadCounts}
 
 abbrev pub untold_source : ReadCounts → SourceView
@@ -21,3 +22,14 @@ untold_folder under_way faults =
 
 abbrev pub untold_out : ℕ → OutView
 untold_out faults = record { written = None; faults = faults; sure = false }
+
+abbrev pub untold_door : Bool → ℕ → ℕ → DoorView
+untold_door under_way faults accepts =
+    record {
+      exchanges = None;
+      under_way = under_way;
+      closed = false;
+      faults = faults;
+      accepts = accepts;
+      sure = false;
+    }

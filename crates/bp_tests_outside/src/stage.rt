@@ -1,6 +1,9 @@
 // A runtime of the tests' own. It keeps a line for each call that it gets, and the bytes that were
-// written, and fails at one call. Each file that is opened holds the same bytes.
+// written, and fails at one call. Each file that is opened holds the same bytes, and each peer that
+// comes sends them.
 ghost use Rattle.std.specs.Prelude.{◌≤◌, length, IfOk};
+
+mod net;
 
 use std::alloc::{AllocError, Allocator, Global};
 use std::cell::Cell;
@@ -18,6 +21,8 @@ pub const NONE: u64 = u64::MAX;
 pub const NO_SUCH_FILE: i32 = 2;
 
 pub const INTERRUPTED: i32 = 4;
+
+pub const WOULD_WAIT: i32 = 11;
 
 pub const NO_MEMORY: i32 = 12;
 
@@ -51,6 +56,9 @@ struct Book {
     holds: Vec<u8>,
     step: usize,
     calls: Cell<u64>,
+    // How many milliseconds the clock goes on at each reading, and what it reads next.
+    tick: u64,
+    clock: Cell<u64>,
     lines: Cell<String>,
     written: Cell<Vec<u8>>,
 }
@@ -63,6 +71,18 @@ impl Stage {
         holds: &[u8],
         step: usize,
     ) -> Result<Stage, AllocError> {
+        Stage::ticking(alloc, failing, error, holds, step, 0)
+    }
+
+    // One whose clock goes on by so many milliseconds at each reading.
+    pub fn ticking(
+        alloc: Global,
+        failing: u64,
+        error: i32,
+        holds: &[u8],
+        step: usize,
+        tick: u64,
+    ) -> Result<Stage, AllocError> {
         let book = Book {
             alloc,
             failing,
@@ -70,6 +90,8 @@ impl Stage {
             holds: Vec::from_slice(alloc, holds)?,
             step,
             calls: Cell::new(0),
+            tick,
+            clock: Cell::new(0),
             lines: Cell::new(String::new(alloc)),
             written: Cell::new(Vec::new(alloc)),
         };

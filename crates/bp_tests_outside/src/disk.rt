@@ -1,6 +1,6 @@
 // The adapters on a real disk.
-use super::counted;
-use crate::{
+use crate::lists::counted;
+use bp_outside::{
     FileFolder, FileSource, Folder, FolderRefusal, ReadRefusal, Source, StdOut, put_file, write_all,
 };
 use std::fs;

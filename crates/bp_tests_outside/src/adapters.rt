@@ -1,10 +1,11 @@
 // The adapters over a runtime of the tests' own: what they ask of the system, call by call, and
 // what they make of its answers.
-use super::stage::{
+use crate::lists::counted;
+use crate::stage::{
     A_FOLDER, CLOSED_PIPE, INTERRUPTED, LINK_LOOP, NAME_TOO_LONG, NO_MEMORY, NO_PERMISSION,
     NO_SPACE, NO_SUCH_FILE, NONE, NOT_A_FOLDER, Stage,
 };
-use crate::{
+use bp_outside::{
     FileFolder, FileSource, FolderRefusal, OutRefusal, ReadRefusal, Source, StdOut, put_file,
     write_all,
 };
@@ -155,5 +156,45 @@ fn an_out_fails_where_the_system_does(rt: HostRuntime) -> Result<(), Fail> {
         assert_eq!(rt; stage.lines().as_str(), lines);
         assert_eq!(rt; stage.written().as_slice(), written.as_bytes());
     }
+    Ok(())
+}
+
+// Long pieces pass too: none of them is kept beside its file, or put elsewhere.
+#[test]
+fn a_long_file_is_written_in_its_place_alone(rt: HostRuntime) -> Result<(), Fail> {
+    let alloc = rt.alloc();
+    let long = counted(alloc, 70_000)?;
+    let stage = Stage::new(alloc, NONE, NO_SPACE, &[], 65_536)?;
+    let mut folder = FileFolder::below(&stage, "out");
+    put_file(alloc, &mut folder, "V/MANIFEST.TXT", long.as_slice())?;
+    let lines = "create_dir out/V\nempty out/V/MANIFEST.TXT\nwrite\nwrite\n";
+    assert_eq!(rt; stage.lines().as_str(), lines);
+    assert_eq!(rt; stage.written().as_slice(), long.as_slice());
+    Ok(())
+}
+
+#[test]
+fn a_long_file_is_read_whole(rt: HostRuntime) -> Result<(), Fail> {
+    let alloc = rt.alloc();
+    let long = counted(alloc, 200_000)?;
+    let stage = Stage::new(alloc, NONE, NO_SPACE, long.as_slice(), 65_536)?;
+    let mut source = FileSource::below(&stage, "in");
+    let read = source.read(alloc, "V/IMAGES/A.TIF", 200_000)?;
+    assert_eq!(rt; read.as_slice(), long.as_slice());
+    let lines = "read in/V/IMAGES/A.TIF\nlength\nread\nread\nread\nread\nread\n";
+    assert_eq!(rt; stage.lines().as_str(), lines);
+    assert_eq!(rt; stage.written().len(), 0);
+    Ok(())
+}
+
+#[test]
+fn a_long_piece_is_printed_whole(rt: HostRuntime) -> Result<(), Fail> {
+    let alloc = rt.alloc();
+    let long = counted(alloc, 70_000)?;
+    let stage = Stage::new(alloc, NONE, NO_SPACE, &[], 65_536)?;
+    let mut out = StdOut::of(&stage);
+    write_all(alloc, &mut out, long.as_slice())?;
+    assert_eq!(rt; stage.lines().as_str(), "print\nprint\n");
+    assert_eq!(rt; stage.written().as_slice(), long.as_slice());
     Ok(())
 }

@@ -1,10 +1,10 @@
 // The objects in memory, with ample memory.
-use super::counted;
-use crate::{
+use crate::lists::{counted, numbers};
+use bp_core::{Bytes, Text};
+use bp_outside::{
     FileList, FileRow, Folder, FolderRefusal, MemFolder, MemOut, MemSource, OutRefusal,
     ReadRefusal, Source, paths_differ, put_file, put_parts, write_all,
 };
-use bp_core::{Bytes, NumberList, Text};
 use std::alloc::{AllocError, Global};
 use std::test::Fail;
 
@@ -21,10 +21,6 @@ fn rows(alloc: Global, of: &[(&str, &[u8])]) -> Result<FileList, AllocError> {
         files.push(row(alloc, path, bytes)?)?;
     }
     Ok(FileList::from_vec(files))
-}
-
-fn numbers(alloc: Global, of: &[u64]) -> Result<NumberList, AllocError> {
-    Ok(NumberList::from_vec(Vec::from_slice(alloc, of)?))
 }
 
 // The fourth call, number 3, is to fail.

@@ -13,8 +13,8 @@ use Rattle.bp_burn.specs.Band.{band_texts, banded, produced_of}
 use Rattle.bp_burn.specs.Drawn.{columns_of, is_drawn}
 use Rattle.bp_burn.specs.Covered.{covered_pixel, covered_rows}
 use Rattle.bp_burn.specs.Ink.{above, changed, inked, with_white_rows}
-use Rattle.bp_burn.specs.declared.inks.Ink.{Ink}
-use Rattle.bp_burn.specs.declared.inks.Stamp.{Stamp}
+use Rattle.bp_core.specs.declared.stamps.Ink.{Ink}
+use Rattle.bp_core.specs.declared.stamps.Stamp.{Stamp}
 use Rattle.bp_burn.proofs.CopyLemmas.{grid_with_rows}
 use Rattle.bp_burn.proofs.ChangeLemmas.{Agree, Change, changed_is_grid, pixel-changed}
 use Rattle.bp_burn.proofs.InkLemmas.{Figure, inked-alike, inked-inked}

@@ -7,9 +7,9 @@ use Rattle.std.proofs.lemmas.List.{map-append, take_more}
 use Rattle.std.proofs.lemmas.List.Folds.{list_any-append}
 use Rattle.bp_core.specs.Rectangle.{has_pixel}
 use Rattle.bp_core.specs.declared.rectangle.Rect.{Rect}
-use Rattle.bp_burn.specs.declared.inks.Ink.{Ink}
-use Rattle.bp_burn.specs.declared.inks.Ink.TheVariants.{Black, Lettered}
-use Rattle.bp_burn.specs.declared.inks.Stamp.{Stamp}
+use Rattle.bp_core.specs.declared.stamps.Ink.{Ink}
+use Rattle.bp_core.specs.declared.stamps.Ink.TheVariants.{Black, Lettered}
+use Rattle.bp_core.specs.declared.stamps.Stamp.{Stamp}
 use Rattle.bp_rows.specs.Burned.{burned, covers}
 use Rattle.bp_rows.specs.Image.{Image, IsGrid}
 use Rattle.bp_burn.specs.Covered.{covered_pixel, covered_rows, has_letter, is_lettered, last_with, letters_in, rects_of, shows_letters}

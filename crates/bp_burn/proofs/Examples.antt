@@ -8,9 +8,9 @@ use Rattle.bp_rows.specs.declared.resolution.Unit.TheVariants.{Inch}
 use Rattle.bp_rows.specs.Image.{Image}
 use Rattle.bp_core.specs.declared.review.Basis.{Basis}
 use Rattle.bp_core.specs.declared.review.Basis.TheVariants.{Ac, Pi}
-use Rattle.bp_burn.specs.declared.inks.Ink.{Ink}
-use Rattle.bp_burn.specs.declared.inks.Ink.TheVariants.{Black, Lettered}
-use Rattle.bp_burn.specs.declared.inks.Stamp.{Stamp}
+use Rattle.bp_core.specs.declared.stamps.Ink.{Ink}
+use Rattle.bp_core.specs.declared.stamps.Ink.TheVariants.{Black, Lettered}
+use Rattle.bp_core.specs.declared.stamps.Stamp.{Stamp}
 use Rattle.bp_burn.specs.Band.{band_texts, produced_of, slip_text}
 use Rattle.bp_burn.specs.Covered.{covered, covered_pixel}
 use Rattle.bp_burn.specs.Drawn.{columns_of, has_glyphs, is_drawn}

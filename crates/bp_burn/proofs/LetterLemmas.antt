@@ -6,7 +6,7 @@ use Rattle.bp_core.specs.Rectangle.{has_pixel}
 use Rattle.bp_core.specs.Review.{basis_code}
 use Rattle.bp_core.specs.declared.review.Basis.{Basis}
 use Rattle.bp_core.specs.declared.review.Basis.TheVariants.{Ac, Wp, Pi, Ts}
-use Rattle.bp_burn.specs.declared.inks.Stamp.{Stamp}
+use Rattle.bp_core.specs.declared.stamps.Stamp.{Stamp}
 use Rattle.bp_burn.specs.Covered.{has_letter, is_lettered, letters_in}
 use Rattle.bp_burn.specs.Drawn.{text_pixel}
 use Rattle.bp_burn.specs.Figures.{text_row}

@@ -3,8 +3,8 @@ use Rattle.std.proofs.Common.{ℕ, ◌≡◌, ◌+◌, ◌<◌, Bool, false, Lis
 use Rattle.std.specs.List.{range_with_len, sum}
 use Rattle.std.specs.Result.{IfOk}
 use Rattle.std.proofs.lemmas.List.FromFn.{get_or-map-range_with_len}
-use Rattle.bp_burn.specs.declared.inks.Ink.{Ink}
-use Rattle.bp_burn.specs.declared.inks.Stamp.{Stamp}
+use Rattle.bp_core.specs.declared.stamps.Ink.{Ink}
+use Rattle.bp_core.specs.declared.stamps.Stamp.{Stamp}
 use Rattle.bp_rows.specs.Image.{Image, pixel, row_of, white_image, with_row}
 use Rattle.bp_rows.specs.Runs.{IsRuns, painted_runs}
 use Rattle.bp_rows.specs.declared.resolution.Unit.TheVariants.{Inch}

@@ -3,8 +3,8 @@
 use Rattle.std.specs.Prelude.{ℕ, ◌+◌, ◌||◌, Bool, List, ◌++◌, codes}
 use Rattle.bp_core.specs.Review.{basis_code}
 use Rattle.bp_core.specs.declared.review.Basis.{Basis}
-use Rattle.bp_burn.specs.declared.inks.Ink.{Ink}
-use Rattle.bp_burn.specs.declared.inks.Stamp.{Stamp}
+use Rattle.bp_core.specs.declared.stamps.Ink.{Ink}
+use Rattle.bp_core.specs.declared.stamps.Stamp.{Stamp}
 use Rattle.bp_rows.specs.Image.{Image, grid_of, pixel, white_image}
 use Rattle.bp_rows.specs.declared.resolution.Res.{Res}
 use Rattle.bp_rows.specs.declared.resolution.Unit.TheVariants.{Inch}

@@ -4,9 +4,9 @@ use Rattle.std.specs.Prelude.{ℕ, ◌+◌, ◌&&◌, ◌||◌, Bool, true, fals
 use Rattle.bp_core.specs.Rectangle.{has_pixel}
 use Rattle.bp_core.specs.Review.{basis_code}
 use Rattle.bp_core.specs.declared.rectangle.Rect.{Rect}
-use Rattle.bp_burn.specs.declared.inks.Ink.{Ink}
-use Rattle.bp_burn.specs.declared.inks.Ink.TheVariants.{Black, Lettered}
-use Rattle.bp_burn.specs.declared.inks.Stamp.{Stamp}
+use Rattle.bp_core.specs.declared.stamps.Ink.{Ink}
+use Rattle.bp_core.specs.declared.stamps.Ink.TheVariants.{Black, Lettered}
+use Rattle.bp_core.specs.declared.stamps.Stamp.{Stamp}
 use Rattle.bp_rows.specs.Burned.{covers}
 use Rattle.bp_rows.specs.Image.{Image}
 use Rattle.bp_burn.specs.Drawn.{is_drawn}

@@ -8,10 +8,9 @@ ghost use Rattle.bp_burn.specs.Ink.{inked};
 
 use crate::burning::copy_with_rows;
 use crate::drawing::{draw_text, hidden_columns};
-use crate::inks::{Ink, StampList};
 use crate::stamps::cover_rows;
 use bp_codes::glyphs;
-use bp_core::{OutOfMemory, Text};
+use bp_core::{Ink, OutOfMemory, StampList, Text};
 use bp_rows::Page;
 use std::alloc::Global;
 

@@ -8,8 +8,8 @@ ghost use Rattle.bp_burn.specs.Figures.{text_row};
 ghost use Rattle.bp_burn.specs.Ink.{erased};
 
 use crate::drawing::{COLUMNS, PITCH, ROWS, SCALE, has_bit};
-use crate::inks::{Ink, Stamp};
 use bp_codes::{GlyphTable, glyphs};
+use bp_core::{Ink, Stamp};
 use bp_rows::Page;
 
 // The least sides of a box that shows its letters, and how far its letters stand in from its upper

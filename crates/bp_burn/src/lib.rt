@@ -9,7 +9,6 @@ mod band;
 mod burning;
 mod drawing;
 mod glyph_rows;
-mod inks;
 mod letters;
 mod paper;
 mod slips;
@@ -18,7 +17,6 @@ mod stamps;
 pub use band::produced;
 pub use burning::{burn, burn_in_place, burn_row};
 pub use glyph_rows::{glyph, has_glyphs};
-pub use inks::{Ink, Stamp, StampList};
 pub use slips::slip_page;
 pub use stamps::covered_runs;
 

@@ -6,10 +6,9 @@ ghost use Rattle.bp_rows.specs.Runs.{IsRuns, painted_runs};
 ghost use Rattle.bp_burn.specs.Covered.{covered, covered_rows};
 ghost use Rattle.bp_burn.specs.Ink.{changed};
 
-use crate::inks::{Ink, Stamp, StampList};
 use crate::letters::{erase_letters, shows_letters};
 use crate::paper::white_page;
-use bp_core::{OutOfMemory, Rect};
+use bp_core::{Ink, OutOfMemory, Rect, Stamp, StampList};
 use bp_rows::{MAX_WIDTH, Page, Runs};
 use std::alloc::Global;
 

@@ -34,7 +34,7 @@ last_more (x ∷ stamps) s r c =
     ap (or_later (if has_pixel x.rect r c then Some x else None)) (last_more stamps s r c)
     ∙ choice_later (has_pixel s.rect r c) s (if has_pixel x.rect r c then Some x else None) (last_with stamps r c)
 
-abbrev decided : ℕ → ℕ → Bool → Option Stamp → Bool
+abbrev pub decided : ℕ → ℕ → Bool → Option Stamp → Bool
 decided r c was found = elim found [ None ↦ was | Some s ↦ not (is_lettered s && has_letter s r c) ]
 
 decided_by : (h : Bool) (s : Stamp) (r c : ℕ) (was : Bool) (found : Option Stamp)

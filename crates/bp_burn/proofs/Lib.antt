@@ -10,4 +10,5 @@ pub mod InkLemmas
 mod LetterLemmas
 mod RowLemmas
 mod SlipLemmas
+mod StripLemmas
 mod TextLemmas

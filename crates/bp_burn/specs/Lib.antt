@@ -3,3 +3,4 @@ pub mod Covered
 pub mod Drawn
 pub mod Figures
 pub mod Ink
+pub mod Strips

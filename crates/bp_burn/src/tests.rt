@@ -27,14 +27,7 @@ fn white_produced(
     let designated = has_glyphs(&designation);
     if imported && drawable && designated {
         let none = ListOf::new(alloc);
-        Ok(produced(
-            alloc,
-            Ink::Lettered,
-            &page,
-            &none,
-            &label,
-            &designation,
-        )?)
+        Ok(produced(alloc, Ink::Lettered, &page, &none, &label, &designation)?)
     } else {
         Err(Fail::from("not a page or not a text that can be drawn"))
     }

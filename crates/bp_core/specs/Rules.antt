@@ -92,9 +92,11 @@ rule_entry kinds.NoticeTwice = entry 123 (codes "NoticeTwice")
 rule_entry kinds.NotReceiver = entry 130 (codes "NotReceiver")
 rule_entry kinds.GrantShape = entry 131 (codes "GrantShape")
 
+-- the number of a rule
 abbrev pub rule_number : RuleKind → ℕ
 rule_number kind = (rule_entry kind).number
 
+-- the name of a rule
 abbrev pub rule_name : RuleKind → List ℕ
 rule_name kind = (rule_entry kind).name
 

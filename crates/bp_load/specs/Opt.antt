@@ -93,6 +93,7 @@ is_field_character c =
     not (c == comma) && not (c == carriage_return)
     && not (c == newline) && not (c == byte_order_character)
 
+-- a text can stand as a field
 abbrev pub is_field : List ℕ → Bool
 is_field text = list_all is_field_character text
 

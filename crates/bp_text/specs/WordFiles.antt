@@ -19,6 +19,7 @@ use Rattle.bp_text.specs.declared.words.WordRow.{WordRow}
 abbrev pub is_number : List ℕ → Bool
 is_number field = are_digits field
 
+-- the number of a field, if it is one
 abbrev pub number_of : List ℕ → Option ℕ
 number_of field = number_in field
 
@@ -26,6 +27,7 @@ number_of field = number_in field
 abbrev pub nonzero : ℕ → Option ℕ
 nonzero n = if n == 0 then None else Some n
 
+-- the side of a word, which is not 0
 abbrev pub side_of : List ℕ → Option ℕ
 side_of field = number_of field >>= nonzero
 

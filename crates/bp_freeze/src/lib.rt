@@ -17,7 +17,6 @@ mod marks;
 mod requests;
 #[cfg(test)]
 mod tests;
-mod texts;
 
 pub use freezing::freeze;
 pub use laws::{

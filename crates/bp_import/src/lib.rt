@@ -10,7 +10,6 @@ mod documents;
 mod families;
 mod files;
 mod laws;
-mod names;
 mod plans;
 mod records;
 mod refusals;

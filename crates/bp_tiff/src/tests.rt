@@ -1,12 +1,10 @@
 // Page files against bytes that are written out from TIFF 6.0 and ITU-T T.6.
 use super::*;
-use crate::reading::LONG_FILE;
 use bp_core::{Refusal, Rule, RuleKind};
 use bp_rows::{Page, Res, Unit};
 use std::alloc::{AllocError, Global};
 use std::process::Abort;
 use std::test::Fail;
-use std::thread::Threads;
 
 // The plain file of a black page of 8 by 1 pixels at 200 to the inch.
 const PLAIN: [u8; 187] = [
@@ -170,8 +168,8 @@ fn check_page(rt: &impl Abort, page: &Page, sides: (u32, u32), across: (Res, Uni
 }
 
 // Both readers find this page in the file.
-fn check_both<R: Abort + Threads + Sync>(
-    rt: &R,
+fn check_both(
+    rt: &impl Abort,
     alloc: Global,
     file: Vec<u8>,
     sides: (u32, u32),
@@ -180,16 +178,12 @@ fn check_both<R: Abort + Threads + Sync>(
 ) -> Result<(), Refusal> {
     let read = read_tiff(alloc, &file)?;
     check_page(rt, &read, sides, across, rows);
-    let taken = take_tiff(rt, alloc, file)?;
+    let taken = take_tiff(alloc, file)?;
     check_page(rt, &taken, sides, across, rows);
     Ok(())
 }
 
-fn check_read<R: Abort + Threads + Sync>(
-    rt: &R,
-    alloc: Global,
-    case: &Case,
-) -> Result<(), Refusal> {
+fn check_read(rt: &impl Abort, alloc: Global, case: &Case) -> Result<(), Refusal> {
     let bytes = file(alloc, case.changes, case.strip)?;
     let across = (case.xres, case.unit);
     check_both(rt, alloc, bytes, (case.width, 1), across, case.strip)
@@ -316,15 +310,10 @@ const FORMS: [(&[(usize, u8)], &[u8], &[u8]); 6] = [
 ];
 
 // Both readers find these rows in the file.
-fn check_rows<R: Abort + Threads + Sync>(
-    rt: &R,
-    alloc: Global,
-    file: Vec<u8>,
-    rows: &[u8],
-) -> Result<(), Refusal> {
+fn check_rows(rt: &impl Abort, alloc: Global, file: Vec<u8>, rows: &[u8]) -> Result<(), Refusal> {
     let read = read_tiff(alloc, &file)?;
     assert!(rt; read.strip() == rows);
-    let taken = take_tiff(rt, alloc, file)?;
+    let taken = take_tiff(alloc, file)?;
     assert!(rt; taken.strip() == rows);
     Ok(())
 }
@@ -335,37 +324,6 @@ fn packed_rows_of_every_form_are_read(rt: HostRuntime) -> Result<(), Fail> {
         let bytes = file(rt.alloc(), changes, strip)?;
         check_rows(&rt, rt.alloc(), bytes, rows)?;
     }
-    Ok(())
-}
-
-// ---- long files
-
-// The file of three strips with other bytes at some places, six bytes and zeros behind it.
-fn long_file(alloc: Global, changes: &[(usize, u8)]) -> Result<Vec<u8>, AllocError> {
-    let mut bytes = changed(alloc, &STRANGE, changes)?;
-    // a row of zeros
-    bytes.extend_from_slice(&[0x64, 0x45, 0x01, 0x10, 0x00, 0x01])?;
-    let zeros = vec![in alloc; 0; LONG_FILE]?;
-    bytes.extend_from_slice(&zeros)?;
-    Ok(bytes)
-}
-
-#[test]
-fn strips_side_by_side_are_read(rt: HostRuntime) -> Result<(), Fail> {
-    // the second strip is the six bytes
-    let bytes = long_file(rt.alloc(), &[(117, 0x8C), (125, 6)])?;
-    check_rows(&rt, rt.alloc(), bytes, &[0xFF, 0x00, 0xFF])?;
-    Ok(())
-}
-
-// Of two strips that are damaged, the first is refused.
-#[test]
-fn the_first_damaged_strip_is_refused(rt: HostRuntime) -> Result<(), Fail> {
-    let first = rule(RuleKind::T6Extension, 1, 0);
-    let bytes = long_file(rt.alloc(), &[(132, 0x40), (136, 0x00)])?;
-    assert!(&rt; broken(rt.alloc(), &bytes) == Some(first));
-    let taken = take_tiff(&rt, rt.alloc(), bytes);
-    assert!(&rt; matches!(taken, Err(Refusal::Rule(rule)) if rule == first));
     Ok(())
 }
 

@@ -7,7 +7,7 @@ ghost use Rattle.bp_matter.specs.Matter.{call_key};
 ghost use Rattle.bp_matter.specs.ValidCalls.{CallFacts, call_fits, state_fits};
 
 use super::numbers::names;
-use super::treatments::is_ground;
+use crate::treatments::is_ground;
 use crate::rows::{CallRow, State};
 use crate::texts::is_designation;
 use bp_core::ascends;

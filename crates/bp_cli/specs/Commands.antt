@@ -10,6 +10,7 @@ use Rattle.bp_core.specs.declared.rules.Rule.{Rule}
 use Rattle.bp_outside.specs.Source.{FileMap}
 use Rattle.bp_matter.specs.Matter.{Matter}
 use Rattle.bp_matter.specs.declared.rows.Request.{Request}
+use Rattle.bp_rules.specs.Steps.{AtMostOnce}
 use Rattle.bp_cli.specs.declared.commands.Command.{Command}
 use Rattle.bp_cli.specs.declared.commands.Command.TheVariants as commands
 use Rattle.bp_cli.specs.declared.stops.Stop.TheVariants as stops
@@ -69,6 +70,17 @@ uses_of (log id) = record { files = false; rows = true; commits = false }
 abbrev pub uses_by : Option CommandLine → Uses
 uses_by None = record { files = false; rows = false; commits = false }
 uses_by (Some c) = uses_of c
+
+-- a command reads from the source once at most, `import` as often as its batch has files, and those
+-- that use no files never
+abbrev pub ReadsAsOften : Option CommandLine → ℕ → ℕ → Type 0
+ReadsAsOften None before now = now ≡ before
+ReadsAsOften (Some (burn b)) before now = AtMostOnce before now
+ReadsAsOften (Some (init digest)) before now = now ≡ before
+ReadsAsOften (Some (import name)) before now = Unit {0}
+ReadsAsOften (Some (produce q)) before now = now ≡ before
+ReadsAsOften (Some (press id)) before now = now ≡ before
+ReadsAsOften (Some (log id)) before now = now ≡ before
 
 -- all that the outcome of a command may depend on: the files of the source, the rows of the keeper
 pub record Inputs : Type 0 where

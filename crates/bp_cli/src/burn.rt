@@ -2,8 +2,10 @@
 ghost use Rattle.std.specs.Prelude.{◌≡◌, IfOk};
 ghost use Rattle.std.specs.Option.{option_map};
 ghost use Rattle.std.specs.Str.{chars};
+ghost use Rattle.bp_core.specs.Counts.{risen};
 ghost use Rattle.bp_core.specs.Paths.{path_in};
 ghost use Rattle.bp_keep.specs.Keeper.{KeeperView};
+ghost use Rattle.bp_rules.specs.Steps.{AtMostOnce};
 ghost use Rattle.bp_tiff.specs.Parts.{file_in};
 ghost use Rattle.bp_tiff.specs.Tiff.{tiff_of};
 ghost use Rattle.bp_cli.specs.Words.{words_lent};
@@ -21,7 +23,6 @@ use bp_outside::{Folder, ReadRefusal, Source, put_parts};
 use bp_rows::{Page, import_sides};
 use bp_tiff::{Form, TiffParts, take_tiff, tiff_parts};
 use std::alloc::Global;
-use std::thread::Threads;
 
 /// The most bytes that a file may have which is read.
 pub const FILE_LIMIT: u64 = 134_217_728;
@@ -95,21 +96,21 @@ pub struct BurnPaths {
 /// that tells how many bytes that file has. It goes in three steps, so that want of memory can't
 /// tell what the box covers: the one that reads isn't told the box, the one that burns takes no
 /// memory, and the one that writes has the burned page alone.
-pub fn burn_box<R: Threads + Sync, S: Source, F: Folder>(
-    rt: &R,
+pub fn burn_box<S: Source, F: Folder>(
     alloc: Global,
     asked: &Burn<'_>,
     source: &mut S,
     folder: &mut F,
 ) -> Result<Bytes, Stop>
-    ensures { (keeper : KeeperView)
+    ensures ends { (keeper : KeeperView)
         → let line = burn (burn_seen asked.now) in
         let before = world (S.shows source.old) keeper (F.shows folder.old) in
         let after = world (S.shows source.new) keeper (F.shows folder.new) in
         Ends (uses_of line) (IsOutcome line before) before result after }
+    ensures reads { AtMostOnce (S.reads source.old) (S.reads source.new) }
 {
     let paths = burn_paths(alloc, asked)?;
-    let page = page_at(rt, alloc, &paths.from, source)?;
+    let page = page_at(alloc, &paths.from, source)?;
     match burned_in(asked.area, page) {
         Ok(burned) => put_page(alloc, asked.form, &paths.to, &burned, folder),
         Err(rule) => Err(Stop::Broken(rule)),
@@ -135,16 +136,12 @@ fn path_named(alloc: Global, word: &str) -> Result<Text, Stop>
 }
 
 // The page of the file at a path.
-fn page_at<R: Threads + Sync, S: Source>(
-    rt: &R,
-    alloc: Global,
-    from: &Text,
-    source: &mut S,
-) -> Result<Page, Stop>
-    ensures { ReadsPage from.now (S.shows source.old) result (S.shows source.new) }
+fn page_at<S: Source>(alloc: Global, from: &Text, source: &mut S) -> Result<Page, Stop>
+    ensures page { ReadsPage from.now (S.shows source.old) result (S.shows source.new) }
+    ensures reads { S.reads source.new ≡ risen (S.reads source.old) }
 {
     match source.read(alloc, from.as_str(), FILE_LIMIT) {
-        Ok(file) => page_in(rt, alloc, file),
+        Ok(file) => page_in(alloc, file),
         Err(refusal) => Err(stop_of_read(refusal)),
     }
 }
@@ -161,10 +158,10 @@ fn stop_of_read(refusal: ReadRefusal) -> Stop
 }
 
 // The page that a file holds.
-fn page_in<R: Threads + Sync>(rt: &R, alloc: Global, file: Vec<u8>) -> Result<Page, Stop>
+fn page_in(alloc: Global, file: Vec<u8>) -> Result<Page, Stop>
     ensures { HoldsPage file.items result }
 {
-    match take_tiff(rt, alloc, file) {
+    match take_tiff(alloc, file) {
         Ok(page) => Ok(page),
         Err(refusal) => Err(Stop::from(refusal)),
     }

@@ -12,7 +12,6 @@ mod applying;
 mod beginning;
 mod calling;
 mod changes;
-mod confirming;
 mod copies;
 mod deciding;
 mod entering;
@@ -30,7 +29,6 @@ mod roles;
 mod running;
 mod seeing;
 mod stepping;
-mod texts;
 
 pub use applying::{apply, make_room};
 pub use beginning::begin;

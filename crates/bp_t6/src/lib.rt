@@ -28,8 +28,6 @@ mod strip_reader;
 mod strip_rows;
 mod strip_writer;
 mod tables;
-#[cfg(test)]
-mod tests;
 mod turns;
 
 pub use page::code_page;

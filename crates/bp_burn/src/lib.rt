@@ -19,6 +19,3 @@ pub use burning::{burn, burn_in_place, burn_row};
 pub use glyph_rows::{glyph, has_glyphs};
 pub use slips::slip_page;
 pub use stamps::covered_runs;
-
-#[cfg(test)]
-mod tests;

@@ -17,8 +17,6 @@ mod review;
 mod rules;
 mod sorted;
 mod stamps;
-#[cfg(test)]
-mod tests;
 mod texts;
 
 pub use byte_strings::Bytes;

@@ -15,8 +15,6 @@ mod log;
 mod loggable;
 mod marks;
 mod requests;
-#[cfg(test)]
-mod tests;
 
 pub use freezing::freeze;
 pub use laws::{

@@ -15,8 +15,6 @@ mod records;
 mod refusals;
 mod scans;
 mod tables;
-#[cfg(test)]
-mod tests;
 mod word_pages;
 
 pub use batch::read_batch;

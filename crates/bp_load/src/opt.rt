@@ -258,6 +258,3 @@ fn write_flag(out: &mut Vec<u8>, is_set: bool) -> Result<(), OutOfMemory>
     out.extend_from_slice(text)?;
     Ok(())
 }
-
-#[cfg(test)]
-mod tests;

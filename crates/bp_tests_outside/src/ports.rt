@@ -2,11 +2,12 @@
 use crate::lists::counted;
 use crate::stage::{CLOSED_PIPE, NO_SPACE, NONE, Stage, WOULD_WAIT};
 use bp_outside::{Door, DoorRefusal, TcpDoor, send};
-use std::alloc::Global;
+use std::alloc::{AllocError, Global};
 use std::cell::Cell;
 use std::io;
 use std::io::{Read, Write};
 use std::net::{Ipv4Addr, Net, OpenListener, OpenStream, Shutdown, SocketAddr, SocketAddrV4};
+use std::rc::Rc;
 use std::test::Fail;
 use std::time::{Clock, Duration};
 
@@ -90,16 +91,16 @@ fn hanging_up_ends(rt: HostRuntime) -> Result<(), Fail> {
 struct Loopback<'a, R: Net> {
     rt: &'a R,
     sends: &'a [u8],
-    peer: Cell<Option<R::Stream>>,
+    peer: Rc<Cell<Option<R::Stream>>>,
 }
 
 impl<'a, R: Net> Loopback<'a, R> {
-    fn over(rt: &'a R, sends: &'a [u8]) -> Loopback<'a, R> {
-        Loopback {
+    fn over(alloc: Global, rt: &'a R, sends: &'a [u8]) -> Result<Loopback<'a, R>, AllocError> {
+        Ok(Loopback {
             rt,
             sends,
-            peer: Cell::new(None),
-        }
+            peer: Rc::new(alloc, Cell::new(None))?,
+        })
     }
 
     // The peer that came.
@@ -152,7 +153,7 @@ fn reply<S: Read + Drop>(alloc: Global, peer: Option<S>) -> io::Result<Vec<u8>> 
 fn a_peer_gets_the_reply(rt: HostRuntime) -> Result<(), Fail> {
     let alloc = rt.alloc();
     let long = counted(alloc, 20_000)?;
-    let network = Loopback::over(&rt, long.as_slice());
+    let network = Loopback::over(alloc, &rt, long.as_slice())?;
     let mut door = TcpDoor::of(&network, 1);
     assert_eq!(rt; serve(alloc, &mut door), Ok(4));
     let bytes = reply(alloc, network.take_peer())?;

@@ -22,8 +22,6 @@ mod rules;
 mod standing;
 mod strips;
 mod tags;
-#[cfg(test)]
-mod tests;
 mod values;
 mod writing;
 

@@ -1,0 +1,117 @@
+// A keeper over a database.
+ghost use Rattle.std.specs.Prelude.{◌≡◌, false};
+
+use crate::commit::commit_puts;
+use crate::load::load_rows;
+use crate::refusals::refuse;
+use bp_core::{PutList, RowList};
+use bp_keep::{KeepRefusal, Keeper};
+use sqlite::{Alter, Connection};
+use std::alloc::Global;
+use std::marker::Model;
+
+/// A keeper whose rows are those of one table of a database, which nobody else writes.
+///
+///     let mut keeper = SqlKeeper::over(connection);
+///     let rows = keeper.load(alloc)?;
+#[derive(Drop)]
+pub struct SqlKeeper<S: Alter> {
+    conn: Connection<S>,
+    // The table is there, and no two lines of it were found to have one rowid.
+    numbered: bool,
+    faults: u64,
+    loads: u64,
+    commits: u64,
+}
+
+impl<S: Alter> Model for SqlKeeper<S> {
+    ghost use Rattle.sqlite.specs.Held.{state};
+    ghost use Rattle.bp_keep_sql.specs.Told.{IsNumbered};
+    ghost use Rattle.bp_keep_sql.specs.Keeper.{KeptOver, kept_code};
+
+    ghost Value = { KeptOver S };
+
+    ghost coded = { kept_code S.code };
+
+    ghost view = { λ k. record {
+      conn = k.conn;
+      numbered = k.numbered;
+      faults = k.faults;
+      loads = k.loads;
+      commits = k.commits;
+    } };
+
+    ghost invariant = { λ k. IsNumbered k.numbered (state S.Store k.conn) };
+}
+
+impl<S: Alter> SqlKeeper<S> {
+    /// A keeper over this connection. It runs no statement.
+    pub fn over(conn: Connection<S>) -> SqlKeeper<S>
+        ensures { result
+            ≡ record { conn = conn; numbered = false; faults = 0; loads = 0; commits = 0 } }
+    {
+        SqlKeeper {
+            conn,
+            numbered: false,
+            faults: 0,
+            loads: 0,
+            commits: 0,
+        }
+    }
+
+    /// The connection, handed back.
+    pub fn into_connection(self) -> Connection<S>
+        ensures { result ≡ self.conn }
+    {
+        self.conn
+    }
+}
+
+impl<S: Alter> Keeper for SqlKeeper<S> {
+    ghost use Rattle.std.specs.Prelude.{◌≡◌, false, IsErr};
+    ghost use Rattle.sqlite.specs.Held.{state};
+    ghost use Rattle.sqlite.specs.State.{HasCleanDisk};
+    ghost use Rattle.bp_keep.specs.Keeper.{Loads, Commits};
+    ghost use Rattle.bp_keep_sql.specs.Table.{no_schema};
+    ghost use Rattle.bp_keep_sql.specs.Effects.{KeepsTable};
+    ghost use Rattle.bp_keep_sql.specs.Keeper.{keeper_shown, shown-ascend, shown-unfailing};
+
+    ghost shows = { keeper_shown S.Store };
+
+    ghost ascending = { shown-ascend S.Store.own };
+
+    ghost unfailing = { shown-unfailing S.Store.own };
+
+    /// Makes the table where there is none. A table that is there keeps its rows.
+    fn load(&mut self, alloc: Global) -> Result<RowList, KeepRefusal>
+        ensures loads { Loads (keeper_shown S.Store self.old) result (keeper_shown S.Store self.new) }
+        ensures keeps { KeepsTable (state S.Store self.old.conn) (state S.Store self.new.conn) }
+    {
+        self.loads = self.loads.saturating_add(1);
+        match load_rows(alloc, &mut self.conn, &mut self.numbered) {
+            Ok(rows) => Ok(RowList::from_vec(rows)),
+            Err(error) => Err(refuse(&mut self.faults, error)),
+        }
+    }
+
+    /// One transaction, which is rolled back where a statement or the commit itself is refused. Without
+    /// the table it is refused.
+    fn commit(&mut self, _alloc: Global, puts: &PutList) -> Result<(), KeepRefusal>
+        ensures commits { Commits (keeper_shown S.Store self.old) puts.now result
+            (keeper_shown S.Store self.new) }
+        ensures lacking { HasCleanDisk (state S.Store self.new.conn)
+            → self.old.conn.schema ≡ no_schema → IsErr result }
+    {
+        self.commits = self.commits.saturating_add(1);
+        match commit_puts(&mut self.conn, puts.as_slice()) {
+            Ok(()) => Ok(()),
+            Err(error) => Err(refuse(&mut self.faults, error)),
+        }
+    }
+
+    fn faults(&self) -> u64
+        ensures { result ≡ (keeper_shown S.Store self.now).faults }
+    {
+        self.faults
+    }
+}

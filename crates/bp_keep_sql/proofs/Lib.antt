@@ -1,4 +1,5 @@
 pub mod DeleteLemmas
+mod Examples
 pub mod KindLemmas
 pub mod LeaveLemmas
 pub mod LineLemmas

@@ -22,7 +22,7 @@ use Rattle.bp_keep_sql.specs.Lines.{kept_rows, shown_row}
 use Rattle.bp_keep_sql.specs.Rowids.{AreNumbered}
 use Rattle.bp_keep_sql.specs.Keeps.{Keeps}
 use Rattle.bp_keep_sql.proofs.TextLemmas.{create_text, upsert_text, delete_text, select_text, find_text, no_find}
-use Rattle.bp_keep_sql.proofs.KindLemmas.{head_writes, keeps_schema, head_reads, reads_nothing, select_reads}
+use Rattle.bp_keep_sql.proofs.KindLemmas.{head_writes, keeps_schema, head_reads, reads_nothing, select_reads, creates_mode}
 use Rattle.bp_keep_sql.proofs.ReadLemmas.{creates, stays, selects, selects_nothing}
 use Rattle.bp_keep_sql.proofs.UpsertLemmas.{upserts}
 use Rattle.bp_keep_sql.proofs.DeleteLemmas.{deletes}
@@ -87,6 +87,14 @@ pub create_left : (old new : State) (r : Result ℕ Error) → Executes create_t
     → OnErr r (IsUnchanged old new ⊎ IsRolledBack old new)
 create_left old new (Ok count) h = tt
 create_left old new (Err e) h = refused_left create_text [] old new e h
+
+pub create_mode : (old new : State) (r : Result ℕ Error) → old.in_transaction ≡ false
+    → Executes create_text [] old new r → new.in_transaction ≡ false
+create_mode old new (Ok count) auto h = creates_mode [] old new count h ∙ auto
+create_mode old new (Err e) auto h = elim (refused_left create_text [] old new e h) [
+  | inl same ↦ same.0.mode ∙ auto
+  | inr back ↦ back.autocommit
+]
 
 -- ---- the table is looked for
 

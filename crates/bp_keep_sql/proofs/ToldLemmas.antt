@@ -157,14 +157,13 @@ same_unnumbered numbered old new off = same_told numbered old numbered new (λ r
 
 -- the table was made in a database without tables
 pub same_opened : (n0 : Bool) (old : State) (n1 : Bool) (new : State) → n0 ≡ false
-    → (HasCleanDisk new → IsTrue new.is_open → old.now.schema ≡ no_schema
-    → kept_rows (new.now.trees 0) ≡ [])
+    → (HasCleanDisk new → IsTrue new.is_open → old.now.schema ≡ no_schema → Keeps new.now [])
     → SameRows (rows_told n0 old) (rows_told n1 new)
 same_opened n0 old n1 new off made = same_told n0 old n1 new (λ rows now t u.
     let before = empty_told n0 old rows off t in
     elim u.rows_are [
       | inl none ↦ none.1 ∙ sym before.1
-      | inr table ↦ table.1 ∙ made u.clean u.is_open before.0 ∙ sym before.1
+      | inr table ↦ table.1 ∙ (made u.clean u.is_open before.0).rows_are ∙ sym before.1
     ])
 
 same_at : (a b : Option (List Row)) (x y : List Row) → SameRows a b → a ≡ Some x → b ≡ Some y → y ≡ x

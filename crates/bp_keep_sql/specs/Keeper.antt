@@ -4,6 +4,7 @@ use Rattle.std.proofs.Common.{true≢false, sym}
 use Rattle.std.specs.Coded.{Coded, code_by, coded×, coded_ℕ, coded_bool}
 use Rattle.sqlite_trees.specs.declared.store.Store.{Ghosts}
 use Rattle.sqlite.specs.Held.{Held, held_code, state}
+use Rattle.sqlite.specs.State.{HasCleanDisk}
 use Rattle.bp_keep.specs.Keeper.{KeeperView}
 use Rattle.bp_core.specs.Sorted.{ascends, row_key}
 use Rattle.bp_keep_sql.specs.Told.{rows_told, told-ascend}
@@ -40,6 +41,12 @@ keeper_shown store keeper = record {
   commits = keeper.commits;
   sure = false;
 }
+
+-- a call leaves no transaction open, and a keeper that was numbered stays so
+pub record GoesOn {S : Type 0} (store : Ghosts S) (old new : KeptOver S) : Type 0 where
+  pub numbered : IsTrue old.numbered → IsTrue new.numbered
+  pub mode : HasCleanDisk (state store new.conn) → old.conn.in_transaction ≡ false
+      → new.conn.in_transaction ≡ false
 
 -- its rows ascend
 pub shown-ascend : {S : Type 0} (store : Ghosts S) (keeper : KeptOver S)

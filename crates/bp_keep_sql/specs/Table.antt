@@ -15,23 +15,33 @@ use Rattle.sqlite_catalog.specs.Change.{created}
 
 -- a column of a strict table that takes no NULL
 abbrev pub required : List ℕ → Kind → Column
-required name kind =
-    record { name = name; kind = kind; is_strict = true; not_null = true; default = Null; collation = Binary }
+required name kind = record {
+  name = name;
+  kind = kind;
+  is_strict = true;
+  not_null = true;
+  default = Null;
+  collation = Binary;
+}
 
 -- the value at this place of a row is from 0 up to the number
 abbrev pub up_to : ℕ → ℕ → Term
 up_to most place =
-    op2 And (op2 (Compare Ge Binary) (col 1 place) (lit (Int (pos 0)))) (op2 (Compare Le Binary) (col 1 place) (lit (Int (pos most))))
+    op2 And (op2 (Compare Ge Binary) (col 1 place) (lit (Int (pos 0))))
+    (op2 (Compare Le Binary) (col 1 place) (lit (Int (pos most))))
 
--- the places of the key: a row has its rowid first
+-- the places of the key: a line has its rowid first
 abbrev pub key_places : List ℕ
 key_places = 1 ∷ 2 ∷ 3 ∷ []
 
+-- the table that the text defines: strict, without nulls, its ranges checked, one row of a key
 abbrev pub kept_table : Table
 kept_table = record {
   name = codes "kept";
   tree = 0;
-  columns = required (codes "kind") Integer ∷ required (codes "k1") Integer ∷ required (codes "k2") Integer ∷ required (codes "body") Blob ∷ [];
+  columns =
+      required (codes "kind") Integer ∷ required (codes "k1") Integer
+      ∷ required (codes "k2") Integer ∷ required (codes "body") Blob ∷ [];
   key = None;
   primary = key_places;
   uniques = key_places ∷ [];

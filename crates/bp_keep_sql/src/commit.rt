@@ -1,11 +1,13 @@
 // Puts in one transaction: all of them, or none.
-ghost use Rattle.std.specs.Prelude.{◌≡◌, ◌≤◌, List, OnOk, OnErr, IsErr, IsTrue};
+ghost use Rattle.std.specs.Prelude.{◌≡◌, ◌≤◌, ◌⊎◌, false, List, OnOk, OnErr, IsErr, IsTrue};
 ghost use Rattle.sqlite.specs.Held.{state};
 ghost use Rattle.sqlite.specs.State.{HasCleanDisk, IsLive, KeepsCommit, Survives};
 ghost use Rattle.sqlite_trees.specs.View.{doubt};
+ghost use Rattle.sqlite_trees.specs.Tree.{Trees};
 ghost use Rattle.bp_core.specs.declared.kept.Row.{Row as Kept};
 ghost use Rattle.bp_keep.specs.Puts.{put_all, put_one};
 ghost use Rattle.bp_keep_sql.specs.Table.{no_schema};
+ghost use Rattle.bp_keep_sql.specs.Lines.{kept_rows};
 ghost use Rattle.bp_keep_sql.specs.Keeps.{Keeps};
 ghost use Rattle.bp_keep_sql.specs.Effects.{Leaves};
 
@@ -27,6 +29,12 @@ pub fn commit_puts<S: Alter>(conn: &mut Connection<S>, puts: &[Put]) -> Result<(
     ensures clean { doubt (state S.Store conn.old).is_clean
         ≤ doubt (state S.Store conn.new).is_clean }
     ensures left { OnErr result (Leaves (state S.Store conn.old) (state S.Store conn.new)) }
+    ensures mode { HasCleanDisk (state S.Store conn.new) → conn.old.in_transaction ≡ false
+        → conn.new.in_transaction ≡ false }
+    ensures stops { HasCleanDisk (state S.Store conn.new) → (rows : List Kept)
+        → Keeps (state S.Store conn.old).now rows
+        → (db : Trees) → (state S.Store conn.new).may_leave db
+        → (state S.Store conn.old).may_leave db ⊎ (kept_rows (db 0) ≡ put_all puts.now rows) }
     ensures live { IsLive (state S.Store conn.old) }
 {
     find_table(conn)?;
@@ -47,6 +55,11 @@ fn put_inside<S: Alter>(conn: &mut Connection<S>, puts: &[Put]) -> Result<(), Er
         → OnOk result (IsTrue (state S.Store conn.old).is_open) }
     ensures left { HasCleanDisk (state S.Store conn.new) → IsTrue (state S.Store conn.new).is_open
         → OnErr result ((state S.Store conn.new).now ≡ (state S.Store conn.old).now) }
+    ensures mode { conn.old.in_transaction ≡ false → conn.new.in_transaction ≡ false }
+    ensures stops { HasCleanDisk (state S.Store conn.new) → (rows : List Kept)
+        → Keeps (state S.Store conn.old).now rows
+        → (db : Trees) → (state S.Store conn.new).may_leave db
+        → (state S.Store conn.old).may_leave db ⊎ (kept_rows (db 0) ≡ put_all puts.now rows) }
 {
     if !conn.is_autocommit() {
         return Err(Error::SqliteFailure(ErrorCode::TransactionState));

@@ -68,13 +68,19 @@ impl<S: Alter> SqlKeeper<S> {
 }
 
 impl<S: Alter> Keeper for SqlKeeper<S> {
-    ghost use Rattle.std.specs.Prelude.{◌≡◌, false, IsErr};
+    ghost use Rattle.std.specs.Prelude.{◌≡◌, ◌⊎◌, List, [], IfOk, IsErr, IsTrue, OnOk, OnErr};
     ghost use Rattle.sqlite.specs.Held.{state};
     ghost use Rattle.sqlite.specs.State.{HasCleanDisk};
+    ghost use Rattle.sqlite_trees.specs.Tree.{Trees};
+    ghost use Rattle.bp_core.specs.declared.kept.Row.{Row as Kept};
+    ghost use Rattle.bp_core.specs.Sorted.{ascends, row_key};
+    ghost use Rattle.bp_keep.specs.Puts.{put_all};
     ghost use Rattle.bp_keep.specs.Keeper.{Loads, Commits};
     ghost use Rattle.bp_keep_sql.specs.Table.{no_schema};
-    ghost use Rattle.bp_keep_sql.specs.Effects.{KeepsTable};
-    ghost use Rattle.bp_keep_sql.specs.Keeper.{keeper_shown, shown-ascend, shown-unfailing};
+    ghost use Rattle.bp_keep_sql.specs.Lines.{kept_rows};
+    ghost use Rattle.bp_keep_sql.specs.Keeps.{Keeps};
+    ghost use Rattle.bp_keep_sql.specs.Effects.{Leaves, KeepsTable};
+    ghost use Rattle.bp_keep_sql.specs.Keeper.{keeper_shown, GoesOn, shown-ascend, shown-unfailing};
 
     ghost shows = { keeper_shown S.Store };
 
@@ -82,10 +88,20 @@ impl<S: Alter> Keeper for SqlKeeper<S> {
 
     ghost unfailing = { shown-unfailing S.Store.own };
 
-    /// Makes the table where there is none. A table that is there keeps its rows.
+    /// Makes the table where there is none; a table that is there keeps its rows. After it rows are
+    /// told, where the disk is clean and the connection open. `Failed` also where the table is of
+    /// another definition and has a row that is no such key with a body.
     fn load(&mut self, alloc: Global) -> Result<RowList, KeepRefusal>
-        ensures loads { Loads (keeper_shown S.Store self.old) result (keeper_shown S.Store self.new) }
+        ensures loads { Loads (keeper_shown S.Store self.old) result
+            (keeper_shown S.Store self.new) }
+        ensures ascends { IfOk result (λ rows. IsTrue (ascends row_key 0 rows)) }
+        ensures makes { HasCleanDisk (state S.Store self.new.conn)
+            → IsTrue (state S.Store self.new.conn).is_open
+            → self.old.numbered ≡ false → self.old.conn.schema ≡ no_schema
+            → OnOk result (Keeps (state S.Store self.new.conn).now []) }
         ensures keeps { KeepsTable (state S.Store self.old.conn) (state S.Store self.new.conn) }
+        ensures opened { OnOk result (IsTrue self.new.numbered) }
+        ensures goes_on { GoesOn S.Store self.old self.new }
     {
         self.loads = self.loads.saturating_add(1);
         match load_rows(alloc, &mut self.conn, &mut self.numbered) {
@@ -94,13 +110,27 @@ impl<S: Alter> Keeper for SqlKeeper<S> {
         }
     }
 
-    /// One transaction, which is rolled back where a statement or the commit itself is refused. Without
-    /// the table it is refused.
+    /// One transaction, which is rolled back where a statement or the commit itself is refused. Where
+    /// there is no table it is refused. Where the process stops, another open finds the rows from
+    /// before or those with all puts.
     fn commit(&mut self, _alloc: Global, puts: &PutList) -> Result<(), KeepRefusal>
         ensures commits { Commits (keeper_shown S.Store self.old) puts.now result
             (keeper_shown S.Store self.new) }
+        ensures makes { HasCleanDisk (state S.Store self.new.conn) → (rows : List Kept)
+            → Keeps (state S.Store self.old.conn).now rows
+            → OnOk result (Keeps (state S.Store self.new.conn).now (put_all puts.now rows)) }
+        ensures schema { HasCleanDisk (state S.Store self.new.conn)
+            → OnOk result (self.new.conn.schema ≡ self.old.conn.schema) }
+        ensures left { OnErr result
+            (Leaves (state S.Store self.old.conn) (state S.Store self.new.conn)) }
         ensures lacking { HasCleanDisk (state S.Store self.new.conn)
             → self.old.conn.schema ≡ no_schema → IsErr result }
+        ensures stops { HasCleanDisk (state S.Store self.new.conn) → (rows : List Kept)
+            → Keeps (state S.Store self.old.conn).now rows
+            → (db : Trees) → (state S.Store self.new.conn).may_leave db
+            → (state S.Store self.old.conn).may_leave db
+            ⊎ (kept_rows (db 0) ≡ put_all puts.now rows) }
+        ensures goes_on { GoesOn S.Store self.old self.new }
     {
         self.commits = self.commits.saturating_add(1);
         match commit_puts(&mut self.conn, puts.as_slice()) {

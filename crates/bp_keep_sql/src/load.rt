@@ -1,12 +1,14 @@
 // All rows, read at once.
-ghost use Rattle.std.specs.Prelude.{◌≡◌, List, [], OnOk, OnErr, IfOk, IfSome, IsErr, IsTrue};
+ghost use Rattle.std.specs.Prelude.{◌≡◌, [], false, OnOk, IfOk, IfSome, IsErr, IsTrue};
 ghost use Rattle.sqlite.specs.Held.{state};
 ghost use Rattle.sqlite.specs.State.{HasCleanDisk};
 ghost use Rattle.bp_core.specs.declared.kept.Row.{Row as Kept};
+ghost use Rattle.bp_core.specs.Sorted.{ascends, row_key};
 ghost use Rattle.bp_keep.specs.Keeper.{SameRows};
 ghost use Rattle.bp_keep_sql.specs.Table.{kept_schema, no_schema};
 ghost use Rattle.bp_keep_sql.specs.Lines.{kept_rows};
 ghost use Rattle.bp_keep_sql.specs.Rowids.{AreNumbered};
+ghost use Rattle.bp_keep_sql.specs.Keeps.{Keeps};
 ghost use Rattle.bp_keep_sql.specs.Effects.{Leaves, KeepsTable};
 ghost use Rattle.bp_keep_sql.specs.Told.{IsNumbered, rows_told};
 
@@ -29,7 +31,13 @@ pub fn load_rows<S: Alter>(
         (λ rows. IfOk result (λ loaded. loaded.items ≡ rows)) }
     ensures same { SameRows (rows_told numbered.old (state S.Store conn.old))
         (rows_told numbered.new (state S.Store conn.new)) }
+    ensures ascends { IfOk result (λ loaded. IsTrue (ascends row_key 0 loaded.items)) }
+    ensures makes { HasCleanDisk (state S.Store conn.new) → IsTrue (state S.Store conn.new).is_open
+        → numbered.old ≡ false → (state S.Store conn.old).now.schema ≡ no_schema
+        → OnOk result (Keeps (state S.Store conn.new).now []) }
     ensures keeps { KeepsTable (state S.Store conn.old) (state S.Store conn.new) }
+    ensures opened { OnOk result (IsTrue numbered.new) }
+    ensures stays { IsTrue numbered.old → IsTrue numbered.new }
 {
     open_once(conn, numbered)?;
     read_table(alloc, conn)
@@ -42,7 +50,11 @@ fn open_once<S: Alter>(conn: &mut Connection<S>, numbered: &mut bool) -> Result<
     ensures opened { OnOk result (IsTrue numbered.new) }
     ensures same { SameRows (rows_told numbered.old (state S.Store conn.old))
         (rows_told numbered.new (state S.Store conn.new)) }
+    ensures makes { HasCleanDisk (state S.Store conn.new) → IsTrue (state S.Store conn.new).is_open
+        → numbered.old ≡ false → (state S.Store conn.old).now.schema ≡ no_schema
+        → OnOk result (Keeps (state S.Store conn.new).now []) }
     ensures keeps { KeepsTable (state S.Store conn.old) (state S.Store conn.new) }
+    ensures stays { IsTrue numbered.old → IsTrue numbered.new }
 {
     if *numbered {
         return Ok(());
@@ -60,7 +72,7 @@ fn open_table<S: Alter>(conn: &mut Connection<S>) -> Result<(), Error>
     ensures made { HasCleanDisk (state S.Store conn.new)
         → IsTrue (state S.Store conn.new).is_open
         → (state S.Store conn.old).now.schema ≡ no_schema
-        → OnOk result (kept_rows ((state S.Store conn.new).now.trees 0) ≡ []) }
+        → OnOk result (Keeps (state S.Store conn.new).now []) }
     ensures keeps { KeepsTable (state S.Store conn.old) (state S.Store conn.new) }
 {
     create_table(conn)?;
@@ -74,6 +86,7 @@ fn read_table<S: Alter>(alloc: Global, conn: &mut Connection<S>) -> Result<Vec<R
         → IfOk result (λ loaded. loaded.items ≡ kept_rows ((state S.Store conn.old).now.trees 0)) }
     ensures lacking { HasCleanDisk (state S.Store conn.new)
         → (state S.Store conn.old).now.schema ≡ no_schema → IsErr result }
+    ensures ascends { IfOk result (λ loaded. IsTrue (ascends row_key 0 loaded.items)) }
     ensures leaves { Leaves (state S.Store conn.old) (state S.Store conn.new) }
 {
     let lines = select_rows(conn)?;

@@ -2,6 +2,7 @@
 ghost use Rattle.std.specs.Prelude.{◌≡◌, ◌≤◌, List, [], OnOk, OnErr, IfOk, IsErr, IsTrue, true, map};
 ghost use Rattle.sqlite.specs.Held.{state};
 ghost use Rattle.sqlite.specs.State.{HasCleanDisk, IsLive, KeepsCommit, Survives};
+ghost use Rattle.sqlite_trees.specs.Tree.{Trees};
 ghost use Rattle.bp_core.specs.Sorted.{put, without, ascends, row_key};
 ghost use Rattle.bp_core.specs.declared.kept.Row.{Row as Kept};
 ghost use Rattle.bp_keep_sql.specs.Table.{kept_schema, no_schema};
@@ -34,6 +35,10 @@ pub fn find_table<S: Alter>(conn: &mut Connection<S>) -> Result<(), Error>
     ensures lacking { HasCleanDisk (state S.Store conn.new)
         → (state S.Store conn.old).now.schema ≡ no_schema → IsErr result }
     ensures leaves { Leaves (state S.Store conn.old) (state S.Store conn.new) }
+    ensures opened { HasCleanDisk (state S.Store conn.new)
+        → OnOk result (IsTrue (state S.Store conn.new).is_open) }
+    ensures stops { HasCleanDisk (state S.Store conn.new) → (db : Trees)
+        → (state S.Store conn.new).may_leave db → (state S.Store conn.old).may_leave db }
     ensures live { IsLive (state S.Store conn.old) }
 {
     let _schema = conn.schema();

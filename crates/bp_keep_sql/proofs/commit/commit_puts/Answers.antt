@@ -1,4 +1,4 @@
-use Rattle.std.proofs.Common.{◌≡◌, OnOk, sym, subst, arith}
+use Rattle.std.proofs.Common.{inl, inr, ◌≡◌, OnOk, sym, subst, arith}
 use Rattle.sqlite.specs.Held.{state}
 use Rattle.sqlite.specs.Effect.{Database}
 use Rattle.sqlite.specs.State.{HasCleanDisk}
@@ -25,3 +25,15 @@ returns-clause-schema g c clean =
     (c.put_inside.ensures.opened clean)
     (λ same. subst (λ (d : Database). OnOk c.put_inside.result (new.now.schema ≡ d.schema)) same
     (c.put_inside.ensures.schema clean))
+
+pub returns-clause-stops : goal.returns-clause-stops
+returns-clause-stops g c clean rows keeps db left =
+    let mid = state g.S.Store c.find_table.new.conn in
+    let early : HasCleanDisk mid = omega (arith, c.put_inside.ensures.clean, clean) in
+    let found = c.in_ok-find_table.ensures in
+    let same = found.leaves.same early (found.opened early) in
+    let before = subst (λ d. Keeps d rows) (sym same) keeps in
+    elim (c.put_inside.ensures.stops clean rows before db left) [
+      | inl old ↦ inl (found.stops early db old)
+      | inr made ↦ inr made
+    ]

@@ -1,6 +1,6 @@
 // Worked pages: the band of a page, a slip sheet, and boxes that pass the edges.
 use super::*;
-use bp_core::{Basis, ListOf, Rect, RectList, Text};
+use bp_core::{Basis, Ink, ListOf, Rect, RectList, Text};
 use bp_rows::{Page, Res, Unit, import_sides};
 use std::alloc::{AllocError, Global};
 use std::test::Fail;
@@ -27,7 +27,7 @@ fn white_produced(
     let designated = has_glyphs(&designation);
     if imported && drawable && designated {
         let none = ListOf::new(alloc);
-        Ok(produced(alloc, &page, &none, &label, &designation)?)
+        Ok(produced(alloc, Ink::Lettered, &page, &none, &label, &designation)?)
     } else {
         Err(Fail::from("not a page or not a text that can be drawn"))
     }

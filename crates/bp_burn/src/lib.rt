@@ -23,4 +23,3 @@ pub use glyph_rows::{glyph, has_glyphs};
 pub use slips::slip_page;
 pub use stamps::covered_runs;
 pub use strips::produced_strip;
-

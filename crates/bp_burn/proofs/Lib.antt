@@ -1,9 +1,15 @@
 mod AsciiLemmas
 pub mod BandLemmas
 mod BoxPartLemmas
+mod ChangeLemmas
 mod CopyLemmas
+mod CoverLemmas
 mod Examples
 mod FigureLemmas
 pub mod InkLemmas
+mod LetterLemmas
+mod MakingLemmas
+mod RowLemmas
 mod SlipLemmas
+mod StripLemmas
 mod TextLemmas

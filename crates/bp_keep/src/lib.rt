@@ -10,8 +10,6 @@
 mod keeper;
 mod memory;
 mod refusals;
-#[cfg(test)]
-mod tests;
 
 pub use keeper::Keeper;
 pub use memory::MemKeeper;

@@ -29,18 +29,22 @@ use Rattle.bp_keep_sql.proofs.QueryLemmas.{Finds, finds, found_each, found_all, 
 use Rattle.bp_keep_sql.proofs.WriteLemmas.{removed}
 
 -- a part that gave a value did not stop on the way
-pub went : {B E R : Type 0} {b : B} {Stops : E → Type 0} → ((stop : E) × Stops stop × (Ok b ≡ Err stop)) ⊎ R → R
+pub went : {B E R : Type 0} {b : B} {Stops : E → Type 0}
+    → ((stop : E) × Stops stop × (Ok b ≡ Err stop)) ⊎ R → R
 went (inl stopped) = absurd (let e = stopped.2 in cc)
 went (inr on) = on
 
 pub same_value : {B E : Type 0} {a b : B} → ◌≡◌ {A = Result B E} (Ok a) (Ok b) → a ≡ b
 same_value e = cc
 
-param_numbers : (x : Line) (a : IsLine x) (kind k1 k2 : ℕ) → (equal Binary (column x 1) (Int (pos kind)) && (equal Binary (column x 2) (Int (pos k1)) && (equal Binary (column x 3) (Int (pos k2)) && true)))
+param_numbers : (x : Line) (a : IsLine x) (kind k1 k2 : ℕ)
+    → (equal Binary (column x 1) (Int (pos kind)) && (equal Binary (column x 2) (Int (pos k1)) && (equal Binary (column x 3) (Int (pos k2)) && true)))
     ≡ (eqb a.kind kind && (eqb a.k1 k1 && (eqb a.k2 k2 && true)))
 param_numbers x a kind k1 k2 = rw (a.kind_is, a.k1_is, a.k2_is, equal_numbers a.kind kind, equal_numbers a.k1 k1, equal_numbers a.k2 k2) refl
 
-pub deletes : (old new : State) (kind k1 k2 count : ℕ) → k1 ≤ 4294967295 → k2 ≤ 4294967295 → old.now.schema ≡ kept_schema → IsSound kept_schema old.now.trees → AreNumbered (old.now.trees 0)
+pub deletes : (old new : State) (kind k1 k2 count : ℕ) → k1 ≤ 4294967295 → k2 ≤ 4294967295
+    → old.now.schema ≡ kept_schema → IsSound kept_schema old.now.trees
+    → AreNumbered (old.now.trees 0)
     → Executes delete_text (Int (pos kind) ∷ Int (pos k1) ∷ Int (pos k2) ∷ []) old new (Ok count)
     → (new.now.schema ≡ kept_schema) × IsSound kept_schema new.now.trees × AreNumbered (new.now.trees 0)
     × (kept_rows (new.now.trees 0) ≡ without row_key (row_key (record { kind = kind; k1 = k1; k2 = k2; body = [] })) (kept_rows (old.now.trees 0)))

@@ -1,13 +1,12 @@
 -- Worked examples of the definitions in specs/, each run by the check.
-use Rattle.std.proofs.Common.{◌≡◌, ◌⊎◌, ℕ, ℤ, pos, negsuc, true, false, List, [], ◌∷◌, length, codes, Some, None, refl, ap, inl, inr, arith}
+use Rattle.std.proofs.Common.{◌≡◌, ℕ, ℤ, pos, negsuc, true, false, List, [], ◌∷◌, length, codes, Some, None, refl, ap, inl, inr, arith}
 use Rattle.std.proofs.lemmas.Bool.{cases_Bool}
-use Rattle.sqlite_value.specs.declared.value.Value.TheVariants.{Null, Int, Text, Blob}
+use Rattle.sqlite_value.specs.declared.value.Value.TheVariants.{Int, Blob}
 use Rattle.sqlite_value.specs.Order.{Row as Line, value_cmp}
 use Rattle.sqlite_trees.specs.Tree.{Trees, no_trees, with_tree}
 use Rattle.sqlite_sql.specs.Ops.{binary}
 use Rattle.sqlite_schema.specs.declared.schema.Schema.{Schema}
 use Rattle.sqlite_schema.specs.Rules.{passes_checks}
-use Rattle.sqlite.specs.Effect.{Database}
 use Rattle.bp_core.specs.declared.kept.Row.{Row}
 use Rattle.bp_keep_sql.specs.Table.{kept_table, kept_schema, no_schema}
 use Rattle.bp_keep_sql.specs.Lines.{kept_row, shown_row, kept_rows}

@@ -37,7 +37,8 @@ use Rattle.sqlite.specs.State.{State, Executes, ExecutesIn, Runs, Shown, ShowsRo
 use Rattle.bp_keep_sql.proofs.TextLemmas.{create_text, upsert_text, delete_text, select_text, rowids_text}
 use Rattle.bp_keep_sql.proofs.DeleteLemmas.{went, same_value}
 
-then_ok : {A B : Type 0} (r : Checked A) (f : A → Checked B) (b : B) → and_then r f ≡ Ok b → (a : A) × (r ≡ Ok a) × (f a ≡ Ok b)
+then_ok : {A B : Type 0} (r : Checked A) (f : A → Checked B) (b : B) → and_then r f ≡ Ok b
+    → (a : A) × (r ≡ Ok a) × (f a ≡ Ok b)
 then_ok (Ok a) f b h = (a, refl, h)
 then_ok (Err e) f b h = absurd (let g = h in cc)
 
@@ -121,7 +122,8 @@ pub delete_writes : head_writes (first delete_text) ≡ true
 unfolding understood everything
 delete_writes = refl
 
-insert_keeps : (schema : Schema) (base : ℕ) (name : Name) (columns : List Name) (rows : Rows) (c : Command) → insert schema base name columns rows ≡ Ok c → keeps_tables c ≡ true
+insert_keeps : (schema : Schema) (base : ℕ) (name : Name) (columns : List Name) (rows : Rows) (c : Command)
+    → insert schema base name columns rows ≡ Ok c → keeps_tables c ≡ true
 unfolding insert
 insert_keeps schema base name columns rows c h =
     let a = then_ok (target schema name) _ c h in
@@ -139,7 +141,8 @@ insert_or_keeps schema base way name columns rows clauses c h =
     let e = then_ok (upserts schema a.0 b.0 base clauses) _ c d.2 in
     ap keeps_tables (sym (same_value e.2))
 
-delete_keeps : (schema : Schema) (name : Name) (test : Option Expr) (c : Command) → delete schema name test ≡ Ok c → keeps_tables c ≡ true
+delete_keeps : (schema : Schema) (name : Name) (test : Option Expr) (c : Command)
+    → delete schema name test ≡ Ok c → keeps_tables c ≡ true
 unfolding delete
 delete_keeps schema name test c h =
     let a = then_ok (target schema name) _ c h in
@@ -148,7 +151,8 @@ delete_keeps schema name test c h =
     let e = then_ok (program schema [] d.0) _ c d.2 in
     ap keeps_tables (sym (same_value e.2))
 
-command_keeps : (schema : Schema) (formats : List Name) (base : ℕ) (s : Statement) (c : Command) → writes_rows s ≡ true → command schema formats base s ≡ Ok c → keeps_tables c ≡ true
+command_keeps : (schema : Schema) (formats : List Name) (base : ℕ) (s : Statement) (c : Command)
+    → writes_rows s ≡ true → command schema formats base s ≡ Ok c → keeps_tables c ≡ true
 unfolding command insert_or_abort
 command_keeps schema formats base (written.Insert conflict.Abort name columns rows clauses shown) c is h = elim (cases_Bool (length clauses == 0)) [
   | inl none ↦ insert_keeps schema base name columns rows c (rw none at h)
@@ -165,15 +169,19 @@ understood_keeps schema text c head h =
     let is : writes_rows o.parsed.statement ≡ true = subst (λ r. head_writes r ≡ true) o.is head in
     command_keeps o.schema o.parsed.formats o.base o.parsed.statement c.command is o.meant
 
-on_rows_schema : (task : Task) (mode : Mode) (what : Option Returning) (c : Command) (db : Trees) (tally : Tally) (after : Database) → OnRows task mode what c db (Ok (tally, after)) → after.schema ≡ task.schema
+on_rows_schema : (task : Task) (mode : Mode) (what : Option Returning) (c : Command) (db : Trees) (tally : Tally) (after : Database)
+    → OnRows task mode what c db (Ok (tally, after)) → after.schema ≡ task.schema
 on_rows_schema task mode what c db tally after h = ap (λ (p : Tally × Database). p.1.schema) (same_value (went (went (went h).2).2).2)
 
 written_schema : (limit : Option ℕ) (mode : Mode) (params : Line) (db : Database) (what : Option Returning) (c : Command) (o : Option Table) (tally : Tally) (after : Database)
-    → AtPlace (λ table. OnRows (record { limit = limit; keys = mode.keys; schema = db.schema; table = table; params = params }) mode what c db.trees) o (Ok (tally, after)) → after.schema ≡ db.schema
+    → AtPlace (λ table. OnRows (record { limit = limit; keys = mode.keys; schema = db.schema; table = table; params = params }) mode what c db.trees) o (Ok (tally, after))
+    → after.schema ≡ db.schema
 written_schema limit mode params db what c None tally after h = absurd (let e = h in cc)
 written_schema limit mode params db what c (Some t) tally after h = on_rows_schema (record { limit = limit; keys = mode.keys; schema = db.schema; table = t; params = params }) mode what c db.trees tally after h
 
-runs_keep : (old new : State) (what : Option Returning) (c : Command) (text : List ℕ) (params : Line) (count : ℕ) → keeps_tables c ≡ true → Runs old new what c text params count → new.now.schema ≡ old.now.schema
+runs_keep : (old new : State) (what : Option Returning) (c : Command) (text : List ℕ) (params : Line) (count : ℕ)
+    → keeps_tables c ≡ true → Runs old new what c text params count
+    → new.now.schema ≡ old.now.schema
 runs_keep old new what (Select q names) text params count is h = absurd h
 runs_keep old new what (Insert at from) text params count is w = written_schema old.step_limit (mode_of old) params old.now what (Insert at from) (slice_get old.now.schema.tables at) w.tally new.now w.changed
 runs_keep old new what (InsertOr at way from clauses) text params count is w =
@@ -182,7 +190,9 @@ runs_keep old new what (Update at q) text params count is w = written_schema old
 runs_keep old new what (Delete at q) text params count is w = written_schema old.step_limit (mode_of old) params old.now what (Delete at q) (slice_get old.now.schema.tables at) w.tally new.now w.changed
 runs_keep old new what _ text params count is h = absurd (let e : false ≡ true = is in cc)
 
-pub keeps_schema : (text : List ℕ) (params : Line) (old new : State) (count : ℕ) → head_writes (first text) ≡ true → Executes text params old new (Ok count) → new.now.schema ≡ old.now.schema
+pub keeps_schema : (text : List ℕ) (params : Line) (old new : State) (count : ℕ)
+    → head_writes (first text) ≡ true → Executes text params old new (Ok count)
+    → new.now.schema ≡ old.now.schema
 unfolding ExecutesIn
 keeps_schema text params old new count head h =
     let kind = understood_keeps old.now.schema text h.0 head h.1.is in

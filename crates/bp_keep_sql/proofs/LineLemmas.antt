@@ -47,14 +47,16 @@ value_int (Real x) some h = absurd (let e : false ≡ true = h in cc)
 value_int (Text t) some h = absurd (let e : false ≡ true = h in cc)
 value_int (Blob b) some h = absurd (let e : false ≡ true = h in cc)
 
-value_blob : (v : Value) → not (is_null v) ≡ true → is_of Bytes v ≡ true → (b : List ℕ) × (v ≡ Blob b)
+value_blob : (v : Value) → not (is_null v) ≡ true → is_of Bytes v ≡ true
+    → (b : List ℕ) × (v ≡ Blob b)
 value_blob Null some h = absurd (let e : false ≡ true = some in cc)
 value_blob (Int n) some h = absurd (let e : false ≡ true = h in cc)
 value_blob (Real x) some h = absurd (let e : false ≡ true = h in cc)
 value_blob (Text t) some h = absurd (let e : false ≡ true = h in cc)
 value_blob (Blob b) some h = (b, refl)
 
-both_tests : (a b : Bool) → not (is_false (from_truth (and3 (truth (from_truth (Some a))) (truth (from_truth (Some b)))))) ≡ (a && b)
+both_tests : (a b : Bool)
+    → not (is_false (from_truth (and3 (truth (from_truth (Some a))) (truth (from_truth (Some b)))))) ≡ (a && b)
 both_tests true true = refl
 both_tests true false = refl
 both_tests false true = refl
@@ -70,7 +72,8 @@ at_most k most h = elim (cases_lt most k) [
   | inr below ↦ below
 ]
 
-range : (n : ℤ) (most : ℕ) → not (is_false (binary And (binary (Compare Ge Binary) (Int n) (Int (pos 0))) (binary (Compare Le Binary) (Int n) (Int (pos most))))) ≡ true
+range : (n : ℤ) (most : ℕ)
+    → not (is_false (binary And (binary (Compare Ge Binary) (Int n) (Int (pos 0))) (binary (Compare Le Binary) (Int n) (Int (pos most))))) ≡ true
     → (k : ℕ) × (n ≡ pos k) × (k ≤ most)
 unfolding binary
 range (pos k) most h =
@@ -87,7 +90,8 @@ equal_numbers a b =
     one_test (is_eq (value_cmp (Int (pos a)) (Int (pos b)))) ∙ ap is_eq (value_cmp-Int (pos a) (pos b)) ∙ (let e : is_eq (int_cmp (pos a) (pos b)) ≡ eqb a b = grind (arith, ints, nat_tests) in e)
 
 -- two rowids differ in SQL where they do
-pub same_ints : (m n : ℤ) → differ (Int m) (Int n) ≡ false → is_eq (value_cmp (Int m) (Int n)) ≡ true
+pub same_ints : (m n : ℤ) → differ (Int m) (Int n) ≡ false
+    → is_eq (value_cmp (Int m) (Int n)) ≡ true
 unfolding binary
 same_ints m n h = tell (value_cmp (Int m) (Int n)) (sym (one_test (is_ne (value_cmp (Int m) (Int n)))) ∙ h)
   where
@@ -106,8 +110,10 @@ module _ (x y : Line) (a : IsLine x) (b : IsLine y) where
   pub agree_numbers : agree plain key_places x key_places y ≡ (eqb a.kind b.kind && (eqb a.k1 b.k1 && (eqb a.k2 b.k2 && true)))
   agree_numbers = agree_key x y ∙ rw (a.kind_is, a.k1_is, a.k2_is, b.kind_is, b.k1_is, b.k2_is, equal_numbers a.kind b.kind, equal_numbers a.k1 b.k1, equal_numbers a.k2 b.k2) refl
 
-pub key_parts : (k1 k2 l1 l2 m1 m2 : ℕ) → l1 ≤ 4294967295 → l2 ≤ 4294967295 → m1 ≤ 4294967295 → m2 ≤ 4294967295
-    → k1 * 18446744073709551616 + (l1 * 4294967296 + m1) ≡ k2 * 18446744073709551616 + (l2 * 4294967296 + m2) → (k1 ≡ k2) × (l1 ≡ l2) × (m1 ≡ m2)
+pub key_parts : (k1 k2 l1 l2 m1 m2 : ℕ) → l1 ≤ 4294967295 → l2 ≤ 4294967295 → m1 ≤ 4294967295
+    → m2 ≤ 4294967295
+    → k1 * 18446744073709551616 + (l1 * 4294967296 + m1) ≡ k2 * 18446744073709551616 + (l2 * 4294967296 + m2)
+    → (k1 ≡ k2) × (l1 ≡ l2) × (m1 ≡ m2)
 key_parts k1 k2 l1 l2 m1 m2 a b c d e = (omega arith, omega arith, omega arith)
 
 off1 : (a : Bool) → (a && false) ≡ true → ⊥
@@ -138,7 +144,8 @@ three true true false h = absurd (let e : false ≡ true = h in cc)
 three true false c h = absurd (let e : false ≡ true = h in cc)
 three false b c h = absurd (let e : false ≡ true = h in cc)
 
-four : (a b c d : Bool) → (a && (b && (c && (d && true)))) ≡ true → (a ≡ true) × (b ≡ true) × (c ≡ true) × (d ≡ true)
+four : (a b c d : Bool) → (a && (b && (c && (d && true)))) ≡ true
+    → (a ≡ true) × (b ≡ true) × (c ≡ true) × (d ≡ true)
 four true b c d h = let r = three b c d h in (refl, r.0, r.1, r.2)
 four false b c d h = absurd (let e : false ≡ true = h in cc)
 
@@ -146,11 +153,14 @@ four false b c d h = absurd (let e : false ≡ true = h in cc)
 abbrev in_range : ℕ → Value → Bool
 in_range most v = not (is_false (binary And (binary (Compare Ge Binary) v (Int (pos 0))) (binary (Compare Le Binary) v (Int (pos most)))))
 
-ranged : (v : Value) (n : ℤ) (most : ℕ) → v ≡ Int n → in_range most v ≡ true → (k : ℕ) × (v ≡ Int (pos k)) × (k ≤ most)
+ranged : (v : Value) (n : ℤ) (most : ℕ) → v ≡ Int n → in_range most v ≡ true
+    → (k : ℕ) × (v ≡ Int (pos k)) × (k ≤ most)
 ranged v n most is h = let r = range n most (ap (in_range most) (sym is) ∙ h) in (r.0, is ∙ ap Int r.1, r.2)
 
 -- what the rules of the table say of one line
-pub shape : (line : Line) → (are_typed None 0 kept_table.columns (drop 1 line) && has_computed kept_table line) ≡ true → are_present None 0 kept_table.columns line ≡ true
+pub shape : (line : Line)
+    → (are_typed None 0 kept_table.columns (drop 1 line) && has_computed kept_table line) ≡ true
+    → are_present None 0 kept_table.columns line ≡ true
     → passes_checks kept_table line ≡ true → IsLine line
 shape [] typed present checked = absurd (let e : false ≡ true = present in cc)
 shape (r ∷ []) typed present checked = absurd (let e : false ≡ true = present in cc)
@@ -193,7 +203,8 @@ module _ (db : Trees) (sound : IsSound kept_schema db) where
   no_clash line h = not-true _ (and_parts _ _ (all_has _ (db 0) line (sound.obeys.rules Unique).0 h)).0
 
   -- lines of one key are one line
-  pub one_line : HasOneOfRowid (db 0) → ((x : Line) → Has (db 0) x → (n : ℤ) × (rowid x ≡ Int n)) → (x y : Line) → Has (db 0) x → Has (db 0) y
+  pub one_line : HasOneOfRowid (db 0) → ((x : Line) → Has (db 0) x → (n : ℤ) × (rowid x ≡ Int n))
+      → (x y : Line) → Has (db 0) x → Has (db 0) y
       → agree plain key_places x key_places y ≡ true → x ≡ y
   one_line one ints x y p q same = elim (cases_Bool (differ (rowid x) (rowid y))) [
     | inl other ↦ absurd (let e : false ≡ true = sym (no_clash y q) ∙ some_from (λ o. agree plain key_places o key_places y && differ (rowid o) (rowid y)) (db 0) x p (and_from _ _ same other) in cc)
@@ -203,7 +214,8 @@ module _ (db : Trees) (sound : IsSound kept_schema db) where
         one x y p q (rw (m.1, n.1) (same_ints m.0 n.0 (rw (m.1, n.1) at alike)))
   ]
 
-  pub one_of_key : HasOneOfRowid (db 0) → ((x : Line) → Has (db 0) x → (n : ℤ) × (rowid x ≡ Int n)) → HasOneOfKey (db 0)
+  pub one_of_key : HasOneOfRowid (db 0) → ((x : Line) → Has (db 0) x → (n : ℤ) × (rowid x ≡ Int n))
+      → HasOneOfKey (db 0)
   one_of_key one ints x y p q key =
       let a = line_is x p in
       let b = line_is y q in

@@ -9,10 +9,12 @@ use Rattle.bp_core.proofs.SortedLemmas.{find-above, ascends-put, ascends-without
 use Rattle.bp_keep_sql.specs.Lines.{kept_row, kept_rows}
 use Rattle.bp_keep_sql.specs.Told.{kept-ascend}
 
-find-first : {T : Type 0} (key : T → ℕ) (x : T) (rows : List T) → find_key key (key x) (x ∷ rows) ≡ Some x
+find-first : {T : Type 0} (key : T → ℕ) (x : T) (rows : List T)
+    → find_key key (key x) (x ∷ rows) ≡ Some x
 find-first key x rows = rw (eq-eqb (key x) (key x) refl) refl
 
-find-other : {T : Type 0} (key : T → ℕ) (k : ℕ) (x : T) (rows : List T) → (key x ≡ k → ⊥) → find_key key k (x ∷ rows) ≡ find_key key k rows
+find-other : {T : Type 0} (key : T → ℕ) (k : ℕ) (x : T) (rows : List T) → (key x ≡ k → ⊥)
+    → find_key key k (x ∷ rows) ≡ find_key key k rows
 find-other key k x rows other = rw (ne_eqb (key x) k other) refl
 
 none_some : {T : Type 0} {x : T} {C : Type 0} → ◌≡◌ {A = Option T} None (Some x) → C
@@ -21,13 +23,15 @@ none_some e = absurd (cc)
 some_inj : {T : Type 0} {x y : T} → ◌≡◌ {A = Option T} (Some x) (Some y) → x ≡ y
 some_inj e = cc
 
-first_below : {T : Type 0} (key : T → ℕ) (c d : T) (u v : List T) → key c < key d → ascends key (key d + 1) v ≡ true
+first_below : {T : Type 0} (key : T → ℕ) (c d : T) (u v : List T) → key c < key d
+    → ascends key (key d + 1) v ≡ true
     → find_key key (key c) (c ∷ u) ≡ find_key key (key c) (d ∷ v) → ⊥
 first_below key c d u v lt above e =
     none_some (sym (find-other key (key c) d v (λ is. omega arith) ∙ find-above key (key c) (key d + 1) v (omega arith) above) ∙ sym e ∙ find-first key c u)
 
 -- a list in ascending order of key is determined by what it has at each key
-pub same_finds : {T : Type 0} (key : T → ℕ) (low : ℕ) (a b : List T) → ascends key low a ≡ true → ascends key low b ≡ true
+pub same_finds : {T : Type 0} (key : T → ℕ) (low : ℕ) (a b : List T) → ascends key low a ≡ true
+    → ascends key low b ≡ true
     → ((k : ℕ) → find_key key k a ≡ find_key key k b) → a ≡ b
 same_finds key low [] [] p q same = refl
 same_finds key low [] (y ∷ b) p q same = none_some (same (key y) ∙ find-first key y b)
@@ -55,7 +59,8 @@ same_finds key low (x ∷ a) (y ∷ b) p q same =
       ]
     ]
 
-pub find-without : {T : Type 0} (key : T → ℕ) (k gone : ℕ) (rows : List T) → find_key key k (without key gone rows) ≡ cond (eqb gone k) None (find_key key k rows)
+pub find-without : {T : Type 0} (key : T → ℕ) (k gone : ℕ) (rows : List T)
+    → find_key key k (without key gone rows) ≡ cond (eqb gone k) None (find_key key k rows)
 find-without {T} key k gone [] = both (eqb gone k)
   where
     both : (b : Bool) → find_key key k [] ≡ cond b None (find_key key k [])
@@ -80,11 +85,14 @@ find-without key k gone (x ∷ rows) = elim (cases_Bool (eqb (key x) gone)) [
 abbrev pub HasOneOfKey : List Line → Type 0
 HasOneOfKey lines = (x y : Line) → Has lines x → Has lines y → row_key (kept_row x) ≡ row_key (kept_row y) → kept_row x ≡ kept_row y
 
-find-kept : (k : ℕ) (line : Line) (lines : List Line) → find_key row_key k (kept_rows (line ∷ lines)) ≡ cond (eqb (row_key (kept_row line)) k) (Some (kept_row line)) (find_key row_key k (kept_rows lines))
+find-kept : (k : ℕ) (line : Line) (lines : List Line)
+    → find_key row_key k (kept_rows (line ∷ lines)) ≡ cond (eqb (row_key (kept_row line)) k) (Some (kept_row line)) (find_key row_key k (kept_rows lines))
 find-kept k line lines = find-put row_key (kept_row line) (kept_rows lines) k
 
 -- what is kept at a key is a line of the table
-pub found_has : (k : ℕ) (lines : List Line) (r : Row) → find_key row_key k (kept_rows lines) ≡ Some r → (line : Line) × Has lines line × (kept_row line ≡ r) × (row_key r ≡ k)
+pub found_has : (k : ℕ) (lines : List Line) (r : Row)
+    → find_key row_key k (kept_rows lines) ≡ Some r
+    → (line : Line) × Has lines line × (kept_row line ≡ r) × (row_key r ≡ k)
 found_has k [] r e = none_some e
 found_has k (line ∷ lines) r e = elim (cases_Bool (eqb (row_key (kept_row line)) k)) [
   | inl at ↦
@@ -96,7 +104,8 @@ found_has k (line ∷ lines) r e = elim (cases_Bool (eqb (row_key (kept_row line
 ]
 
 -- and each line of the table is kept
-pub has_found : (lines : List Line) (line : Line) → HasOneOfKey lines → Has lines line → find_key row_key (row_key (kept_row line)) (kept_rows lines) ≡ Some (kept_row line)
+pub has_found : (lines : List Line) (line : Line) → HasOneOfKey lines → Has lines line
+    → find_key row_key (row_key (kept_row line)) (kept_rows lines) ≡ Some (kept_row line)
 has_found [] line one h = absurd h
 has_found (x ∷ lines) line one h = elim (cases_Bool (eqb (row_key (kept_row x)) (row_key (kept_row line)))) [
   | inl at ↦ find-kept (row_key (kept_row line)) x lines ∙ rw at (ap Some (one x line (inl refl) h (eqb-true (row_key (kept_row x)) (row_key (kept_row line)) at)))
@@ -108,11 +117,13 @@ has_found (x ∷ lines) line one h = elim (cases_Bool (eqb (row_key (kept_row x)
 
 -- the same lines at a key keep the same there
 pub same_at : (k : ℕ) (old new : List Line) → HasOneOfKey old → HasOneOfKey new
-    → ((x : Line) → row_key (kept_row x) ≡ k → Has old x → Has new x) → ((x : Line) → row_key (kept_row x) ≡ k → Has new x → Has old x)
+    → ((x : Line) → row_key (kept_row x) ≡ k → Has old x → Has new x)
+    → ((x : Line) → row_key (kept_row x) ≡ k → Has new x → Has old x)
     → find_key row_key k (kept_rows new) ≡ find_key row_key k (kept_rows old)
 same_at k old new one one' there back = go (find_key row_key k (kept_rows new)) (find_key row_key k (kept_rows old)) refl refl
   where
-    go : (n o : Option Row) → find_key row_key k (kept_rows new) ≡ n → find_key row_key k (kept_rows old) ≡ o → n ≡ o
+    go : (n o : Option Row) → find_key row_key k (kept_rows new) ≡ n
+        → find_key row_key k (kept_rows old) ≡ o → n ≡ o
     go None None a b = refl
     go (Some r) o a b =
         let f = found_has k new r a in
@@ -126,7 +137,8 @@ same_at k old new one one' there back = go (find_key row_key k (kept_rows new)) 
         sym a ∙ ap (λ j. find_key row_key j (kept_rows new)) (sym key) ∙ now ∙ ap Some f.2
 
 -- the table has this line too, in place of the lines of its key
-pub kept-put : (old new : List Line) (line : Line) → HasOneOfKey old → HasOneOfKey new → Has new line
+pub kept-put : (old new : List Line) (line : Line) → HasOneOfKey old → HasOneOfKey new
+    → Has new line
     → ((x : Line) → (row_key (kept_row x) ≡ row_key (kept_row line) → ⊥) → Has old x → Has new x)
     → ((x : Line) → (row_key (kept_row x) ≡ row_key (kept_row line) → ⊥) → Has new x → Has old x)
     → kept_rows new ≡ put row_key (kept_row line) (kept_rows old)
@@ -141,7 +153,8 @@ kept-put old new line one one' here there back =
           same_at k old new one one' (λ x e. there x (λ f. other (sym f ∙ e))) (λ x e. back x (λ f. other (sym f ∙ e))) ∙ sym (find-put row_key (kept_row line) (kept_rows old) k ∙ rw off refl)
     ])
 
-ascends-without' : (low k : ℕ) (rows : List Row) → ascends row_key low rows ≡ true → ascends row_key low (without row_key k rows) ≡ true
+ascends-without' : (low k : ℕ) (rows : List Row) → ascends row_key low rows ≡ true
+    → ascends row_key low (without row_key k rows) ≡ true
 ascends-without' low k rows up = ascends-without row_key k low rows up
 
 -- the table has the lines of a key no more
@@ -159,18 +172,22 @@ kept-without old new gone one one' none there back =
           same_at k old new one one' (λ x e. there x (λ f. other (sym f ∙ e))) (λ x e. back x (λ f. other (sym f ∙ e))) ∙ sym (find-without row_key k gone (kept_rows old) ∙ rw off refl)
     ])
   where
-    nothing : (k : ℕ) → gone ≡ k → (o : Option Row) → find_key row_key k (kept_rows new) ≡ o → find_key row_key k (kept_rows new) ≡ None
+    nothing : (k : ℕ) → gone ≡ k → (o : Option Row) → find_key row_key k (kept_rows new) ≡ o
+        → find_key row_key k (kept_rows new) ≡ None
     nothing k is None e = e
     nothing k is (Some r) e = let f = found_has k new r e in absurd (none f.0 f.1 (ap row_key f.2 ∙ f.3 ∙ sym is))
 
 -- an answer in ascending order, each row of which is a line, and which has each line, is what is kept
-pub kept-answer : (lines : List Line) (rows : List Row) → HasOneOfKey lines → ascends row_key 0 rows ≡ true
-    → ((x : Line) → Has lines x → Has rows (kept_row x)) → ((r : Row) → Has rows r → (x : Line) × Has lines x × (kept_row x ≡ r))
+pub kept-answer : (lines : List Line) (rows : List Row) → HasOneOfKey lines
+    → ascends row_key 0 rows ≡ true
+    → ((x : Line) → Has lines x → Has rows (kept_row x))
+    → ((r : Row) → Has rows r → (x : Line) × Has lines x × (kept_row x ≡ r))
     → rows ≡ kept_rows lines
 kept-answer lines rows one up all each =
     same_finds row_key 0 rows (kept_rows lines) up (kept-ascend lines) (λ k. go k (find_key row_key k rows) (find_key row_key k (kept_rows lines)) refl refl)
   where
-    has_key : (low k : ℕ) (some : List Row) (r : Row) → ascends row_key low some ≡ true → Has some r → row_key r ≡ k → find_key row_key k some ≡ Some r
+    has_key : (low k : ℕ) (some : List Row) (r : Row) → ascends row_key low some ≡ true → Has some r
+        → row_key r ≡ k → find_key row_key k some ≡ Some r
     has_key low k [] r u h e = absurd h
     has_key low k (x ∷ some) r u (inl same) e = ap (λ j. find_key row_key j (x ∷ some)) (sym e ∙ ap row_key same) ∙ find-first row_key x some ∙ ap Some (sym same)
     has_key low k (x ∷ some) r u (inr later) e =
@@ -181,14 +198,16 @@ kept-answer lines rows one up all each =
           | inr above ↦ find-other row_key k x some (λ f. omega arith) ∙ found
         ]
 
-    found_in : (k : ℕ) (some : List Row) (r : Row) → find_key row_key k some ≡ Some r → Has some r × (row_key r ≡ k)
+    found_in : (k : ℕ) (some : List Row) (r : Row) → find_key row_key k some ≡ Some r
+        → Has some r × (row_key r ≡ k)
     found_in k [] r e = none_some e
     found_in k (x ∷ some) r e = elim (cases_Bool (eqb (row_key x) k)) [
       | inl at ↦ let is : x ≡ r = some_inj (sym (rw at refl) ∙ e) in (inl (sym is), ap row_key (sym is) ∙ eqb-true (row_key x) k at)
       | inr off ↦ let more = found_in k some r (sym (rw off refl) ∙ e) in (inr more.0, more.1)
     ]
 
-    go : (k : ℕ) (a b : Option Row) → find_key row_key k rows ≡ a → find_key row_key k (kept_rows lines) ≡ b → a ≡ b
+    go : (k : ℕ) (a b : Option Row) → find_key row_key k rows ≡ a
+        → find_key row_key k (kept_rows lines) ≡ b → a ≡ b
     go k None None p q = refl
     go k (Some r) b p q =
         let f = found_in k rows r p in

@@ -88,13 +88,15 @@ apart_of lines rise = record {
 abbrev one : ℤ → Line → ℕ
 one n x = cond (has_rowid n x) 1 0
 
-some_one : (n : ℤ) (lines : List Line) (x : Line) → Has lines x → has_rowid n x ≡ true → 1 ≤ sum_by (one n) lines
+some_one : (n : ℤ) (lines : List Line) (x : Line) → Has lines x → has_rowid n x ≡ true
+    → 1 ≤ sum_by (one n) lines
 some_one n [] x h p = absurd h
 some_one n (y ∷ lines) x (inl same) p = let here : one n y ≡ 1 = rw (← same, p) refl in omega (arith, here, sum_by-cons (one n) y lines)
 some_one n (y ∷ lines) x (inr later) p = omega (arith, some_one n lines x later p, sum_by-cons (one n) y lines)
 
 -- lines of a rowid that is there once are one line
-at_most_one : (n : ℤ) (lines : List Line) (x y : Line) → sum_by (one n) lines ≤ 1 → Has lines x → Has lines y → has_rowid n x ≡ true → has_rowid n y ≡ true → x ≡ y
+at_most_one : (n : ℤ) (lines : List Line) (x y : Line) → sum_by (one n) lines ≤ 1 → Has lines x
+    → Has lines y → has_rowid n x ≡ true → has_rowid n y ≡ true → x ≡ y
 at_most_one n [] x y few p q a b = absurd p
 at_most_one n (z ∷ lines) x y few (inl p) (inl q) a b = p ∙ sym q
 at_most_one n (z ∷ lines) x y few (inl p) (inr q) a b =
@@ -103,7 +105,9 @@ at_most_one n (z ∷ lines) x y few (inr p) (inl q) a b =
     let here : one n z ≡ 1 = rw (← q, b) refl in absurd (omega (arith, few, here, some_one n lines x p a, sum_by-cons (one n) z lines))
 at_most_one n (z ∷ lines) x y few (inr p) (inr q) a b = at_most_one n lines x y (omega (arith, few, sum_by-cons (one n) z lines)) p q a b
 
-none_more : (n : ℤ) (lines : List Line) → ((j : ℕ) → j < length lines → has_rowid n (get_or lines j []) ≡ false) → sum_by (one n) lines ≡ 0
+none_more : (n : ℤ) (lines : List Line)
+    → ((j : ℕ) → j < length lines → has_rowid n (get_or lines j []) ≡ false)
+    → sum_by (one n) lines ≡ 0
 none_more n [] none = refl
 none_more n (x ∷ lines) none =
     let here : one n x ≡ 0 = rw (none 0 (omega arith)) refl in
@@ -126,14 +130,17 @@ once n (x ∷ lines) rise =
       | inr off ↦ let here : one n x ≡ 0 = rw off refl in omega (arith, here, rest, sum_by-cons (one n) x lines)
     ]
   where
-    clash : (n : ℤ) (x y : Line) → (k : ℤ) × (rowid x ≡ Int k) → (k : ℤ) × (rowid y ≡ Int k) → has_rowid n x ≡ true → has_rowid n y ≡ true → is_eq (value_cmp (rowid x) (rowid y)) ≡ false → ⊥
+    clash : (n : ℤ) (x y : Line) → (k : ℤ) × (rowid x ≡ Int k) → (k : ℤ) × (rowid y ≡ Int k)
+        → has_rowid n x ≡ true → has_rowid n y ≡ true
+        → is_eq (value_cmp (rowid x) (rowid y)) ≡ false → ⊥
     clash n x y a b p q other =
         let m : a.0 ≡ n = int_same a.0 n (ap (λ v. is_eq (value_cmp v (Int n))) (sym a.1) ∙ p) in
         let k : b.0 ≡ n = int_same b.0 n (ap (λ v. is_eq (value_cmp v (Int n))) (sym b.1) ∙ q) in
         let same : is_eq (value_cmp (rowid x) (rowid y)) ≡ true = rw (a.1, b.1, m, k) (tied n) in
         let e : true ≡ false = sym same ∙ other in cc
 
-counted : {X : Type 0} (n : ℤ) (f : X → Line) (xs : List X) → sum_by (one n) (map f xs) ≡ sum_by (λ x. one n (f x)) xs
+counted : {X : Type 0} (n : ℤ) (f : X → Line) (xs : List X)
+    → sum_by (one n) (map f xs) ≡ sum_by (λ x. one n (f x)) xs
 counted n f [] = refl
 counted n f (x ∷ xs) =
     let a = sum_by-cons (one n) (f x) (map f xs) in
@@ -143,11 +150,13 @@ counted n f (x ∷ xs) =
 own : (x : Line) (n : ℤ) → rowid x ≡ Int n → has_rowid n x ≡ true
 own x n is = rw is (tied n)
 
-same_ids : (x y : Line) (n k : ℤ) → rowid x ≡ Int n → rowid y ≡ Int k → is_eq (value_cmp (rowid x) (rowid y)) ≡ true → n ≡ k
+same_ids : (x y : Line) (n k : ℤ) → rowid x ≡ Int n → rowid y ≡ Int k
+    → is_eq (value_cmp (rowid x) (rowid y)) ≡ true → n ≡ k
 same_ids x y n k a b same = int_same n k (rw (a, b) at same)
 
 -- the answer has each rowid as often as the table
-pub numbers : (old new : State) (lines : List Line) → old.now.schema ≡ kept_schema → Shown rowids_text [] old new lines → Rise lines → AreNumbered (old.now.trees 0)
+pub numbers : (old new : State) (lines : List Line) → old.now.schema ≡ kept_schema
+    → Shown rowids_text [] old new lines → Rise lines → AreNumbered (old.now.trees 0)
 numbers old new lines has h rise =
     let db = old.now.trees in
     let far = apart_of lines rise in
@@ -169,7 +178,8 @@ numbers old new lines has h rise =
           at_most_one n.0 (db 0) x y (few n.0) p q (own x n.0 n.1) (own y n.0 (k.1 ∙ ap Int (sym e)));
     }
   where
-    table_count : (n : ℤ) (ls : List Line) → sum_by (λ (o : Output). one n o.1) (map (output (one_table [] project order)) (flat_map (λ l. ([] ∷ l ∷ []) ∷ []) ls)) ≡ sum_by (one n) ls
+    table_count : (n : ℤ) (ls : List Line)
+        → sum_by (λ (o : Output). one n o.1) (map (output (one_table [] project order)) (flat_map (λ l. ([] ∷ l ∷ []) ∷ []) ls)) ≡ sum_by (one n) ls
     table_count n [] = refl
     table_count n (l ∷ ls) =
         let a = sum_by-cons (λ (o : Output). one n o.1) (output (one_table [] project order) ([] ∷ l ∷ [])) (map (output (one_table [] project order)) (flat_map (λ l. ([] ∷ l ∷ []) ∷ []) ls)) in
@@ -179,7 +189,8 @@ numbers old new lines has h rise =
     int_of : (ls : List Line) (row : Line) → Apart ls → Has ls row → (n : ℤ) × (rowid row ≡ Int n)
     int_of ls row r m = let at = contains_had ls row m in let k = r.ints at.0 at.1 in (k.0, ap rowid (sym at.2 ∙ get_or-any ls at.0 row [] at.1) ∙ k.1)
 
-pub numbers_on : {A : Type 0} (items : A → List Line) (old new : State) (r : Result A Error) → old.now.schema ≡ kept_schema → IfOk r (λ a. Shown rowids_text [] old new (items a))
+pub numbers_on : {A : Type 0} (items : A → List Line) (old new : State) (r : Result A Error)
+    → old.now.schema ≡ kept_schema → IfOk r (λ a. Shown rowids_text [] old new (items a))
     → IfOk r (λ a. Rise (items a) → AreNumbered (old.now.trees 0))
 numbers_on items old new (Ok a) has h = λ rise. numbers old new (items a) has h rise
 numbers_on items old new (Err e) has h = tt

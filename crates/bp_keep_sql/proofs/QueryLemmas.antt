@@ -26,7 +26,8 @@ has_map f [] x h = absurd h
 has_map f (y ∷ xs) x (inl same) = inl (ap f same)
 has_map f (y ∷ xs) x (inr later) = inr (has_map f xs x later)
 
-pub map_has : {X Y : Type 0} (f : X → Y) (xs : List X) (y : Y) → Has (map f xs) y → (x : X) × Has xs x × (y ≡ f x)
+pub map_has : {X Y : Type 0} (f : X → Y) (xs : List X) (y : Y) → Has (map f xs) y
+    → (x : X) × Has xs x × (y ≡ f x)
 map_has f [] y h = absurd h
 map_has f (x ∷ xs) y (inl same) = (x, inl refl, same)
 map_has f (x ∷ xs) y (inr later) = let r = map_has f xs y later in (r.0, inr r.1, r.2)
@@ -56,19 +57,22 @@ module _ (filter : List Term) (project : List Term) (order : List (Term × Key))
     abbrev pub one : Line → List Env
     one line = cond (passes_filter line) (env_of line ∷ []) []
 
-    met_has : (lines : List Line) (env : Env) → Has (flat_map one lines) env → (line : Line) × Has lines line × (passes_filter line ≡ true) × (env ≡ env_of line)
+    met_has : (lines : List Line) (env : Env) → Has (flat_map one lines) env
+        → (line : Line) × Has lines line × (passes_filter line ≡ true) × (env ≡ env_of line)
     met_has [] env h = absurd h
     met_has (line ∷ lines) env h = elim (has_either (one line) (flat_map one lines) env h) [
       | inl here ↦ go (passes_filter line) refl here
       | inr later ↦ let r = met_has lines env later in (r.0, inr r.1, r.2, r.3)
     ]
       where
-        go : (b : Bool) → passes_filter line ≡ b → Has (cond b (env_of line ∷ []) []) env → (l : Line) × Has (line ∷ lines) l × (passes_filter l ≡ true) × (env ≡ env_of l)
+        go : (b : Bool) → passes_filter line ≡ b → Has (cond b (env_of line ∷ []) []) env
+            → (l : Line) × Has (line ∷ lines) l × (passes_filter l ≡ true) × (env ≡ env_of l)
         go true is (inl same) = (line, inl refl, is, same)
         go true is (inr none) = absurd none
         go false is none = absurd none
 
-    has_met : (lines : List Line) (line : Line) → Has lines line → passes_filter line ≡ true → Has (flat_map one lines) (env_of line)
+    has_met : (lines : List Line) (line : Line) → Has lines line → passes_filter line ≡ true
+        → Has (flat_map one lines) (env_of line)
     has_met [] line h passes = absurd h
     has_met (x ∷ lines) line (inl same) passes = has_left (one x) (flat_map one lines) (env_of line) (rw (← same, passes) (inl refl))
     has_met (x ∷ lines) line (inr later) passes = has_right (one x) (flat_map one lines) (env_of line) (has_met lines line later passes)
@@ -78,8 +82,10 @@ module _ (filter : List Term) (project : List Term) (order : List (Term × Key))
       pub sorted : IsSorted (output_cmp one_table) ordered
       pub perm : IsPermutation (map (output one_table) (flat_map one (db 0))) ordered
       pub shown : rows ≡ map (λ (o : Output). o.1) ordered
-      pub each : (o : Output) → Has ordered o → (line : Line) × Has (db 0) line × (passes_filter line ≡ true) × (o ≡ output one_table (env_of line))
-      pub all : (line : Line) → Has (db 0) line → passes_filter line ≡ true → Has ordered (output one_table (env_of line))
+      pub each : (o : Output) → Has ordered o
+          → (line : Line) × Has (db 0) line × (passes_filter line ≡ true) × (o ≡ output one_table (env_of line))
+      pub all : (line : Line) → Has (db 0) line → passes_filter line ≡ true
+          → Has ordered (output one_table (env_of line))
 
     pub finds : (rows : List Line) → IsProgramAnswer [] one_table db params rows → Finds rows
     finds rows h =
@@ -99,13 +105,15 @@ module _ (filter : List Term) (project : List Term) (order : List (Term × Key))
           all = λ line g p. has_permutation _ a.ordered _ perm (has_map (output one_table) (flat_map one (db 0)) (env_of line) (has_met (db 0) line g p));
         }
 
-    pub found_each : (rows : List Line) → Finds rows → (row : Line) → Has rows row → (line : Line) × Has (db 0) line × (passes_filter line ≡ true) × (row ≡ eval_all project (env_of line))
+    pub found_each : (rows : List Line) → Finds rows → (row : Line) → Has rows row
+        → (line : Line) × Has (db 0) line × (passes_filter line ≡ true) × (row ≡ eval_all project (env_of line))
     found_each rows f row h =
         let m = map_has (λ (o : Output). o.1) f.ordered row (subst (λ l. Has l row) f.shown h) in
         let e = f.each m.0 m.1 in
         (e.0, e.1, e.2, m.2 ∙ ap (λ (o : Output). o.1) e.3)
 
-    pub found_all : (rows : List Line) → Finds rows → (line : Line) → Has (db 0) line → passes_filter line ≡ true → Has rows (eval_all project (env_of line))
+    pub found_all : (rows : List Line) → Finds rows → (line : Line) → Has (db 0) line
+        → passes_filter line ≡ true → Has rows (eval_all project (env_of line))
     found_all rows f line h p = subst (λ l. Has l (eval_all project (env_of line))) (sym f.shown) (has_map (λ (o : Output). o.1) f.ordered (output one_table (env_of line)) (f.all line h p))
 
 -- ---- edits
@@ -113,24 +121,28 @@ module _ (filter : List Term) (project : List Term) (order : List (Term × Key))
 abbrev pub Lacks : List ℤ → Line → Type 0
 Lacks ids x = (id : ℤ) → Has ids id → has_rowid id x ≡ false
 
-left_from : (ids : List ℤ) (rows : List Line) (x : Line) → Has (without_all rows ids) x → Has rows x × Lacks ids x
+left_from : (ids : List ℤ) (rows : List Line) (x : Line) → Has (without_all rows ids) x
+    → Has rows x × Lacks ids x
 left_from [] rows x h = (h, λ id none. absurd none)
 left_from (id ∷ ids) rows x h =
     let r = left_from ids (without_rowid id rows) x h in
     let was = has_filtered (λ y. not (has_rowid id y)) rows x r.0 in
     (was.0, λ other k. elim k [ inl e ↦ rw e (not-true _ was.1) | inr more ↦ r.1 other more ])
 
-left_has : (ids : List ℤ) (rows : List Line) (x : Line) → Has rows x → Lacks ids x → Has (without_all rows ids) x
+left_has : (ids : List ℤ) (rows : List Line) (x : Line) → Has rows x → Lacks ids x
+    → Has (without_all rows ids) x
 left_has [] rows x h lacks = h
 left_has (id ∷ ids) rows x h lacks = left_has ids (without_rowid id rows) x (has_kept (λ y. not (has_rowid id y)) rows x h (ap not (lacks id (inl refl)))) (λ other k. lacks other (inr k))
 
 module _ (schema : Schema) (keys : Keys) (db next : Trees) (edit : Edit) (applies : Applies schema keys db edit next) where
   -- each line of the edited table is new, or was there and isn't taken out
-  pub edited_has : (x : Line) → Has (next edit.table.tree) x → Has edit.news x ⊎ (Has (db edit.table.tree) x × Lacks edit.gone x)
+  pub edited_has : (x : Line) → Has (next edit.table.tree) x
+      → Has edit.news x ⊎ (Has (db edit.table.tree) x × Lacks edit.gone x)
   edited_has x h = elim (put_all_has edit.news _ x (subst (λ l. Has l x) applies.rows h)) [ inl new ↦ inl new | inr left ↦ inr (left_from edit.gone _ x left) ]
 
   pub edited_new : (x : Line) → Has edit.news x → Has (next edit.table.tree) x
   edited_new x h = subst (λ l. Has l x) (sym applies.rows) (put_all_adds edit.news _ x applies.fresh h)
 
-  pub edited_kept : (x : Line) → Has (db edit.table.tree) x → Lacks edit.gone x → Has (next edit.table.tree) x
+  pub edited_kept : (x : Line) → Has (db edit.table.tree) x → Lacks edit.gone x
+      → Has (next edit.table.tree) x
   edited_kept x h lacks = subst (λ l. Has l x) (sym applies.rows) (put_all_keeps edit.news _ x applies.fresh (left_has edit.gone _ x h lacks))

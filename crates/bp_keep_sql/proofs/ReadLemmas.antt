@@ -23,7 +23,9 @@ use Rattle.bp_keep_sql.proofs.LineLemmas.{one_of_key}
 use Rattle.bp_keep_sql.proofs.QueryLemmas.{Finds, finds, found_each, found_all, has_map, map_has}
 use Rattle.bp_keep_sql.proofs.DeleteLemmas.{went, same_value}
 
-pub creates : (old new : State) (count : ℕ) → old.now.schema ≡ no_schema → Executes create_text [] old new (Ok count) → (new.now.schema ≡ kept_schema) × (new.now.trees 0 ≡ []) × IsSound new.now.schema new.now.trees
+pub creates : (old new : State) (count : ℕ) → old.now.schema ≡ no_schema
+    → Executes create_text [] old new (Ok count)
+    → (new.now.schema ≡ kept_schema) × (new.now.trees 0 ≡ []) × IsSound new.now.schema new.now.trees
 creates old new count has h =
     let w = subst (λ t. Writes old new None CreateTable t [] count) create_is.1 (runs_as create_text [] old new no_schema has CreateTable create_is.0 create_plain count h) in
     let all = went w.changed in
@@ -37,7 +39,8 @@ creates old new count has h =
     (ap (λ (d : Database). d.schema) now ∙ schema, ap (λ (d : Database). d.trees 0) now ∙ subst (λ s. first.0.trees (next_tree s) ≡ []) has made.empty, w.sound)
 
 -- where the table is there, nothing is done
-pub stays : (old new : State) (count : ℕ) → old.now.schema ≡ kept_schema → Executes create_text [] old new (Ok count) → IsUnchanged old new
+pub stays : (old new : State) (count : ℕ) → old.now.schema ≡ kept_schema
+    → Executes create_text [] old new (Ok count) → IsUnchanged old new
 stays old new count has h = (runs_as create_text [] old new kept_schema has Nothing there_is there_plain count h).0
 
 abbrev project : List Term
@@ -47,8 +50,11 @@ abbrev order : List (Term × Key)
 order = (col 1 1, ascending Binary) ∷ (col 1 2, ascending Binary) ∷ (col 1 3, ascending Binary) ∷ []
 
 -- an answer whose keys rise is what is kept
-pub selects : (old new : State) (lines : List Line) → old.now.schema ≡ kept_schema → IsSound kept_schema old.now.trees → AreNumbered (old.now.trees 0) → Shown select_text [] old new lines
-    → ascends row_key 0 (map shown_row lines) ≡ true → map shown_row lines ≡ kept_rows (old.now.trees 0)
+pub selects : (old new : State) (lines : List Line) → old.now.schema ≡ kept_schema
+    → IsSound kept_schema old.now.trees → AreNumbered (old.now.trees 0)
+    → Shown select_text [] old new lines
+    → ascends row_key 0 (map shown_row lines) ≡ true
+    → map shown_row lines ≡ kept_rows (old.now.trees 0)
 selects old new lines has sound numbered h up =
     let db = old.now.trees in
     let command = Select (record { lets = []; body = all_query }) (codes "kind" ∷ codes "k1" ∷ codes "k2" ∷ codes "body" ∷ []) in
@@ -59,6 +65,7 @@ selects old new lines has sound numbered h up =
     (λ r g. let m = map_has shown_row lines r g in let e = found_each [] project order db [] lines f m.0 m.1 in (e.0, e.1, sym (m.2 ∙ ap shown_row e.3)))
 
 -- without the table there is no answer
-pub selects_nothing : (old new : State) (lines : List Line) → old.now.schema ≡ no_schema → Shown select_text [] old new lines → ⊥
+pub selects_nothing : (old new : State) (lines : List Line) → old.now.schema ≡ no_schema
+    → Shown select_text [] old new lines → ⊥
 unfolding Shown
 selects_nothing old new lines has h = let e = sym h.1.is ∙ ap (λ s. understood s select_text) has ∙ no_select in cc

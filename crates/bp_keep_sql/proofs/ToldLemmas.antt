@@ -166,7 +166,8 @@ same_opened n0 old n1 new off made = same_told n0 old n1 new (λ rows now t u.
       | inr table ↦ table.1 ∙ (made u.clean u.is_open before.0).rows_are ∙ sym before.1
     ])
 
-same_at : (a b : Option (List Row)) (x y : List Row) → SameRows a b → a ≡ Some x → b ≡ Some y → y ≡ x
+same_at : (a b : Option (List Row)) (x y : List Row) → SameRows a b → a ≡ Some x → b ≡ Some y
+    → y ≡ x
 same_at None b x y h p q = none_some p
 same_at (Some r) None x y h p q = none_some q
 same_at (Some r) (Some s) x y h p q = sym (some_same q) ∙ h ∙ some_same p

@@ -71,7 +71,8 @@ tied n = rw (tied_itself value_cmp_total (Int n)) refl
 abbrev pub put_line : ℤ → ℕ → ℕ → ℕ → List ℕ → Line
 put_line id kind k1 k2 body = Int id ∷ Int (pos kind) ∷ Int (pos k1) ∷ Int (pos k2) ∷ Blob body ∷ []
 
-cast_line : (id : ℤ) (kind k1 k2 : ℕ) (body : List ℕ) → cast_row kept_table (put_line id kind k1 k2 body) ≡ put_line id kind k1 k2 body
+cast_line : (id : ℤ) (kind k1 k2 : ℕ) (body : List ℕ)
+    → cast_row kept_table (put_line id kind k1 k2 body) ≡ put_line id kind k1 k2 body
 cast_line id kind k1 k2 body = rw (cast_int id, cast_int (pos kind), cast_int (pos k1), cast_int (pos k2)) refl
 
 -- the row that is tried: a rowid is chosen
@@ -117,7 +118,8 @@ module _ (limit : Option ℕ) (keys : Keys) (db : Trees) (sound : IsSound kept_s
   }
 
   -- the line is put where its rowid is free
-  puts : (id : ℤ) (done : Written) → IsSound kept_schema done.trees → Puts task (put_line id kind k1 k2 body) db (Ok done) → HasPut done.trees
+  puts : (id : ℤ) (done : Written) → IsSound kept_schema done.trees
+      → Puts task (put_line id kind k1 k2 body) db (Ok done) → HasPut done.trees
   puts id done after h =
       let line = put_line id kind k1 k2 body in
       let written = went h in
@@ -155,8 +157,11 @@ module _ (limit : Option ℕ) (keys : Keys) (db : Trees) (sound : IsSound kept_s
       (subst (λ t. AreNumbered (t 0)) (sym trees) now, ap (λ (t : Trees). kept_rows (t 0)) trees ∙ inserted db next sound after' numbered' now line here each all)
 
   -- the line of the key gets the body
-  updates : (id : ℤ) (there : Line) (more : List Line) (done : Written) → IsSound kept_schema done.trees → AreConflicts (Some key_places) kept_schema.indexes kept_table (db 0) (put_line id kind k1 k2 body) (there ∷ more)
-      → Updates task (record { lets = []; body = update_query }) (params ++ rowid there ∷ shown kept_table (put_line id kind k1 k2 body)) db (Ok done) → HasPut done.trees
+  updates : (id : ℤ) (there : Line) (more : List Line) (done : Written)
+      → IsSound kept_schema done.trees
+      → AreConflicts (Some key_places) kept_schema.indexes kept_table (db 0) (put_line id kind k1 k2 body) (there ∷ more)
+      → Updates task (record { lets = []; body = update_query }) (params ++ rowid there ∷ shown kept_table (put_line id kind k1 k2 body)) db (Ok done)
+      → HasPut done.trees
   updates id there more done after found h =
       let line = put_line id kind k1 k2 body in
       -- the line that has the key
@@ -231,26 +236,34 @@ module _ (limit : Option ℕ) (keys : Keys) (db : Trees) (sound : IsSound kept_s
       )
 
   -- the row is tried
-  tries : (id : ℤ) (done : Written) → IsSound kept_schema done.trees → Tries task Abort (on_conflict ∷ []) (put_line id kind k1 k2 body) db (Ok done) → HasPut done.trees
+  tries : (id : ℤ) (done : Written) → IsSound kept_schema done.trees
+      → Tries task Abort (on_conflict ∷ []) (put_line id kind k1 k2 body) db (Ok done)
+      → HasPut done.trees
   tries id done after (inl h) = absurd (let e = h.1 in cc)
   tries id done after (inr h) = judged h.0 h.2
     where
-      clears : (found : List Line) → Clears task Abort (put_line id kind k1 k2 body) db found (Ok done) → HasPut done.trees
+      clears : (found : List Line)
+          → Clears task Abort (put_line id kind k1 k2 body) db found (Ok done) → HasPut done.trees
       clears [] g = puts id done after g
       clears (x ∷ more) g = puts id done after g
 
-      met : (found : List Line) → AreConflicts (Some key_places) kept_schema.indexes kept_table (db 0) (put_line id kind k1 k2 body) found
-          → Meets task (Upserts task Abort (put_line id kind k1 k2 body) db []) (put_line id kind k1 k2 body) db on_conflict found (Ok done) → HasPut done.trees
+      met : (found : List Line)
+          → AreConflicts (Some key_places) kept_schema.indexes kept_table (db 0) (put_line id kind k1 k2 body) found
+          → Meets task (Upserts task Abort (put_line id kind k1 k2 body) db []) (put_line id kind k1 k2 body) db on_conflict found (Ok done)
+          → HasPut done.trees
       met [] c g = clears g.0 g.2
       met (there ∷ more) c g = updates id there more done after c g
 
-      judged : (verdict : Option Refusal) → Judged task Abort (on_conflict ∷ []) (put_line id kind k1 k2 body) db verdict (Ok done) → HasPut done.trees
+      judged : (verdict : Option Refusal)
+          → Judged task Abort (on_conflict ∷ []) (put_line id kind k1 k2 body) db verdict (Ok done)
+          → HasPut done.trees
       judged None g = met g.0 g.1 g.2
       judged (Some why) g = absurd (let e = g in cc)
 
   -- the one row is tried
   pub tries_one : (top : ℤ) (done : Written × ℤ) → IsSound kept_schema done.0.trees
-      → TriesEach task Abort (on_conflict ∷ []) ((Null ∷ Int (pos kind) ∷ Int (pos k1) ∷ Int (pos k2) ∷ Blob body ∷ []) ∷ []) top (nothing db) (Ok done) → HasPut done.0.trees
+      → TriesEach task Abort (on_conflict ∷ []) ((Null ∷ Int (pos kind) ∷ Int (pos k1) ∷ Int (pos k2) ∷ Blob body ∷ []) ∷ []) top (nothing db) (Ok done)
+      → HasPut done.0.trees
   tries_one top done after h =
       let one = went h in
       let trees : done.0.trees ≡ one.0.trees = ap (λ (p : Written × ℤ). p.0.trees) (same_value one.2) in
@@ -258,7 +271,8 @@ module _ (limit : Option ℕ) (keys : Keys) (db : Trees) (sound : IsSound kept_s
       (subst (λ l. Tries task Abort (on_conflict ∷ []) l db (Ok one.0)) (chosen_line (db 0) kind k1 k2 body) one.1) in
       subst (λ t. HasPut t) (sym trees) put
 
-pub upserts : (old new : State) (kind k1 k2 : ℕ) (body : List ℕ) (count : ℕ) → kind ≤ 255 → k1 ≤ 4294967295 → k2 ≤ 4294967295 → old.now.schema ≡ kept_schema
+pub upserts : (old new : State) (kind k1 k2 : ℕ) (body : List ℕ) (count : ℕ) → kind ≤ 255
+    → k1 ≤ 4294967295 → k2 ≤ 4294967295 → old.now.schema ≡ kept_schema
     → IsSound kept_schema old.now.trees → AreNumbered (old.now.trees 0)
     → Executes upsert_text (Int (pos kind) ∷ Int (pos k1) ∷ Int (pos k2) ∷ Blob body ∷ []) old new (Ok count)
     → (new.now.schema ≡ kept_schema) × IsSound kept_schema new.now.trees × AreNumbered (new.now.trees 0)

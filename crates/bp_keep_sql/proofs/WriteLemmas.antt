@@ -37,7 +37,8 @@ unfolding unary
 cast_null = either _ Null
 
 -- ids that hold the rowids of some lines alone
-id_of : (ids : List Line) (id : ℤ) → Has (ids_of ids) id → (x : Line) × Has ids x × (id ≡ id_in (rowid x))
+id_of : (ids : List Line) (id : ℤ) → Has (ids_of ids) id
+    → (x : Line) × Has ids x × (id ≡ id_in (rowid x))
 id_of [] id h = absurd h
 id_of (x ∷ ids) id (inl same) = (x, inl refl, same)
 id_of (x ∷ ids) id (inr later) = let r = id_of ids id later in (r.0, inr r.1, r.2)
@@ -49,7 +50,8 @@ ids_has (y ∷ ids) x (inr later) = inr (ids_has ids x later)
 
 module _ (lines : List Line) (numbered : AreNumbered lines) where
   -- a line that has the rowid of another is that one
-  pub same_line : (x y : Line) (id : ℤ) → Has lines x → Has lines y → rowid y ≡ Int id → has_rowid id x ≡ true → x ≡ y
+  pub same_line : (x y : Line) (id : ℤ) → Has lines x → Has lines y → rowid y ≡ Int id
+      → has_rowid id x ≡ true → x ≡ y
   same_line x y id p q is h = numbered.one x y p q (ap (λ v. is_eq (value_cmp (rowid x) v)) is ∙ h)
 
   -- a line has its own rowid
@@ -57,7 +59,9 @@ module _ (lines : List Line) (numbered : AreNumbered lines) where
   own_id x id is = rw (is, tied_itself value_cmp_total (Int id))
 
   -- the lines whose rowids are taken out are those that the answer has
-  pub lacks_other : (found : List Line) (x : Line) → Has lines x → ((f : Line) → Has found f → (y : Line) × Has lines y × (rowid f ≡ rowid y) × (x ≡ y → ⊥)) → Lacks (ids_of found) x
+  pub lacks_other : (found : List Line) (x : Line) → Has lines x
+      → ((f : Line) → Has found f → (y : Line) × Has lines y × (rowid f ≡ rowid y) × (x ≡ y → ⊥))
+      → Lacks (ids_of found) x
   lacks_other found x h each id k = elim (cases_Bool (has_rowid id x)) [
     | inl has ↦
         let f = id_of found id k in
@@ -68,7 +72,8 @@ module _ (lines : List Line) (numbered : AreNumbered lines) where
     | inr off ↦ off
   ]
 
-  pub not_lacks : (found : List Line) (x f : Line) → Has lines x → Has found f → rowid f ≡ rowid x → Lacks (ids_of found) x → ⊥
+  pub not_lacks : (found : List Line) (x f : Line) → Has lines x → Has found f → rowid f ≡ rowid x
+      → Lacks (ids_of found) x → ⊥
   not_lacks found x f h k same lacks =
       let n = numbered.ints x h in
       let none = lacks (id_in (rowid f)) (ids_has found f k) in
@@ -76,7 +81,8 @@ module _ (lines : List Line) (numbered : AreNumbered lines) where
       let e : true ≡ false = sym has ∙ none in cc
 
 -- the key of a line, and of what is put
-key_is : (x : Line) (a : IsLine x) → row_key (kept_row x) ≡ row_key (record { kind = a.kind; k1 = a.k1; k2 = a.k2; body = a.body })
+key_is : (x : Line) (a : IsLine x)
+    → row_key (kept_row x) ≡ row_key (record { kind = a.kind; k1 = a.k1; k2 = a.k2; body = a.body })
 key_is x a = ap row_key (row_is x x a a)
 
 -- what is known before and after a write
@@ -101,16 +107,20 @@ module _ (old new : Trees) (before : IsSound kept_schema old) (after : IsSound k
       (λ x other h. (left x h).0)
 
   -- a line that wasn't there
-  pub inserted : (line : Line) → Has (new 0) line → ((x : Line) → Has (new 0) x → (x ≡ line) ⊎ Has (old 0) x) → ((x : Line) → Has (old 0) x → Has (new 0) x)
+  pub inserted : (line : Line) → Has (new 0) line
+      → ((x : Line) → Has (new 0) x → (x ≡ line) ⊎ Has (old 0) x)
+      → ((x : Line) → Has (old 0) x → Has (new 0) x)
       → kept_rows (new 0) ≡ put row_key (kept_row line) (kept_rows (old 0))
   inserted line here each all =
       kept-put (old 0) (new 0) line keyed keyed' here (λ x other h. all x h)
       (λ x other h. elim (each x h) [ inl same ↦ absurd (other (ap (λ l. row_key (kept_row l)) same)) | inr was ↦ was ])
 
   -- a line in the place of one of its key
-  pub replaced : (was line : Line) (found : List Line) → Has (old 0) was → row_key (kept_row was) ≡ row_key (kept_row line) → Has (new 0) line
+  pub replaced : (was line : Line) (found : List Line) → Has (old 0) was
+      → row_key (kept_row was) ≡ row_key (kept_row line) → Has (new 0) line
       → ((f : Line) → Has found f → rowid f ≡ rowid was)
-      → ((x : Line) → Has (new 0) x → (x ≡ line) ⊎ Has (old 0) x) → ((x : Line) → Has (old 0) x → Lacks (ids_of found) x → Has (new 0) x)
+      → ((x : Line) → Has (new 0) x → (x ≡ line) ⊎ Has (old 0) x)
+      → ((x : Line) → Has (old 0) x → Lacks (ids_of found) x → Has (new 0) x)
       → kept_rows (new 0) ≡ put row_key (kept_row line) (kept_rows (old 0))
   replaced was line found there key here ids each all =
       kept-put (old 0) (new 0) line keyed keyed' here

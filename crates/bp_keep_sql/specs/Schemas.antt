@@ -1,5 +1,5 @@
--- The test of equality of the definitions of two databases. It compares the trees of numbers by which
--- the logic stores them, which are one to one.
+-- The test of equality of the definitions of two databases. It compares the trees of numbers by
+-- which the logic stores them, one to one.
 use Rattle.std.specs.Prelude.{Bool, true, false, ◌&&◌, ◌==◌}
 use base.Stored.{Gv, gnil, gnum, gcons}
 use Rattle.sqlite_schema.specs.declared.schema.Schema.{Schema}

@@ -12,8 +12,8 @@ use Rattle.bp_keep_sql.specs.Lines.{kept_row, kept_rows}
 use Rattle.bp_keep_sql.specs.Rowids.{AreNumbered}
 use Rattle.bp_keep_sql.specs.Schemas.{same_schema}
 
--- the rows of a database: none where it has no table; those of its one table where that is defined as
--- its text defines it, and was numbered. Of every other database none are told
+-- the rows of a database: none where it has no table; those of its one table where that is defined
+-- as its text defines it, and was numbered. Of every other database none are told
 abbrev pub rows_of : Bool → Database → Option (List Row)
 rows_of numbered db =
     if same_schema db.schema no_schema then Some []

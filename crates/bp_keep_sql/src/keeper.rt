@@ -110,9 +110,9 @@ impl<S: Alter> Keeper for SqlKeeper<S> {
         }
     }
 
-    /// One transaction, which is rolled back where a statement or the commit itself is refused. Where
-    /// there is no table it is refused. Where the process stops, another open finds the rows from
-    /// before or those with all puts.
+    /// One transaction, which is rolled back where a statement or the commit itself is refused.
+    /// Where there is no table it is refused. Where the process stops, another open finds the rows
+    /// from before or those with all puts.
     fn commit(&mut self, _alloc: Global, puts: &PutList) -> Result<(), KeepRefusal>
         ensures commits { Commits (keeper_shown S.Store self.old) puts.now result
             (keeper_shown S.Store self.new) }

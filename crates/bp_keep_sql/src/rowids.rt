@@ -1,5 +1,5 @@
-// That no two lines of the table have one rowid. It is so in every tree of a store, but no call of a
-// connection says it, and a statement takes its lines out by their rowids.
+// That no two lines of the table have one rowid. It is so in every tree of a store, but no call of
+// a connection says it, and a statement takes its lines out by their rowids.
 ghost use Rattle.std.specs.Prelude.{◌≡◌, ◌-◌, ◌<◌, length, slice_index_or, [], IfOk, IsTrue, OnOk};
 ghost use Rattle.sqlite.specs.Held.{state};
 ghost use Rattle.sqlite.specs.State.{HasCleanDisk};

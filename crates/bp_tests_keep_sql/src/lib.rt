@@ -3,6 +3,8 @@
 #![tactic(auto)]
 
 #[cfg(test)]
+mod batches;
+#[cfg(test)]
 mod other_tables;
 #[cfg(test)]
 mod sql_rows;

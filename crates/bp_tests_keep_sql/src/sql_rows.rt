@@ -1,15 +1,17 @@
 // A matter over a database in memory, its connection handed from keeper to keeper.
+use crate::batches::{HEADER, batch};
 use bp_core::{Put, PutList, Row, RowList, Rule, RuleKind};
 use bp_keep::{KeepRefusal, Keeper};
 use bp_keep_sql::SqlKeeper;
-use bp_matter::{Batch, Tables};
+use bp_matter::Tables;
 use bp_rules::{Counted, MatterRefusal, begin, load_tables, step_import};
-use bp_samples::batches::{HEADER, NEVER, batch_in};
-use bp_samples::matters::ZEROS;
 use sqlite::{Alter, Connection};
 use std::alloc::{AllocError, Global};
 use std::process::Abort;
 use std::test::Fail;
+
+// The digest of nobody's key.
+const ZEROS: [u8; 32] = [0; 32];
 
 const OTHER_HEADER: &str = "þBEGDOCþ\u{14}þBEGATTACHþ\r\n";
 
@@ -27,11 +29,6 @@ pub fn puts_of(alloc: Global, rows: RowList) -> Result<PutList, AllocError> {
         puts.push(Put { kind, k1, k2, body })?;
     }
     Ok(PutList::from_vec(puts))
-}
-
-// The batch `B1` of this header alone.
-pub fn batch(alloc: Global, header: &str) -> Result<Batch, Fail> {
-    Ok(batch_in(alloc, "B1", header.as_bytes(), "", "", NEVER)??)
 }
 
 // The puts of a new matter.

@@ -1,10 +1,10 @@
 // An import over a disk that stops at each of its calls in turn, and is opened again.
-use crate::sql_rows::{batch, beginning};
+use crate::batches::{HEADER, batch};
+use crate::sql_rows::beginning;
 use bp_keep::Keeper;
 use bp_keep_sql::SqlKeeper;
 use bp_matter::Batch;
 use bp_rules::{load_tables, step_import};
-use bp_samples::batches::HEADER;
 use sqlite::{Connection, FileStore, Files, Options};
 use sqlite_disk::{Crash, Disk, Fuse, Memory};
 use std::alloc::{AllocError, Global};
@@ -102,11 +102,7 @@ fn stands(
 }
 
 // Stops each call in turn, until one import comes in.
-fn stops(
-    rt: &impl Abort,
-    alloc: Global,
-    of_log: bool,
-) -> Result<bool, Fail> {
+fn stops(rt: &impl Abort, alloc: Global, of_log: bool) -> Result<bool, Fail> {
     let from = begun(alloc)?;
     for calls in 0..MOST_CALLS {
         let log = if of_log { calls } else { u64::MAX };

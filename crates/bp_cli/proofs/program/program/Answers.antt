@@ -12,7 +12,7 @@ pub returns : goal.returns
 returns g c =
     program_ends c.args.answer _ _ _ _ _ c.run_arguments-ended.result.status
     c.below-source.ensures.shows
-    (c.over-keeper.ensures.shows ∙ ap (λ (rows : List Row). kept rows c.new-1.result) c.new.ensures ∙ ap (kept []) c.new-1.ensures)
+    (c.over-keeper.ensures.shows ∙ ap (λ (rows : List Row). kept rows c.new-2.result) c.new.ensures ∙ ap (kept []) c.new-2.ensures)
     c.below-folder.ensures.shows
     c.of-out.ensures
     c.run_arguments-ended.ensures

@@ -7,7 +7,7 @@ ghost use Rattle.bp_rules.specs.Loading.{LoadsTables};
 
 use crate::refusals::MatterRefusal;
 use crate::stepping::know_numbers;
-use bp_core::{Rule, RuleKind};
+use bp_core::{OutOfMemory, Refusal, Rule, RuleKind};
 use bp_keep::Keeper;
 use bp_matter::laws::rows_law;
 use bp_matter::{Tables, read_tables};
@@ -35,7 +35,12 @@ fn loaded<K: Keeper>(alloc: Global, keeper: &mut K) -> Result<Tables, MatterRefu
     if rows.is_empty() {
         return Err(MatterRefusal::Rule(Rule::bare(RuleKind::NoMatter)));
     }
-    let tables = read_tables(alloc, &rows)?;
-    tables.know_valid();
-    Ok(tables)
+    match read_tables(alloc, &rows) {
+        Ok(tables) => {
+            tables.know_valid();
+            Ok(tables)
+        }
+        Err(Refusal::Rule(rule)) => Err(MatterRefusal::Rule(rule)),
+        Err(Refusal::OutOfMemory) => Err(MatterRefusal::OutOfMemory),
+    }
 }

@@ -153,10 +153,18 @@ fn glyph(alloc: Global, words: &mut Words) -> Result<String> {
         return unread(alloc);
     }
     match rows {
-        Some([a, b, c, d, e, f, g]) => {
-            let upper = format!(in alloc; "{a} {b} {c}")?;
-            Ok(format!(in alloc; "{upper} {d} {e} {f} {g}")?)
-        }
+        Some(rows) => glyph_text(alloc, rows.as_slice()),
         None => constant(alloc, "none"),
     }
+}
+
+fn glyph_text(alloc: Global, rows: &[u8]) -> Result<String> {
+    let mut text = String::new(alloc);
+    for row in rows {
+        if !text.is_empty() {
+            text.push(' ')?;
+        }
+        write!(text, "{row}")?;
+    }
+    Ok(text)
 }

@@ -2,8 +2,8 @@
 //
 //     load dat TEXT..            columns and rows
 //     load dat_written TEXT..    what is written of what was read, or `same` where that is what was read
-//     load dat_writable NAME CELL.. / load dat_writable    whether a table of one column of these
-//                                                          cells, or of none, can be written
+//     load dat_writable NAME CELL    whether a table of one column and one cell can be written; of none
+//                                    where none is given
 //     load opt TEXT.. / load opt_written TEXT..            the same of its lines
 ghost use Rattle.std.specs.Prelude.{◌<◌, ◌^◌, length};
 
@@ -11,9 +11,7 @@ use crate::files::File;
 use crate::told::{constant, of_refusal, unread, yes_or_no};
 use anyhow::Result;
 use bp_core::{ListOf, Text};
-use bp_load::{
-    Dat, OptLine, OptList, TextTable, opt_writable, read_dat, read_opt, write_dat, write_opt,
-};
+use bp_load::{Dat, OptLine, OptList, opt_writable, read_dat, read_opt, write_dat, write_opt};
 use bp_script::{Words, escaped};
 use std::alloc::Global;
 
@@ -102,18 +100,17 @@ fn as_text(alloc: Global, written: &[u8], read: &[u8]) -> Result<String> {
 }
 
 fn dat_writable(alloc: Global, words: &mut Words) -> Result<String> {
-    let columns = if words.has_more() {
-        vec![in alloc; words.text()]?
-    } else {
-        Vec::new(alloc)
-    };
-    let mut rows: TextTable = ListOf::new(alloc);
-    if words.has_more() {
-        let cell = vec![in alloc; words.text()]?;
-        rows = ListOf::from_vec(vec![in alloc; ListOf::from_vec(cell)]?);
+    if !words.has_more() {
+        let empty = Dat::new(ListOf::new(alloc), ListOf::new(alloc));
+        return yes_or_no(alloc, empty.writable());
     }
+    let name = vec![in alloc; words.text()]?;
+    let cell = vec![in alloc; words.text()]?;
+    let row = ListOf::from_vec(cell);
+    let rows = ListOf::from_vec(vec![in alloc; row]?);
+    let dat = Dat::new(ListOf::from_vec(name), rows);
     if words.is_read() {
-        yes_or_no(alloc, Dat::new(ListOf::from_vec(columns), rows).writable())
+        yes_or_no(alloc, dat.writable())
     } else {
         unread(alloc)
     }

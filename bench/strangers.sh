@@ -24,7 +24,7 @@ for tool in tiffcp tiffset tiffinfo ppm2tiff fax2tiff tifftopnm pnmtotiff pbmtog
 done
 
 # the launcher builds the program; these words are no command line
-"$top/tivrenan" build > /dev/null 2>&1 || [ $? -eq 1 ] || stop "the program can't be built"
+"$top/tivrenan" build > /dev/null 2>&1 || stop "the program can't be built"
 
 scratch=$(mktemp -d)
 trap 'rm -rf "$scratch"' EXIT

@@ -17,7 +17,7 @@ if [ $# -gt 1 ]; then
     shift
 else
     # the launcher builds the program; these words are no command line
-    "$top/tivrenan" build > /dev/null 2>&1 || [ $? -eq 1 ] || stop "the program can't be built"
+    "$top/tivrenan" build > /dev/null 2>&1 || stop "the program can't be built"
     set -- "$top/crates/bp_cli/out/bp_cli" burn
 fi
 

@@ -16,8 +16,7 @@ for tool in tifftopnm python3; do
     command -v "$tool" > /dev/null || { echo "refusals.sh: needs $tool (Debian: netpbm, python3)" >&2; exit 1; }
 done
 
-# the launcher builds the program; these words are no command line
-"$top/tivrenan" build > /dev/null 2>&1 || [ $? -eq 1 ] || { echo "refusals.sh: the program can't be built" >&2; exit 1; }
+"$top/tivrenan" build > /dev/null 2>&1 || { echo "refusals.sh: the program can't be built" >&2; exit 1; }
 
 # What the folder holds: a page of 8 by 1 pixels, all white, also in a folder; the letter page in Group 4, and plain.
 # Beside it: the white page with all of it burned, and the letter page with its first pixel burned.
@@ -198,8 +197,17 @@ END
 done
 
 # what the launcher says on standard error
-check "other words explained" plainly 1 'words refused' $same blacken
+check "another command explained" plainly 1 'words refused' $same blacken
+grep -q '^tivrenan: there is no command blacken$' errors || differs "doesn't say which word is wrong"
+check "a word too few explained" plainly 1 'words refused' $same burn white.tif 0 0 8 1 b.tif
+grep -q '^tivrenan: burn takes 7 words: IN L T W H OUT FORM; here are 6$' errors || differs "doesn't say how many words are due"
 grep -q '^usage: tivrenan burn IN L T W H OUT FORM$' errors || differs "doesn't say how the words must look"
+check "another form explained" plainly 1 'words refused' $same burn white.tif 0 0 8 1 b.tif G4
+grep -q '^tivrenan: FORM is plain or g4, and not G4$' errors || differs "doesn't say which word is wrong"
+check "a grey page explained" plainly 2 'refused 85 TiffMeaning 0 258 0' $same burn grey.tif 0 0 8 1 b.tif plain
+grep -q '^tivrenan: The page is grey or in colour[.]' errors || differs "doesn't say what to do"
+check "a missing file explained" plainly 2 'refused 54 FileAbsent 0 0 0' $same burn none.tif 0 0 8 1 b.tif plain
+grep -q '^tivrenan: looked for .*/none[.]tif$' errors || differs "doesn't say which file was looked for"
 check "a rule explained" plainly 2 'refused 13 BoxOutside 0 0 0' $same burn white.tif 0 0 9 1 b.tif plain
 grep -q '^tivrenan: rule 13, BoxOutside: The box passes an edge of the page[.]$' errors || differs "doesn't say which rule"
 check "nothing to explain" plainly 0 'burned 187' "$burned" burn white.tif 0 0 8 1 b.tif plain

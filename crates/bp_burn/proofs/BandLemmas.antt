@@ -1,5 +1,5 @@
 -- The band drawn below a page of the final size, against the definition over the page as it was.
-use Rattle.std.proofs.Common.{ℕ, ◌≡◌, ◌+◌, ◌-◌, ◌*◌, ◌<◌, ◌≤◌, ◌&&◌, ◌||◌, Bool, true, false, nat_le, nat_lt, List, [], length, get_or, replicate, append-nil, refl, sym, ap, ◌∙◌, arith, inl, inr}
+use Rattle.std.proofs.Common.{ℕ, ◌≡◌, ◌+◌, ◌-◌, ◌*◌, ◌<◌, ◌≤◌, ◌&&◌, ◌||◌, Bool, true, false, nat_le, nat_lt, List, [], length, get_or, replicate, append-nil, zero-add, refl, if◌then◌else◌, sym, ap, ◌∙◌, arith, inl, inr}
 use Rattle.std.specs.Prelude.{IsTrue}
 use Rattle.std.proofs.lemmas.Bool.{and_from, and_parts, cases_lt, leb-true, le-leb, lt-ltb, le-ltb}
 use Rattle.std.proofs.lemmas.List.{get_or_append_left, get_or-append_right, get_or-replicate, get_or_past}
@@ -11,9 +11,13 @@ use Rattle.bp_rows.specs.Image.{Image, IsGrid, IsPage, grid_of, pixel}
 use Rattle.bp_rows.specs.Limits.{sides_are_allowed, sides_are_imported}
 use Rattle.bp_burn.specs.Band.{band_texts, banded, produced_of}
 use Rattle.bp_burn.specs.Drawn.{columns_of, is_drawn}
-use Rattle.bp_burn.specs.Ink.{above, inked, with_white_rows}
+use Rattle.bp_burn.specs.Covered.{covered_pixel, covered_rows}
+use Rattle.bp_burn.specs.Ink.{above, changed, inked, with_white_rows}
+use Rattle.bp_core.specs.declared.stamps.Ink.{Ink}
+use Rattle.bp_core.specs.declared.stamps.Stamp.{Stamp}
 use Rattle.bp_burn.proofs.CopyLemmas.{grid_with_rows}
-use Rattle.bp_burn.proofs.InkLemmas.{Figure, inked-alike, inked-inked, inked_is_grid, pixel-inked}
+use Rattle.bp_burn.proofs.ChangeLemmas.{Agree, Change, changed_is_grid, pixel-changed}
+use Rattle.bp_burn.proofs.InkLemmas.{Figure, inked-alike, inked-inked}
 
 swapped : (a b : Bool) → (a || b) ≡ (b || a)
 swapped true true = refl
@@ -57,42 +61,51 @@ pixel_with_rows p more r c grid down across =
           ∙ sym (below_white p r c grid new)
     ]
 
--- a figure that lies in the rows of a page, inked on the higher page
-pub higher_pixel : (p : Image) (more : ℕ) (f g : Figure) (r c : ℕ) → IsGrid p.width p.height p.rows
-    → ((r c : ℕ) → r < p.height → c < p.width → g r c ≡ f r c) → ((r c : ℕ) → p.height ≤ r → c < p.width → g r c ≡ false)
+-- a change of the higher page that agrees with one of the page, and leaves what lies below
+higher_pixel : (p : Image) (more : ℕ) (f g : Change) (r c : ℕ) → IsGrid p.width p.height p.rows
+    → Agree p g f → ((r c : ℕ) (was : Bool) → p.height ≤ r → c < p.width → g r c was ≡ was)
     → r < p.height + more → c < p.width
-    → pixel (inked (with_white_rows p more) g) r c ≡ pixel (inked p f) r c
+    → pixel (changed (with_white_rows p more) g) r c ≡ pixel (changed p f) r c
 higher_pixel p more f g r c grid inside outside down across =
-    pixel-inked (with_white_rows p more) g r c down across ∙ ap (λ b. g r c || b) (pixel_with_rows p more r c grid down across)
+    pixel-changed (with_white_rows p more) g r c down across ∙ ap (g r c) (pixel_with_rows p more r c grid down across)
     ∙ elim (cases_lt r p.height) [
-      | inl old ↦ ap (λ b. b || pixel p r c) (inside r c old across) ∙ sym (pixel-inked p f r c old across)
+      | inl old ↦ inside r c (pixel p r c) old across ∙ sym (pixel-changed p f r c old across)
       | inr new ↦
-          ap (λ b. b || pixel p r c) (outside r c new across) ∙ below_white p r c grid new
-          ∙ sym (below_white (inked p f) r c (inked_is_grid p f) new)
+          outside r c (pixel p r c) new across ∙ below_white p r c grid new
+          ∙ sym (below_white (changed p f) r c (changed_is_grid p f) new)
     ]
 
 -- the band on the higher page is the band of the page
+pub changed_banded : (p : Image) (f g : Change) (label designation : List ℕ) → IsGrid p.width p.height p.rows
+    → Agree p g f → ((r c : ℕ) (was : Bool) → p.height ≤ r → c < p.width → g r c was ≡ was)
+    → inked (changed (with_white_rows p 32) g) (band_texts p.width p.height label designation) ≡ banded (changed p f) label designation
+changed_banded p f g label designation grid inside outside =
+    let texts = band_texts p.width p.height label designation in
+    ap (λ rows. record (with_white_rows p 32) { rows = rows })
+    (same_grid p.width (p.height + 32) (λ r c. texts r c || pixel (changed (with_white_rows p 32) g) r c) (λ r c. texts r c || pixel (changed p f) r c)
+    (λ r c down across. ap (λ b. texts r c || b) (higher_pixel p 32 f g r c grid inside outside down across)))
+
+-- the same of figures that are inked
 pub higher_banded : (p : Image) (f g : Figure) (label designation : List ℕ) → IsGrid p.width p.height p.rows
     → ((r c : ℕ) → r < p.height → c < p.width → g r c ≡ f r c) → ((r c : ℕ) → p.height ≤ r → c < p.width → g r c ≡ false)
     → inked (inked (with_white_rows p 32) g) (band_texts p.width p.height label designation) ≡ banded (inked p f) label designation
 higher_banded p f g label designation grid inside outside =
-    let texts = band_texts p.width p.height label designation in
-    ap (λ rows. record (with_white_rows p 32) { rows = rows })
-    (same_grid p.width (p.height + 32) (λ r c. texts r c || pixel (inked (with_white_rows p 32) g) r c) (λ r c. texts r c || pixel (inked p f) r c)
-    (λ r c down across. ap (λ b. texts r c || b) (higher_pixel p 32 f g r c grid inside outside down across)))
+    changed_banded p (λ r c was. f r c || was) (λ r c was. g r c || was) label designation grid
+    (λ r c was down across. ap (λ b. b || was) (inside r c down across))
+    (λ r c was past across. ap (λ b. b || was) (outside r c past across))
 
 above_inside : (rows : ℕ) (boxes : List Rect) (r c : ℕ) → r < rows → above rows boxes r c ≡ covers boxes r c
 above_inside rows boxes r c down = ap (λ b. b && covers boxes r c) (lt-ltb r rows down)
 
-above_outside : (rows : ℕ) (boxes : List Rect) (r c : ℕ) → rows ≤ r → above rows boxes r c ≡ false
-above_outside rows boxes r c past = ap (λ b. b && covers boxes r c) (le-ltb r rows past)
-
--- burned on the higher page, with the band
-pub produced_made : (p : Image) (boxes : List Rect) (label designation : List ℕ) → IsGrid p.width p.height p.rows
-    → inked (inked (with_white_rows p 32) (above p.height boxes)) (band_texts p.width p.height label designation) ≡ produced_of p boxes label designation
-produced_made p boxes label designation grid =
-    higher_banded p (covers boxes) (above p.height boxes) label designation grid
-    (λ r c down across. above_inside p.height boxes r c down) (λ r c past across. above_outside p.height boxes r c past)
+-- covered on the higher page, with the band
+pub produced_made : (ink : Ink) (p : Image) (stamps : List Stamp) (label designation : List ℕ) → IsGrid p.width p.height p.rows
+    → inked (changed (with_white_rows p 32) (covered_rows p.height 0 ink stamps)) (band_texts p.width p.height label designation) ≡ produced_of ink p stamps label designation
+produced_made ink p stamps label designation grid =
+    changed_banded p (covered_pixel ink stamps) (covered_rows p.height 0 ink stamps) label designation grid
+    (λ r c was down across.
+    ap (λ b. if b then covered_pixel ink stamps (0 + r) c was else was) (lt-ltb r p.height down)
+    ∙ ap (λ n. covered_pixel ink stamps n c was) (zero-add r))
+    (λ r c was past across. ap (λ b. if b then covered_pixel ink stamps (0 + r) c was else was) (le-ltb r p.height past))
 
 five : (a b c d e : Bool) → (a && b && c && d && e) ≡ true → (a ≡ true) × (b ≡ true) × (c ≡ true) × (d ≡ true) × (e ≡ true)
 five a b c d e all =

@@ -6,10 +6,20 @@ use Rattle.bp_codes.specs.Glyphs.{glyph_rows}
 use Rattle.bp_core.specs.declared.rectangle.Rect.{Rect}
 use Rattle.bp_rows.specs.declared.resolution.Unit.TheVariants.{Inch}
 use Rattle.bp_rows.specs.Image.{Image}
-use Rattle.bp_core.specs.declared.review.Basis.TheVariants.{Ac}
+use Rattle.bp_core.specs.declared.review.Basis.{Basis}
+use Rattle.bp_core.specs.declared.review.Basis.TheVariants.{Ac, Pi}
+use Rattle.bp_core.specs.declared.stamps.Ink.{Ink}
+use Rattle.bp_core.specs.declared.stamps.Ink.TheVariants.{Black, Lettered}
+use Rattle.bp_core.specs.declared.stamps.Stamp.{Stamp}
 use Rattle.bp_burn.specs.Band.{band_texts, produced_of, slip_text}
+use Rattle.bp_burn.specs.Covered.{covered, covered_pixel}
 use Rattle.bp_burn.specs.Drawn.{columns_of, has_glyphs, is_drawn}
 use Rattle.bp_burn.specs.Ink.{in_row, inked}
+use Rattle.bp_burn.specs.declared.band.TheConstants.{BAND_ROWS, MARGIN, TEXT_TOP}
+use Rattle.bp_burn.specs.declared.drawing.TheConstants.{COLUMNS, PITCH, SCALE}
+use Rattle.bp_burn.specs.declared.letters.TheConstants.{LETTERED_HEIGHT, LETTERED_WIDTH, LETTERS_IN}
+use Rattle.bp_burn.specs.declared.paper.TheConstants.{SLIP_DOTS}
+use Rattle.bp_burn.specs.declared.slips.TheConstants.{SLIP_HEIGHT, SLIP_LEFT, SLIP_TOP, SLIP_WIDTH}
 
 -- runs of pixels, the first of them of this colour
 abbrev runs : Bool → List ℕ → List Bool
@@ -57,8 +67,13 @@ inked_row = refl
 other_row : inked two_columns (in_row 1 (past_the_edges ∷ [])) ≡ two_columns
 other_row = refl
 
+-- a stamp of a box at this left and this top, so wide and so high
+abbrev stamp : Basis → ℕ → ℕ → ℕ → ℕ → Stamp
+stamp ground left top width height =
+    record { rect = record { left = left; top = top; width = width; height = height }; basis = ground }
+
 -- the box is black in the page, and white in the band, which has no texts here
-produced_page : produced_of two_columns (past_the_edges ∷ []) [] [] ≡ record two_columns { height = 33; rows = (false ∷ true ∷ []) ∷ replicate 32 (false ∷ false ∷ []) }
+produced_page : produced_of Black two_columns (record { rect = past_the_edges; basis = Ac } ∷ []) [] [] ≡ record two_columns { height = 33; rows = (false ∷ true ∷ []) ∷ replicate 32 (false ∷ false ∷ []) }
 unfolding glyph_rows
 produced_page = refl
 
@@ -78,3 +93,62 @@ small_letter = refl
 
 withheld : slip_text Ac ≡ codes "DOCUMENT WITHHELD - AC"
 withheld = refl
+
+-- ---- boxes covered on a white page of 64 by 40: its row 7, the first of the letters
+
+abbrev row_seven : Ink → List Stamp → List Bool
+row_seven ink stamps = map (λ c. covered_pixel ink stamps 7 c false) (range_with_len 0 64)
+
+-- A and C in white, which begin at column 7 and have their first row's pixels three columns further
+large_box : row_seven Lettered (stamp Ac 4 4 39 27 ∷ []) ≡ runs false (4 ∷ 6 ∷ 9 ∷ 9 ∷ 9 ∷ 6 ∷ 21 ∷ [])
+unfolding glyph_rows
+large_box = refl
+
+-- a box that is too narrow, one that is too low, and a large one all black
+narrow_box : row_seven Lettered (stamp Ac 4 4 38 27 ∷ []) ≡ runs false (4 ∷ 38 ∷ 22 ∷ [])
+unfolding glyph_rows
+narrow_box = refl
+
+low_box : row_seven Lettered (stamp Ac 4 4 39 26 ∷ []) ≡ runs false (4 ∷ 39 ∷ 21 ∷ [])
+unfolding glyph_rows
+low_box = refl
+
+black_box : row_seven Black (stamp Ac 4 4 39 27 ∷ []) ≡ runs false (4 ∷ 39 ∷ 21 ∷ [])
+black_box = refl
+
+-- a small box over the letters, and under them
+box_over : row_seven Lettered (stamp Ac 4 4 39 27 ∷ stamp Pi 10 7 5 5 ∷ []) ≡ runs false (4 ∷ 11 ∷ 4 ∷ 9 ∷ 9 ∷ 6 ∷ 21 ∷ [])
+unfolding glyph_rows
+box_over = refl
+
+box_under : row_seven Lettered (stamp Pi 10 7 5 5 ∷ stamp Ac 4 4 39 27 ∷ []) ≡ runs false (4 ∷ 6 ∷ 9 ∷ 9 ∷ 9 ∷ 6 ∷ 21 ∷ [])
+unfolding glyph_rows
+box_under = refl
+
+-- the row above the letters, and the one below them
+above_letters : map (λ c. covered_pixel Lettered (stamp Ac 4 4 39 27 ∷ []) 6 c false) (range_with_len 0 64) ≡ runs false (4 ∷ 39 ∷ 21 ∷ [])
+unfolding glyph_rows
+above_letters = refl
+
+below_letters : map (λ c. covered_pixel Lettered (stamp Ac 4 4 39 27 ∷ []) 28 c false) (range_with_len 0 64) ≡ runs false (4 ∷ 39 ∷ 21 ∷ [])
+unfolding glyph_rows
+below_letters = refl
+
+-- what was black stays black where no box is
+black_beside : map (λ c. covered_pixel Lettered (stamp Ac 4 4 39 27 ∷ []) 7 c true) (range_with_len 0 12) ≡ runs true (10 ∷ 2 ∷ [])
+unfolding glyph_rows
+black_beside = refl
+
+-- ---- the numbers that the definitions cite, in pixels
+
+band_is : (BAND_ROWS ≡ 32) × (TEXT_TOP ≡ 5) × (MARGIN ≡ 16)
+band_is = (refl, refl, refl)
+
+drawing_is : (COLUMNS ≡ 5) × (SCALE ≡ 3) × (PITCH ≡ 18)
+drawing_is = (refl, refl, refl)
+
+letters_are : (LETTERED_WIDTH ≡ 39) × (LETTERED_HEIGHT ≡ 27) × (LETTERS_IN ≡ 3)
+letters_are = (refl, refl, refl)
+
+slip_is : (SLIP_WIDTH ≡ 1700) × (SLIP_HEIGHT ≡ 2200) × (SLIP_DOTS ≡ 200) × (SLIP_TOP ≡ 1000) × (SLIP_LEFT ≡ 200)
+slip_is = (refl, refl, refl, refl, refl)

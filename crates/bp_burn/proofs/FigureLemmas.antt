@@ -31,7 +31,7 @@ regroup true false false f is = refl
 regroup false a true f is = refl
 regroup false a false f is = refl
 
-no_regroup : (g a e f : Bool) → (e ≡ true → f ≡ false) → (e && (g && (a && f))) ≡ false
+pub no_regroup : (g a e f : Bool) → (e ≡ true → f ≡ false) → (e && (g && (a && f))) ≡ false
 no_regroup true true true f is = is refl
 no_regroup true true false f is = refl
 no_regroup true false true f is = refl

@@ -66,7 +66,7 @@ before index whole n r c = nat_lt (index r c) n && whole r c
 abbrev pub part : (ℕ → ℕ → ℕ) → Figure → ℕ → Figure
 part index whole n r c = (index r c == n) && whole r c
 
-part_joins : (j n : ℕ) (b : Bool) → (((j == n) && b) || (nat_lt j n && b)) ≡ (nat_lt j (n + 1) && b)
+pub part_joins : (j n : ℕ) (b : Bool) → (((j == n) && b) || (nat_lt j n && b)) ≡ (nat_lt j (n + 1) && b)
 part_joins j n true = grind (arith, nat_tests)
 part_joins j n false = grind (arith, nat_tests)
 
@@ -77,7 +77,7 @@ part_inked p index whole figure n is =
     inked-inked p (before index whole n) figure (before index whole (n + 1))
     (λ r c down across. ap (λ b. b || before index whole n r c) (is r c down across) ∙ part_joins (index r c) n (whole r c))
 
-none_joins : (b d e : Bool) → b ≡ false → (b || d) ≡ e → d ≡ e
+pub none_joins : (b d e : Bool) → b ≡ false → (b || d) ≡ e → d ≡ e
 none_joins b d e none is = rw none at is
 
 -- a part without a pixel
@@ -87,14 +87,14 @@ part_white p index whole n none =
     inked-alike p (before index whole n) (before index whole (n + 1))
     (λ r c down across. none_joins (part index whole n r c) (before index whole n r c) (before index whole (n + 1) r c) (none r c down across) (part_joins (index r c) n (whole r c)))
 
+pub none_before : (j : ℕ) (b : Bool) → (nat_lt j 0 && b) ≡ false
+none_before j b = grind (arith, nat_tests)
+
 -- no part
 pub no_part : (p : Image) (index : ℕ → ℕ → ℕ) (whole : Figure) → IsGrid p.width p.height p.rows → p ≡ inked p (before index whole 0)
 no_part p index whole grid = inked-nothing p (before index whole 0) grid (λ r c down across. none_before (index r c) (whole r c))
-  where
-    none_before : (j : ℕ) (b : Bool) → (nat_lt j 0 && b) ≡ false
-    none_before j b = grind (arith, nat_tests)
 
-all_before : (j n : ℕ) (b : Bool) → (b ≡ true → j < n) → (nat_lt j n && b) ≡ b
+pub all_before : (j n : ℕ) (b : Bool) → (b ≡ true → j < n) → (nat_lt j n && b) ≡ b
 all_before j n true within = let less = within refl in grind (arith, nat_tests)
 all_before j n false within = grind (arith, nat_tests)
 

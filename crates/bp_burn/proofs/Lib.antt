@@ -1,9 +1,14 @@
 mod AsciiLemmas
 pub mod BandLemmas
 mod BoxPartLemmas
+mod ChangeLemmas
 mod CopyLemmas
+mod CoverLemmas
 mod Examples
 mod FigureLemmas
 pub mod InkLemmas
+mod LetterLemmas
+mod RowLemmas
 mod SlipLemmas
+mod StripLemmas
 mod TextLemmas

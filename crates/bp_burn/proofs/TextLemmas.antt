@@ -10,8 +10,10 @@ use Rattle.std.proofs.lemmas.Nat.Bits.{bit_at-zero}
 use Rattle.bp_core.specs.Characters.{space}
 use Rattle.bp_codes.specs.Bits.{bit}
 use Rattle.bp_codes.specs.Glyphs.{glyph_rows, rows_at}
-use Rattle.bp_burn.specs.Drawn.{glyph_bit, is_drawn, row_bit, rows_of}
+use Rattle.bp_burn.specs.Drawn.{glyph_bit, is_drawn, row_bit, rows_of, text_pixel}
 use Rattle.bp_burn.specs.Figures.{glyph_figure}
+use Rattle.bp_burn.proofs.AsciiLemmas.{rows_short}
+use Rattle.bp_burn.proofs.FigureLemmas.{past_rows}
 use Rattle.bp_burn.proofs.InkLemmas.{part}
 
 -- the place of the character that a column of the drawing belongs to
@@ -128,16 +130,37 @@ space_bit g k =
     ap (λ rows. glyph_bit rows g k) space_rows ∙ ap (λ row. row_bit row k) (white_rows g)
     ∙ none_two (nat_lt k 5) (bit 0 (5 - 1 - k)) (ap (λ n. n == 1) (bit_at-zero (5 - 1 - k)))
 
+-- a pixel past the text's end is white
+pub past_text : (text : List ℕ) (v u : ℕ) → length text ≤ u / 18 → text_pixel text v u ≡ false
+past_text text v u past =
+    ap (λ c. glyph_bit (rows_of c) (v / 3) (u % 18 / 3)) (get_or_past text (u / 18) space past) ∙ space_bit (v / 3) (u % 18 / 3)
+
+-- nor has a character without a glyph any
+pub no_rows_pixel : (text : List ℕ) (v u : ℕ) → rows_of (slice_index_or text (u / 18) space) ≡ [] → text_pixel text v u ≡ false
+no_rows_pixel text v u none =
+    ap (λ rows. glyph_bit rows (v / 3) (u % 18 / 3)) none
+    ∙ none_two (nat_lt (u % 18 / 3) 5) (bit 0 (5 - 1 - u % 18 / 3)) (ap (λ n. n == 1) (bit_at-zero (5 - 1 - u % 18 / 3)))
+
+pub pixel_within : (text : List ℕ) (v u : ℕ) → text_pixel text v u ≡ true → u / 18 < length text
+pixel_within text v u black =
+    elim (cases_lt (u / 18) (length text)) [
+      | inl within ↦ within
+      | inr past ↦ let both : true ≡ false = sym black ∙ past_text text v u past in cc
+    ]
+
 -- a black pixel belongs to a character of the text
 pub text_within : (text : List ℕ) (top left hidden r c : ℕ) → is_drawn text top left hidden r c ≡ true → eighteenth left (c + hidden) < length text
 text_within text top left hidden r c is =
     let x = c + hidden in
-    let columns = (and_parts (nat_le top r) (nat_le left x && glyph_bit (rows_of (slice_index_or text (eighteenth left x) space)) ((r - top) / 3) ((x - left) % 18 / 3)) is).1 in
-    let black = (and_parts (nat_le left x) (glyph_bit (rows_of (slice_index_or text (eighteenth left x) space)) ((r - top) / 3) ((x - left) % 18 / 3)) columns).1 in
-    elim (cases_lt (eighteenth left x) (length text)) [
-      | inl within ↦ within
-      | inr past ↦
-          let white = ap (λ c. glyph_bit (rows_of c) ((r - top) / 3) ((x - left) % 18 / 3)) (get_or_past text (eighteenth left x) space past)
-          ∙ space_bit ((r - top) / 3) ((x - left) % 18 / 3) in
-          let both : true ≡ false = sym black ∙ white in cc
-    ]
+    let columns = (and_parts (nat_le top r) (nat_le left x && text_pixel text (r - top) (x - left)) is).1 in
+    let black = (and_parts (nat_le left x) (text_pixel text (r - top) (x - left)) columns).1 in
+    pixel_within text (r - top) (x - left) black
+
+-- a text has 21 rows
+pub drawn_above : (text : List ℕ) (top left hidden r c : ℕ) → top + 21 ≤ r → is_drawn text top left hidden r c ≡ false
+drawn_above text top left hidden r c past =
+    let rows = rows_of (slice_index_or text ((c + hidden - left) / 18) space) in
+    let k = (c + hidden - left) % 18 / 3 in
+    let below : 7 ≤ (r - top) / 3 = omega arith in
+    none_three (nat_le top r) (nat_le left (c + hidden)) (glyph_bit rows ((r - top) / 3) k)
+    (past_rows rows ((r - top) / 3) k (omega (arith, rows_short (slice_index_or text ((c + hidden - left) / 18) space))))

@@ -2,16 +2,18 @@
 -- look comes from no public standard: it is this product's own.
 use Rattle.std.specs.Prelude.{ℕ, ◌+◌, ◌||◌, Bool, List, ◌++◌, codes}
 use Rattle.bp_core.specs.Review.{basis_code}
-use Rattle.bp_core.specs.declared.rectangle.Rect.{Rect}
 use Rattle.bp_core.specs.declared.review.Basis.{Basis}
-use Rattle.bp_rows.specs.Burned.{burned}
+use Rattle.bp_core.specs.declared.stamps.Ink.{Ink}
+use Rattle.bp_core.specs.declared.stamps.Stamp.{Stamp}
 use Rattle.bp_rows.specs.Image.{Image, grid_of, pixel, white_image}
 use Rattle.bp_rows.specs.declared.resolution.Res.{Res}
 use Rattle.bp_rows.specs.declared.resolution.Unit.TheVariants.{Inch}
+use Rattle.bp_burn.specs.Covered.{covered}
 use Rattle.bp_burn.specs.Drawn.{columns_of, is_drawn}
 use Rattle.bp_burn.specs.Ink.{inked}
 use Rattle.bp_burn.specs.declared.band.TheConstants.{BAND_ROWS, TEXT_TOP, MARGIN}
-use Rattle.bp_burn.specs.declared.slips.TheConstants.{SLIP_WIDTH, SLIP_HEIGHT, SLIP_DOTS, SLIP_TOP, SLIP_LEFT}
+use Rattle.bp_burn.specs.declared.paper.TheConstants.{SLIP_DOTS}
+use Rattle.bp_burn.specs.declared.slips.TheConstants.{SLIP_WIDTH, SLIP_HEIGHT, SLIP_TOP, SLIP_LEFT}
 
 -- the pixel of the texts in the band below a page of these sides: the designation at the left, and
 -- the label at the right
@@ -27,9 +29,9 @@ banded p label designation =
     let texts = band_texts p.width p.height label designation in
     record p { height = height; rows = grid_of p.width height (λ r c. texts r c || pixel p r c) }
 
--- the page that goes out: burned, with its band
-abbrev pub produced_of : Image → List Rect → List ℕ → List ℕ → Image
-produced_of p boxes label designation = banded (burned p boxes) label designation
+-- the page that goes out: its boxes covered, with its band
+abbrev pub produced_of : Ink → Image → List Stamp → List ℕ → List ℕ → Image
+produced_of ink p stamps label designation = banded (covered ink p stamps) label designation
 
 -- dots to the inch
 abbrev pub slip_resolution : Res

@@ -1,7 +1,7 @@
 -- What the steps of drawing a text blacken. A column of the drawing stands `hidden` columns further
 -- left on the page.
-use Rattle.std.specs.Prelude.{ℕ, ◌+◌, ◌-◌, ◌/◌, ◌&&◌, Bool, List, nat_le, nat_lt}
-use Rattle.bp_burn.specs.Drawn.{glyph_bit, row_bit}
+use Rattle.std.specs.Prelude.{ℕ, ◌+◌, ◌-◌, ◌/◌, ◌==◌, ◌&&◌, Bool, List, nat_le, nat_lt}
+use Rattle.bp_burn.specs.Drawn.{glyph_bit, row_bit, text_pixel}
 use Rattle.bp_burn.specs.declared.drawing.TheConstants.{SCALE}
 
 -- a bit
@@ -21,3 +21,7 @@ abbrev pub glyph_figure : List ℕ → ℕ → ℕ → ℕ → ℕ → ℕ → B
 glyph_figure rows top at hidden r c =
     nat_le top r
     && (nat_le at (c + hidden) && glyph_bit rows ((r - top) / SCALE) ((c + hidden - at) / SCALE))
+
+-- row v of a text, in a row of the page from a column on
+abbrev pub text_row : List ℕ → ℕ → ℕ → ℕ → ℕ → ℕ → Bool
+text_row text v row left r c = (r == row) && (nat_le left c && text_pixel text v (c - left))

@@ -1,4 +1,6 @@
 pub mod Band
+pub mod Covered
 pub mod Drawn
 pub mod Figures
 pub mod Ink
+pub mod Strips

@@ -6,10 +6,11 @@ ghost use Rattle.bp_burn.specs.Band.{band_texts, produced_of};
 ghost use Rattle.bp_burn.specs.Drawn.{has_glyphs};
 ghost use Rattle.bp_burn.specs.Ink.{inked};
 
-use crate::burning::{burn_boxes, copy_with_rows};
+use crate::burning::copy_with_rows;
 use crate::drawing::{draw_text, hidden_columns};
+use crate::stamps::cover_rows;
 use bp_codes::glyphs;
-use bp_core::{OutOfMemory, RectList, Text};
+use bp_core::{Ink, OutOfMemory, StampList, Text};
 use bp_rows::Page;
 use std::alloc::Global;
 
@@ -21,12 +22,13 @@ const TEXT_TOP: u32 = 5;
 
 const MARGIN: u32 = 16;
 
-/// The page that goes out: its boxes black, and below it a band of 32 rows, with the designation at
-/// the left and the label at the right, each cut off at the edges of the page.
+/// The page that goes out: its boxes covered, and below it a band of 32 rows, with the designation
+/// at the left and the label at the right, each cut off at the edges of the page.
 pub fn produced(
     alloc: Global,
+    ink: Ink,
     page: &Page,
-    boxes: &RectList,
+    stamps: &StampList,
     label: &Text,
     designation: &Text,
 ) -> Result<Page, OutOfMemory>
@@ -34,11 +36,11 @@ pub fn produced(
     requires label { IsTrue (has_glyphs label.now) }
     requires designation { IsTrue (has_glyphs designation.now) }
     ensures { IfOk result (λ out.
-        out ≡ produced_of page.now boxes.now label.now designation.now) }
+        out ≡ produced_of ink page.now stamps.now label.now designation.now) }
 {
     let height = page.height();
     let mut out = copy_with_rows(alloc, page, BAND_ROWS)?;
-    burn_boxes(&mut out, boxes.as_slice(), height);
+    cover_rows(&mut out, height, 0, ink, stamps.as_slice());
     draw_band(&mut out, height, label, designation);
     Ok(out)
 }

@@ -12,13 +12,13 @@ use bp_rows::Page;
 
 // The rows of a glyph, the columns of one, the sides of a bit in pixels, and the columns from one
 // character to the next in pixels.
-const ROWS: usize = 7;
+pub(crate) const ROWS: usize = 7;
 
-const COLUMNS: u8 = 5;
+pub(crate) const COLUMNS: u8 = 5;
 
-const SCALE: u32 = 3;
+pub(crate) const SCALE: u32 = 3;
 
-const PITCH: u32 = 18;
+pub(crate) const PITCH: u32 = 18;
 
 /// Draws a text, in ASCII, with its upper left corner in the row `top` and the column
 /// `left - hidden`. What lies left or right of the page isn't drawn.
@@ -76,8 +76,8 @@ fn draw_row(page: &mut Page, row: u8, top: u32, at: u128, hidden: u128)
     }
 }
 
-// The bit in a column of a glyph's row.
-fn has_bit(row: u8, place: u8) -> bool
+/// The bit in a column of a glyph's row.
+pub fn has_bit(row: u8, place: u8) -> bool
     requires { place < COLUMNS }
     ensures { result ≡ row_bit row place }
 {

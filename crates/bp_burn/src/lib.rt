@@ -9,12 +9,13 @@ mod band;
 mod burning;
 mod drawing;
 mod glyph_rows;
+mod letters;
+mod paper;
 mod slips;
+mod stamps;
 
 pub use band::produced;
 pub use burning::{burn, burn_in_place, burn_row};
 pub use glyph_rows::{glyph, has_glyphs};
 pub use slips::slip_page;
-
-#[cfg(test)]
-mod tests;
+pub use stamps::covered_runs;

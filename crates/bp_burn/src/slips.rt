@@ -5,17 +5,16 @@ ghost use Rattle.bp_burn.specs.Drawn.{has_glyphs};
 
 use crate::band::{BAND_ROWS, draw_band};
 use crate::drawing::draw_text;
+use crate::paper::white_page;
 use bp_codes::glyphs;
 use bp_core::{Basis, OutOfMemory, Text};
-use bp_rows::{Page, Res, Unit};
+use bp_rows::Page;
 use std::alloc::Global;
 
-// A letter page at 200 dots to the inch, and where its text begins, in pixels.
+// The sides of a letter page at 200 dots to the inch, and where its text begins, in pixels.
 const SLIP_WIDTH: u32 = 1700;
 
 const SLIP_HEIGHT: u32 = 2200;
-
-const SLIP_DOTS: u32 = 200;
 
 const SLIP_TOP: u32 = 1000;
 
@@ -33,14 +32,7 @@ pub fn slip_page(
     requires designation { IsTrue (has_glyphs designation.now) }
     ensures { IfOk result (λ page. page ≡ slip_of basis label.now designation.now) }
 {
-    let dots = Res {
-        num: SLIP_DOTS,
-        den: 1,
-    };
-    let height = SLIP_HEIGHT + BAND_ROWS;
-    let Ok(mut page) = Page::white(alloc, SLIP_WIDTH, height, dots, dots, Unit::Inch) else {
-        return Err(OutOfMemory);
-    };
+    let mut page = white_page(alloc, SLIP_WIDTH, SLIP_HEIGHT + BAND_ROWS)?;
     let text = slip_text(basis).as_bytes();
     draw_text(&mut page, &glyphs(), text, SLIP_TOP, SLIP_LEFT, 0);
     draw_band(&mut page, SLIP_HEIGHT, label, designation);

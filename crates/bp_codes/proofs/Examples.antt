@@ -3,6 +3,7 @@ use Rattle.std.proofs.Common.{◌≡◌, [], ◌∷◌, Ok, Err, length, drop, r
 use Rattle.std.specs.Prelude.{codes, slice_index_or}
 use Rattle.bp_codes.specs.declared.code.NoCode.TheVariants.{Ends, Strange}
 use Rattle.bp_codes.specs.declared.span.Fill.TheVariants.{High, Low}
+use Rattle.bp_codes.specs.declared.span.TheConstants.{AHEAD}
 use Rattle.bp_codes.specs.Bits.{byte_bits, bits_of, code_bits, code_of_bits}
 use Rattle.bp_codes.specs.CodeLists.{white_codes, black_codes, mode_codes, end_of_block, bits_in_print}
 use Rattle.bp_codes.specs.NextCode.{next_row}
@@ -16,6 +17,10 @@ low_bits = refl
 
 two_bytes : bits_of High (1 ∷ 128 ∷ []) ≡ bits_in_print (codes "0000000110000000")
 two_bytes = refl
+
+-- a word holds as many bits of a look-ahead, whatever bit of a byte it begins at
+bits_ahead : AHEAD ≡ 57
+bits_ahead = refl
 
 -- the code of 14 white pixels, 110100
 fourteen : code_of_bits (slice_index_or white_codes 14 []) ≡ record { bits = 52; len = 6 }

@@ -12,6 +12,7 @@ bit number k = bit_at number k == 1
 
 -- the bits of a byte in turn: under High from the bit of value 128 down, under Low from the bit of value 1 up
 -- (TIFF 6.0, section 8, FillOrder 1 and 2)
+-- by TIFF 6.0, section 8, FillOrder 1 and 2
 abbrev pub byte_bits : Fill → ℕ → List Bool
 byte_bits High b =
     bit b 7 ∷ bit b 6 ∷ bit b 5 ∷ bit b 4 ∷ bit b 3 ∷ bit b 2 ∷ bit b 1 ∷ bit b 0 ∷ []
@@ -19,6 +20,7 @@ byte_bits Low b =
     bit b 0 ∷ bit b 1 ∷ bit b 2 ∷ bit b 3 ∷ bit b 4 ∷ bit b 5 ∷ bit b 6 ∷ bit b 7 ∷ []
 
 -- the bits of bytes in turn
+-- by TIFF 6.0, section 8, FillOrder 1 and 2
 abbrev pub bits_of : Fill → List ℕ → List Bool
 bits_of fill bytes = flat_map (byte_bits fill) bytes
 

@@ -62,25 +62,33 @@ common_make_up =
     ++ line (codes "000000010111 000000011100 000000011101 000000011110 000000011111")
 
 -- the three tables, each code as its bits; a proof sees into them only where it says so
+-- by ITU-T T.6, tables 2 and 3
 unfoldable pub white_codes : List (List Bool)
 white_codes = white_terminating ++ white_make_up ++ common_make_up
 
+-- the codes of black runs by their row: terminating codes, then make-up codes
+-- by ITU-T T.6, tables 2 and 3
 unfoldable pub black_codes : List (List Bool)
 black_codes = black_terminating ++ black_make_up ++ common_make_up
 
 -- table 1/T.6: pass, horizontal, and vertical with a1 at b1 (V0), 1, 2 and 3 to its right (VR1 to VR3), and 1, 2
 -- and 3 to its left (VL1 to VL3)
+-- by ITU-T T.6, table 1
 unfoldable pub mode_codes : List (List Bool)
 mode_codes =
     line (codes "0001 001 1 011 000011 0000011 010 000010 0000010")
 
 -- table 1/T.6: what an extension begins with
+-- by ITU-T T.6, table 1 and EOFB
 abbrev pub extension_code : List Bool
 extension_code = bits_in_print (codes "0000001")
 
 -- the end-of-line code of ITU-T T.4; two of them are the end of a facsimile block (EOFB of T.6)
+-- by ITU-T T.6, table 1 and EOFB
 abbrev pub end_code : List Bool
 end_code = bits_in_print (codes "000000000001")
 
+-- the end-of-facsimile-block
+-- by ITU-T T.6, table 1 and EOFB
 abbrev pub end_of_block : List Bool
 end_of_block = end_code ++ end_code

@@ -29,6 +29,7 @@ row_at codes bits = position_from (λ code. begins code bits) 0 codes
 abbrev pub no_code : List (List Bool) → List Bool → NoCode
 no_code codes bits = if list_any (λ code. is_cut code bits) codes then Ends else Strange
 
+-- the row that was found, or why there is none
 abbrev pub row_or : Option ℕ → NoCode → Result ℕ NoCode
 row_or (Some row) none = Ok row
 row_or None none = Err none

@@ -106,19 +106,3 @@ pub fn glyphs() -> GlyphTable<40>
         },
     }
 }
-
-#[cfg(test)]
-mod tests {
-    use super::*;
-
-    #[test]
-    fn capitals_and_signs_have_glyphs(rt: HostRuntime) {
-        let table = glyphs();
-        assert!(rt; table.rows_of('I') == Some([0x0E, 4, 4, 4, 4, 4, 0x0E]));
-        assert!(rt; table.rows_of('.') == Some([0, 0, 0, 0, 0, 0x0C, 0x0C]));
-        assert!(rt; table.rows_of(' ') == Some([0; 7]));
-        for c in ['a', 'z', '@', '[', '/', ':', ',', '\u{c6}', '\u{10ffff}'] {
-            assert!(rt; table.rows_of(c).is_none());
-        }
-    }
-}

@@ -19,6 +19,3 @@ pub use code::{Code, Found, NoCode};
 pub use glyph_table::{GlyphTable, glyphs};
 pub use span::{BitSpan, Fill};
 pub use tables::{CodeTable, black, modes, white};
-
-#[cfg(test)]
-mod tests;

@@ -1,19 +1,26 @@
 -- Worked examples of the definitions in specs/, each run by the check.
-use Rattle.std.proofs.Common.{◌≡◌, ℕ, true, false, List, Some, None, [], ◌∷◌, ◌++◌, refl}
+use Rattle.std.proofs.Common.{◌≡◌, ℕ, true, false, List, Option, Some, None, [], ◌∷◌, ◌++◌, refl}
 use Rattle.std.specs.Prelude.{codes}
 use Rattle.std.specs.Fmt.{digits}
 use Rattle.bp_core.specs.declared.calls.Calls.{Calls}
+use Rattle.bp_core.specs.declared.digits.TheConstants.{MOST_DIGITS}
 use Rattle.bp_core.specs.declared.rectangle.Rect.{Rect}
 use Rattle.bp_core.specs.declared.rules.RuleKind.TheVariants as kinds
+use Rattle.bp_core.specs.declared.refusals.Refusal.TheVariants as refusals
 use Rattle.bp_core.specs.declared.review.Basis.TheVariants.{Ts}
 use Rattle.bp_core.specs.Characters.{full_stop, reverse_solidus}
 use Rattle.bp_core.specs.Paths.{path_in}
+use Rattle.bp_core.specs.Differing.{all_differ, texts_differ}
+use Rattle.bp_core.specs.Digits.{number_in, ordinal_in, unpadded_in}
+use Rattle.bp_core.specs.OptionSteps.{◌>>=◌}
+use Rattle.bp_core.specs.Refusals.{bare_refusal}
 use Rattle.bp_core.specs.Calls.{after_call, is_sure, next_fails, no_calls}
 use Rattle.bp_core.specs.Counts.{risen}
 use Rattle.bp_core.specs.Rectangle.{has_pixel, lies_inside, touches}
 use Rattle.bp_core.specs.Review.{basis_code}
 use Rattle.bp_core.specs.Sorted.{two_keys, row_key, ascends, find_key, put, without}
 use Rattle.bp_core.specs.Rules.{rule_text, bare_rule, rule_at_line, page_limit_rule, bates_full_rule}
+use Rattle.bp_core.specs.Rules.{rule_naming, rule_naming_both, rule_with_line, check_gap_rule, not_listed_rule, not_produced_rule, notice_twice_rule}
 
 -- columns 10 to 29 of rows 2 to 11
 abbrev box : Rect
@@ -95,6 +102,37 @@ sides_printed = refl
 largest_printed : rule_text (bates_full_rule 9999) ≡ codes "31 BatesFull 0 9999 0"
 unfolding digits
 largest_printed = refl
+
+tag_printed : rule_text (rule_naming kinds.TiffMeaning 274) ≡ codes "85 TiffMeaning 0 274 0"
+unfolding digits
+tag_printed = refl
+
+limit_printed : rule_text (rule_naming_both kinds.MatterFull 2 20001) ≡ codes "35 MatterFull 0 2 20001"
+unfolding digits
+limit_printed = refl
+
+page_printed : rule_text (rule_with_line (page_limit_rule 20001 9) 3) ≡ codes "62 PageLimit 3 20001 9"
+unfolding digits
+page_printed = refl
+
+gap_printed : rule_text (check_gap_rule 2 5 3) ≡ codes "112 CheckGap 2 5 3"
+unfolding digits
+gap_printed = refl
+
+unlisted_printed : rule_text (not_listed_rule 4) ≡ codes "117 NotListed 0 4 0"
+unfolding digits
+unlisted_printed = refl
+
+unproduced_printed : rule_text (not_produced_rule 1 3) ≡ codes "122 NotProduced 1 3 0"
+unfolding digits
+unproduced_printed = refl
+
+twice_printed : rule_text (notice_twice_rule 2 1) ≡ codes "123 NoticeTwice 2 1 0"
+unfolding digits
+twice_printed = refl
+
+no_production : bare_refusal kinds.NoProduction ≡ refusals.Rule (record { kind = kinds.NoProduction; line = 0; a = 0; b = 0 })
+no_production = refl
 
 -- a path keeps its parts but `.`, with a solidus between
 path_kept : path_in (codes "a/./b") ≡ Some (codes "a/b")
@@ -200,3 +238,72 @@ not_sure = refl
 
 sure : is_sure (no_calls []) 0 ≡ true
 sure = refl
+
+-- rows that are told apart by a text, and texts by themselves
+abbrev twins : List (List ℕ)
+twins = codes "AC" ∷ codes "WP" ∷ codes "AC" ∷ []
+
+no_twins : texts_differ (codes "AC" ∷ codes "ac" ∷ codes "A" ∷ [] ∷ []) ≡ true
+no_twins = refl
+
+first_and_last : texts_differ twins ≡ false
+first_and_last = refl
+
+told_apart : all_differ (λ n. n ∷ []) three ≡ true
+told_apart = refl
+
+told_by_nothing : all_differ (λ _. []) three ≡ false
+told_by_nothing = refl
+
+-- numbers in digits
+most_digits : MOST_DIGITS ≡ 9
+most_digits = refl
+
+greatest : number_in (codes "999999999") ≡ Some 999999999
+greatest = refl
+
+ten_digits : number_in (codes "0000000001") ≡ None
+ten_digits = refl
+
+no_digit : number_in [] ≡ None
+no_digit = refl
+
+with_a_sign : number_in (codes "+7") ≡ None
+with_a_sign = refl
+
+padded : number_in (codes "0070") ≡ Some 70
+padded = refl
+
+never_padded : unpadded_in (codes "0070") ≡ None
+never_padded = refl
+
+zero_unpadded : unpadded_in (codes "0") ≡ Some 0
+zero_unpadded = refl
+
+two_zeros : unpadded_in (codes "00") ≡ None
+two_zeros = refl
+
+unpadded : unpadded_in (codes "70") ≡ Some 70
+unpadded = refl
+
+never_zeroth : ordinal_in (codes "0") ≡ None
+never_zeroth = refl
+
+seventieth : ordinal_in (codes "70") ≡ Some 70
+seventieth = refl
+
+never_padded_either : ordinal_in (codes "07") ≡ None
+never_padded_either = refl
+
+-- steps of which each may find nothing
+abbrev both : Option ℕ → Option ℕ → Option ℕ
+both one two = do
+  found ← one
+  _ ← two
+  Some found
+
+each_found : both (ordinal_in (codes "7")) (number_in (codes "0")) ≡ Some 7
+each_found = refl
+
+one_found : both (ordinal_in (codes "7")) (ordinal_in (codes "0")) ≡ None
+one_found = refl

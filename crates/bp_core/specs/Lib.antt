@@ -2,9 +2,14 @@ pub mod Answers
 pub mod Calls
 pub mod Characters
 pub mod Counts
+pub mod Differing
+pub mod Digits
 pub mod InTurn
+pub mod OptionSteps
 pub mod Paths
 pub mod Rectangle
+pub mod Refusals
 pub mod Review
+pub mod RuleSteps
 pub mod Rules
 pub mod Sorted

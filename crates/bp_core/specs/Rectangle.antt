@@ -4,6 +4,7 @@ use Rattle.std.specs.Prelude.{ℕ, ◌+◌, ◌<◌, ◌≤◌, Bool, nat_le, na
 use Rattle.bp_core.specs.declared.rectangle.Rect.{Rect}
 
 -- the pixel in that row and column lies in the rectangle
+-- by rows and columns as in TIFF 6.0, section 8, Orientation 1
 pub record HasPixel (r : Rect) (row col : ℕ) : Type 0 where
   pub below_top : r.top ≤ row
   pub above_bottom : row < r.top + r.height
@@ -11,6 +12,7 @@ pub record HasPixel (r : Rect) (row col : ℕ) : Type 0 where
   pub to_right : col < r.left + r.width
 
 -- the same as a test
+-- by rows and columns as in TIFF 6.0, section 8, Orientation 1
 abbrev pub has_pixel : Rect → ℕ → ℕ → Bool
 has_pixel r row col =
     nat_le r.top row && nat_lt row (r.top + r.height)

@@ -77,10 +77,26 @@ rule_entry kinds.TiffMeaning = entry 85 (codes "TiffMeaning")
 rule_entry kinds.TiffManyPages = entry 86 (codes "TiffManyPages")
 rule_entry kinds.TiffStrips = entry 87 (codes "TiffStrips")
 rule_entry kinds.KeptRowBad = entry 90 (codes "KeptRowBad")
+rule_entry kinds.CheckColumns = entry 110 (codes "CheckColumns")
+rule_entry kinds.CheckLabel = entry 111 (codes "CheckLabel")
+rule_entry kinds.CheckGap = entry 112 (codes "CheckGap")
+rule_entry kinds.CheckBreaks = entry 113 (codes "CheckBreaks")
+rule_entry kinds.CheckCount = entry 114 (codes "CheckCount")
+rule_entry kinds.ManifestShape = entry 115 (codes "ManifestShape")
+rule_entry kinds.DigestDiffers = entry 116 (codes "DigestDiffers")
+rule_entry kinds.NotListed = entry 117 (codes "NotListed")
+rule_entry kinds.NoticeShape = entry 120 (codes "NoticeShape")
+rule_entry kinds.NoticeEmpty = entry 121 (codes "NoticeEmpty")
+rule_entry kinds.NotProduced = entry 122 (codes "NotProduced")
+rule_entry kinds.NoticeTwice = entry 123 (codes "NoticeTwice")
+rule_entry kinds.NotReceiver = entry 130 (codes "NotReceiver")
+rule_entry kinds.GrantShape = entry 131 (codes "GrantShape")
 
+-- the number of a rule
 abbrev pub rule_number : RuleKind → ℕ
 rule_number kind = (rule_entry kind).number
 
+-- the name of a rule
 abbrev pub rule_name : RuleKind → List ℕ
 rule_name kind = (rule_entry kind).name
 
@@ -99,6 +115,34 @@ page_limit_rule width height = record (bare_rule kinds.PageLimit) { a = width; b
 -- the numbers under a prefix end at this one
 abbrev pub bates_full_rule : ℕ → Rule
 bates_full_rule largest = record (bare_rule kinds.BatesFull) { a = largest }
+
+-- a rule that names one value
+abbrev pub rule_naming : RuleKind → ℕ → Rule
+rule_naming k value = record (bare_rule k) { a = value }
+
+-- a rule that names two values
+abbrev pub rule_naming_both : RuleKind → ℕ → ℕ → Rule
+rule_naming_both k value other = record (bare_rule k) { a = value; b = other }
+
+-- the same rule at a line of a file
+abbrev pub rule_with_line : Rule → ℕ → Rule
+rule_with_line rule n = record rule { line = n }
+
+-- the label at this line of an OPT file has another number than the one that follows
+abbrev pub check_gap_rule : ℕ → ℕ → ℕ → Rule
+check_gap_rule n due found = record { kind = kinds.CheckGap; line = n; a = due; b = found }
+
+-- the file at this place of a volume, counted from 0, isn't in its manifest
+abbrev pub not_listed_rule : ℕ → Rule
+not_listed_rule place = rule_naming kinds.NotListed place
+
+-- the document that this record of a notice names is not produced
+abbrev pub not_produced_rule : ℕ → ℕ → Rule
+not_produced_rule n doc = record (rule_at_line kinds.NotProduced n) { a = doc }
+
+-- the document that this record of a notice names has an earlier record
+abbrev pub notice_twice_rule : ℕ → ℕ → Rule
+notice_twice_rule n doc = record (rule_at_line kinds.NoticeTwice n) { a = doc }
 
 -- what is printed of a rule: number, name, line and the two values
 abbrev pub rule_words : Rule → List (List ℕ)

@@ -5,6 +5,7 @@ ghost use Rattle.std.specs.Cmp.Lexicographic.{pointwise};
 use crate::kept::{Put, Row};
 use crate::rectangle::Rect;
 use crate::refusals::OutOfMemory;
+use crate::stamps::Stamp;
 use crate::texts::Text;
 use std::alloc::Global;
 use std::marker::Model;
@@ -18,6 +19,8 @@ pub struct ListOf<T> {
 pub type TextList = ListOf<Text>;
 
 pub type RectList = ListOf<Rect>;
+
+pub type StampList = ListOf<Stamp>;
 
 pub type RowList = ListOf<Row>;
 

@@ -10,7 +10,7 @@ ghost use Rattle.bp_core.specs.Paths.{is_slash, is_dot, is_refused_part, path_pa
 ghost use Rattle.bp_core.specs.Rules.{bare_rule};
 
 use crate::refusals::{OutOfMemory, Refusal};
-use crate::rules::{Rule, RuleKind};
+use crate::rules::RuleKind;
 use crate::texts::Text;
 use std::alloc::{AllocError, Global};
 
@@ -26,7 +26,7 @@ pub fn path_of(alloc: Global, text: &str) -> Result<Text, Refusal>
         → result ≡ Err (Refusal.Rule (bare_rule RuleKind.PathRefused)) }
 {
     if !is_path(text) {
-        return Err(Refusal::Rule(Rule::bare(RuleKind::PathRefused)));
+        return Err(Refusal::bare(RuleKind::PathRefused));
     }
     Ok(joined_parts(alloc, text)?)
 }

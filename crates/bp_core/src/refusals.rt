@@ -1,7 +1,7 @@
 // The answers of a call that couldn't do what was asked.
 ghost use Rattle.std.specs.Prelude.{◌≡◌};
 
-use crate::rules::Rule;
+use crate::rules::{Rule, RuleKind};
 use std::alloc::{AllocError, AllocFailed};
 use std::convert::From;
 use thiserror::Error;
@@ -32,6 +32,17 @@ pub enum Refusal {
     /// There was too little memory.
     #[error("out of memory")]
     OutOfMemory,
+}
+
+impl Refusal {
+    ghost use Rattle.bp_core.specs.Refusals.{bare_refusal};
+
+    /// By a rule that uses no line and no value.
+    pub fn bare(kind: RuleKind) -> Refusal
+        ensures { result ≡ bare_refusal kind }
+    {
+        Refusal::Rule(Rule::bare(kind))
+    }
 }
 
 impl From<Rule> for Refusal {

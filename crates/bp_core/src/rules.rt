@@ -1,7 +1,9 @@
 // The rules that a request can break, with the number and the name under which each is printed.
 ghost use Rattle.std.specs.Prelude.{◌≡◌};
 ghost use Rattle.bp_core.specs.Rules.{rule_number, rule_name, bare_rule, rule_at_line, page_limit_rule, bates_full_rule};
+ghost use Rattle.bp_core.specs.Rules.{rule_naming, rule_naming_both, rule_with_line, check_gap_rule, not_listed_rule, not_produced_rule, notice_twice_rule};
 
+use crate::numbers::DocNo;
 use std::fmt;
 
 /// A rule that a request can break.
@@ -127,6 +129,34 @@ pub enum RuleKind {
     TiffStrips,
     /// A kept row is not of its form: `a` is its kind, `b` is k1 times 2^32 plus k2.
     KeptRowBad,
+    /// The DAT file of a volume has no column BEGDOC or ENDDOC, or a column twice.
+    CheckColumns,
+    /// The label of OPT `line` doesn't end in 1 to 18 digits.
+    CheckLabel,
+    /// The label of OPT `line` isn't the one that follows: `a` is the number due, `b` the number found.
+    CheckGap,
+    /// The documents of the OPT file and the records of the DAT file part at OPT line `line`.
+    CheckBreaks,
+    /// The count of pages of the document at OPT `line` is wrong, or stands where none may.
+    CheckCount,
+    /// `line` of the manifest is not of its form.
+    ManifestShape,
+    /// The file at `line` of the manifest has another digest.
+    DigestDiffers,
+    /// A file of the volume isn't in the manifest: `a` is its place among them, from 0.
+    NotListed,
+    /// Record `line` of the notice is not of its form.
+    NoticeShape,
+    /// The notice has no record.
+    NoticeEmpty,
+    /// The document of record `line` isn't produced, or is withheld; `a` is its number.
+    NotProduced,
+    /// The document of record `line` has an earlier record; `a` is its number.
+    NoticeTwice,
+    /// No receiver has that number of the staff.
+    NotReceiver,
+    /// Record `line` of the grants is not of its form.
+    GrantShape,
 }
 
 /// A broken rule: which one, the line of a file where there is one, and two values that the rule
@@ -162,25 +192,72 @@ impl Rule {
         }
     }
 
+    /// A rule that names one value: the number of what is there or missing, a tag, a largest.
+    pub fn naming(kind: RuleKind, a: u64) -> Rule
+        ensures { result ≡ rule_naming kind a }
+    {
+        Rule::naming_both(kind, a, 0)
+    }
+
+    /// A rule that names two values.
+    pub fn naming_both(kind: RuleKind, a: u64, b: u64) -> Rule
+        ensures { result ≡ rule_naming_both kind a b }
+    {
+        Rule {
+            a,
+            b,
+            ..Rule::bare(kind)
+        }
+    }
+
+    /// The same rule, broken at this line or record of a file, counted from 1.
+    pub fn with_line(self, line: u32) -> Rule
+        ensures { result ≡ rule_with_line self line }
+    {
+        Rule { line, ..self }
+    }
+
     /// PageLimit, with sides in pixels that a page may not have.
     pub fn page_limit(width: u32, height: u32) -> Rule
         ensures { result ≡ page_limit_rule width height }
     {
-        Rule {
-            a: u64::from(width),
-            b: u64::from(height),
-            ..Rule::bare(RuleKind::PageLimit)
-        }
+        Rule::naming_both(RuleKind::PageLimit, u64::from(width), u64::from(height))
     }
 
     /// BatesFull, with the largest number under the prefix.
     pub fn bates_full(largest: u64) -> Rule
         ensures { result ≡ bates_full_rule largest }
     {
-        Rule {
-            a: largest,
-            ..Rule::bare(RuleKind::BatesFull)
-        }
+        Rule::naming(RuleKind::BatesFull, largest)
+    }
+
+    /// CheckGap at a line of an OPT file, counted from 1: the number that is due in its label, which
+    /// is one more than that of the line before, and the number that was found.
+    pub fn check_gap(line: u32, due: u64, found: u64) -> Rule
+        ensures { result ≡ check_gap_rule line due found }
+    {
+        Rule::naming_both(RuleKind::CheckGap, due, found).with_line(line)
+    }
+
+    /// NotListed, with the place of the file among those of the volume, counted from 0.
+    pub fn not_listed(place: u64) -> Rule
+        ensures { result ≡ not_listed_rule place }
+    {
+        Rule::naming(RuleKind::NotListed, place)
+    }
+
+    /// NotProduced, with the record of a notice, counted from 1, and the document that it names.
+    pub fn not_produced(place: u32, doc: DocNo) -> Rule
+        ensures { result ≡ not_produced_rule place doc.0 }
+    {
+        Rule::naming(RuleKind::NotProduced, u64::from(doc.0)).with_line(place)
+    }
+
+    /// NoticeTwice, with the record of a notice, counted from 1, and the document that it names.
+    pub fn notice_twice(place: u32, doc: DocNo) -> Rule
+        ensures { result ≡ notice_twice_rule place doc.0 }
+    {
+        Rule::naming(RuleKind::NoticeTwice, u64::from(doc.0)).with_line(place)
     }
 
     /// The number of the rule.
@@ -282,5 +359,19 @@ fn number_and_name(kind: RuleKind) -> (u16, &'static str)
         RuleKind::TiffManyPages => (86, "TiffManyPages"),
         RuleKind::TiffStrips => (87, "TiffStrips"),
         RuleKind::KeptRowBad => (90, "KeptRowBad"),
+        RuleKind::CheckColumns => (110, "CheckColumns"),
+        RuleKind::CheckLabel => (111, "CheckLabel"),
+        RuleKind::CheckGap => (112, "CheckGap"),
+        RuleKind::CheckBreaks => (113, "CheckBreaks"),
+        RuleKind::CheckCount => (114, "CheckCount"),
+        RuleKind::ManifestShape => (115, "ManifestShape"),
+        RuleKind::DigestDiffers => (116, "DigestDiffers"),
+        RuleKind::NotListed => (117, "NotListed"),
+        RuleKind::NoticeShape => (120, "NoticeShape"),
+        RuleKind::NoticeEmpty => (121, "NoticeEmpty"),
+        RuleKind::NotProduced => (122, "NotProduced"),
+        RuleKind::NoticeTwice => (123, "NoticeTwice"),
+        RuleKind::NotReceiver => (130, "NotReceiver"),
+        RuleKind::GrantShape => (131, "GrantShape"),
     }
 }

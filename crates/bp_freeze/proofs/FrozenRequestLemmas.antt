@@ -13,7 +13,8 @@ use Rattle.bp_matter.specs.Matter.{Matter}
 use Rattle.bp_matter.specs.Texts.{is_column_name, is_id, is_id_character, is_volume, is_volume_character}
 use Rattle.bp_matter.specs.ValidFields.{FieldFacts, field_name, has_field}
 use Rattle.bp_matter.specs.ValidProductions.{field_chosen, itself, request_fits}
-use Rattle.bp_matter.specs.ValidRows.{all_differ, names}
+use Rattle.bp_core.specs.Differing.{all_differ}
+use Rattle.bp_matter.specs.ValidRows.{names}
 use Rattle.bp_matter.specs.Written.{are_few, field_written, is_short, is_word, request_written}
 use Rattle.bp_matter.specs.declared.limits.TheConstants.{MAX_PRODUCTIONS}
 use Rattle.bp_matter.specs.declared.rows.DocRow.{DocRow}

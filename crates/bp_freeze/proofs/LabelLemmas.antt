@@ -13,7 +13,7 @@ use Rattle.bp_matter.specs.Matter.{Matter}
 use Rattle.bp_matter.specs.Valid.{IsValid}
 use Rattle.bp_matter.specs.ValidPrefixes.{after_items, after_productions, is_under, prefix_fits, spans_reach}
 use Rattle.bp_matter.specs.ValidProductions.{has_prefix, itself}
-use Rattle.bp_matter.specs.ValidRows.{all_differ}
+use Rattle.bp_core.specs.Differing.{all_differ}
 use Rattle.bp_matter.specs.declared.rows.PrefixRow.{PrefixRow}
 use Rattle.bp_matter.specs.declared.rows.ProductionRow.{ProductionRow}
 use Rattle.bp_freeze.specs.Numbers.{all_labels, numbers_under, production_labels, production_numbers}

@@ -3,7 +3,7 @@ use Rattle.std.proofs.Common.{◌≡◌, ℕ, ◌+◌, ◌≤◌, Bool, true, fa
 use Rattle.std.specs.List.{list_all, list_any}
 use Rattle.std.specs.Str.{bytes_eq}
 use Rattle.std.proofs.lemmas.Bool.{and_parts, and_from, or_parts, or_cases, or_left, or_right, not-true, cases_Bool, false_from_ne_true}
-use Rattle.bp_matter.specs.ValidRows.{all_differ}
+use Rattle.bp_core.specs.Differing.{all_differ}
 use Rattle.bp_freeze.proofs.PutRowLemmas.{same-text, text-same}
 
 -- the list without the first that passes

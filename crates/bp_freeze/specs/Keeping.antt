@@ -49,6 +49,7 @@ abbrev pub after_freeze : Option Production → Production → Matter → Matter
 after_freeze (Some kept) f m = m
 after_freeze None f m = with_production f m
 
+-- the matter after a production was frozen, or found
 abbrev pub frozen_matter : Production → Matter → Matter
 frozen_matter f m = after_freeze (kept_production m.productions f.request.id) f m
 

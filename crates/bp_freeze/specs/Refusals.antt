@@ -10,7 +10,7 @@ use Rattle.bp_bates.specs.Prefixes.{is_good_prefix}
 use Rattle.bp_bates.specs.Spans.{largest_of}
 use Rattle.bp_matter.specs.Texts.{is_column_name, is_id, is_volume}
 use Rattle.bp_matter.specs.ValidProductions.{itself}
-use Rattle.bp_matter.specs.ValidRows.{all_differ}
+use Rattle.bp_core.specs.Differing.{all_differ}
 use Rattle.bp_matter.specs.declared.limits.TheConstants.{MAX_PRODUCTIONS}
 use Rattle.bp_matter.specs.declared.rows.PrefixRow.{PrefixRow}
 use Rattle.bp_matter.specs.declared.rows.ProductionRow.{ProductionRow}

@@ -8,6 +8,7 @@ ghost use Rattle.bp_matter.specs.Treatments.{is_withheld};
 
 use crate::marks::is_marked;
 use bp_core::{DocNo, Treatment};
+use bp_matter::treatments::is_withheld;
 use bp_matter::{CallRow, State, Tables};
 
 // The parent of a document.
@@ -102,10 +103,4 @@ fn is_confirmed(state: State) -> bool
     ensures { result ≡ is_confirmed state }
 {
     matches!(state, State::Confirmed(_, _))
-}
-
-fn is_withheld(treatment: Treatment) -> bool
-    ensures { result ≡ is_withheld treatment }
-{
-    matches!(treatment, Treatment::Withhold(_))
 }

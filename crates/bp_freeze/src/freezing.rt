@@ -12,11 +12,11 @@ ghost use Rattle.bp_freeze.specs.Seeing.{decisions_of, is_produced, seen_of};
 ghost use Rattle.bp_freeze.specs.Selecting.{first_number, last_number};
 
 use crate::families::{first_split, first_unsettled, responsive_marks};
-use crate::items::{copy_text, take_items};
+use crate::items::take_items;
 use crate::marks::produced_marks;
 use crate::requests::{request_refusal, rule_with, same_request};
-use bp_bates::{Prefix, Span, largest};
-use bp_core::{ListOf, OutOfMemory, Refusal, Rule, RuleKind, Text, TextList};
+use bp_bates::{Span, largest};
+use bp_core::{ListOf, OutOfMemory, Refusal, Rule, RuleKind, Text};
 use bp_matter::{Item, MAX_PRODUCTIONS, Production, Request, Tables};
 use std::alloc::Global;
 
@@ -202,35 +202,8 @@ fn production_of(
     ensures { IfOk result (λ f. f ≡ production_of request.now items.items) }
 {
     Ok(Production {
-        request: copy_request(alloc, request)?,
+        request: request.copy(alloc)?,
         items: ListOf::from_vec(items),
         span,
     })
-}
-
-fn copy_request(alloc: Global, request: &Request) -> Result<Request, OutOfMemory>
-    ensures { IfOk result (λ copy. copy ≡ request.now) }
-{
-    let prefix = Prefix {
-        text: copy_text(&request.prefix.text)?,
-        width: request.prefix.width,
-    };
-    Ok(Request {
-        id: copy_text(&request.id)?,
-        volume: copy_text(&request.volume)?,
-        prefix,
-        from: request.from,
-        to: request.to,
-        fields: copy_texts(alloc, &request.fields)?,
-    })
-}
-
-fn copy_texts(alloc: Global, texts: &TextList) -> Result<TextList, OutOfMemory>
-    ensures { IfOk result (λ copies. copies ≡ texts.now) }
-{
-    let mut copies = Vec::new(alloc);
-    for text in texts.as_slice() {
-        copies.push(copy_text(text)?)?;
-    }
-    Ok(ListOf::from_vec(copies))
 }

@@ -120,19 +120,8 @@ fn entry_of(row: Option<&DocEntry>) -> Result<Option<Entry>, OutOfMemory>
 {
     match row {
         None => Ok(None),
-        Some(row) => Ok(Some(copy_entry(&row.entry)?)),
+        Some(row) => Ok(Some(row.entry.copy()?)),
     }
-}
-
-fn copy_entry(entry: &Entry) -> Result<Entry, OutOfMemory>
-    ensures { IfOk result (λ copy. copy ≡ entry.now) }
-{
-    Ok(Entry {
-        date: copy_text(&entry.date)?,
-        author: copy_text(&entry.author)?,
-        recipients: copy_text(&entry.recipients)?,
-        description: copy_text(&entry.description)?,
-    })
 }
 
 fn designation_of(alloc: Global, call: Option<&CallRow>) -> Result<Text, OutOfMemory>

@@ -15,9 +15,6 @@ mod log;
 mod loggable;
 mod marks;
 mod requests;
-#[cfg(test)]
-mod tests;
-mod texts;
 
 pub use freezing::freeze;
 pub use laws::{

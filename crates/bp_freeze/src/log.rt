@@ -12,6 +12,7 @@ ghost use Rattle.bp_freeze.specs.Writing.{AddsLine, IsBetween, IsRow, is_one_lin
 
 use bp_bates::{Prefix, label_into};
 use bp_core::{Basis, Bytes, OutOfMemory, Text, Treatment};
+use bp_matter::treatments::{is_privileged, is_withheld};
 use bp_matter::{BoxRow, Entry, HeldRow, Item, Production};
 use csv::{ByteRecord, Writer, WriterBuilder};
 use std::alloc::Global;
@@ -176,12 +177,6 @@ pub(crate) fn is_logged(item: &Item) -> bool
         || has_privileged_field(item.held.as_slice())
 }
 
-fn is_withheld(treatment: Treatment) -> bool
-    ensures { result ≡ is_withheld treatment }
-{
-    matches!(treatment, Treatment::Withhold(_))
-}
-
 fn has_privileged_box(boxes: &[BoxRow]) -> bool
     ensures { result ≡ list_any (λ box. is_privileged box.basis) boxes.now }
 {
@@ -192,12 +187,6 @@ fn has_privileged_field(held: &[HeldRow]) -> bool
     ensures { result ≡ list_any (λ held. is_privileged held.basis) held.now }
 {
     held.iter().any(|row| is_privileged(row.basis))
-}
-
-fn is_privileged(basis: Basis) -> bool
-    ensures { result ≡ is_privileged basis }
-{
-    matches!(basis, Basis::Ac | Basis::Wp)
 }
 
 // What became of the document.

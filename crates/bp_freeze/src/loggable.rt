@@ -9,8 +9,7 @@ ghost use Rattle.bp_freeze.specs.Log.{CanBeLogged, entry_stands, span_fits};
 
 use crate::log::is_logged;
 use bp_bates::{good_prefix, largest};
-use bp_core::Text;
-use bp_matter::{Entry, Item, MAX_DESCRIPTION, MAX_NAME, Production};
+use bp_matter::{Item, Production, optional_fits};
 
 /// Whether the production has a good prefix, spans of numbers up to the largest of its width, an
 /// entry in each item that the log lists, and entries whose texts a call accepts.
@@ -52,46 +51,4 @@ fn entry_stands(item: &Item) -> bool
     ensures { result ≡ entry_stands item.now }
 {
     (!is_logged(item) || item.entry.is_some()) && optional_fits(&item.entry)
-}
-
-fn optional_fits(entry: &Option<Entry>) -> bool
-    ensures { result ≡ optional_fits entry.now }
-{
-    match entry {
-        None => true,
-        Some(entry) => entry_fits(entry),
-    }
-}
-
-fn entry_fits(entry: &Entry) -> bool
-    ensures { result ≡ entry_fits entry.now }
-{
-    is_text(&entry.date, MAX_NAME)
-        && is_text(&entry.author, MAX_NAME)
-        && is_text(&entry.recipients, MAX_NAME)
-        && is_text(&entry.description, MAX_DESCRIPTION)
-}
-
-fn is_text(text: &Text, limit: usize) -> bool
-    ensures { result ≡ is_text limit text.now }
-{
-    text.len() <= limit && are_text_characters(text)
-}
-
-fn are_text_characters(text: &Text) -> bool
-    ensures { result ≡ list_all is_text_character text.now }
-{
-    text.as_str().chars().all(|c| is_text_character(c))
-}
-
-fn is_text_character(c: char) -> bool
-    ensures { result ≡ is_text_character c }
-{
-    is_plain_character(c) && c as u32 != 0xFE
-}
-
-fn is_plain_character(c: char) -> bool
-    ensures { result ≡ is_plain_character c }
-{
-    c as u32 >= 32 && c as u32 != 127
 }

@@ -9,9 +9,9 @@ ghost use Rattle.bp_freeze.specs.Freezing.{same_request};
 ghost use Rattle.bp_freeze.specs.Refusals.{among, are_choosable, first_rule, is_range, is_taken, request_rules, rule_with, same_width};
 ghost use Rattle.bp_freeze.specs.Seeing.{decisions_of};
 
-use crate::texts::{all_differ, is_column_name, is_id, is_volume};
 use bp_bates::good_prefix;
-use bp_core::{OutOfMemory, Rule, RuleKind, Text};
+use bp_core::{OutOfMemory, Rule, RuleKind, Text, texts_differ};
+use bp_matter::texts::{is_column_name, is_id, is_volume};
 use bp_matter::{FieldRow, PrefixRow, ProductionRow, Request, Tables};
 use std::alloc::Global;
 
@@ -62,7 +62,7 @@ fn is_taken(productions: &[ProductionRow], volume: &Text) -> bool
 fn are_choosable(alloc: Global, names: &[Text]) -> Result<bool, OutOfMemory>
     ensures { IfOk result (λ choosable. choosable ≡ are_choosable names.now) }
 {
-    if !all_differ(alloc, names)? {
+    if !texts_differ(alloc, names)? {
         return Ok(false);
     }
     Ok(!has_column(names))

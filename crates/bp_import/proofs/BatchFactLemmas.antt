@@ -15,7 +15,7 @@ use Rattle.bp_load.specs.declared.opt.OptLine.{OptLine}
 use Rattle.bp_matter.specs.Batches.{BatchShown, IsBatch, batch_doc_fits, batch_doc_written, batch_page_fits, batch_page_written, batch_word_fits, pages_in, parents_stand}
 use Rattle.bp_matter.specs.Texts.{is_batch_name, is_field_name, is_id_of_doc, is_id_of_doc_character, is_name_character, is_value, is_value_character, is_word_text}
 use Rattle.bp_matter.specs.ValidProductions.{itself}
-use Rattle.bp_matter.specs.ValidRows.{all_differ}
+use Rattle.bp_core.specs.Differing.{all_differ}
 use Rattle.bp_matter.specs.Written.{are_few, image_written, is_short, is_word, word_written}
 use Rattle.bp_matter.specs.declared.batches.BatchDoc.{BatchDoc}
 use Rattle.bp_matter.specs.declared.batches.BatchPage.{BatchPage}

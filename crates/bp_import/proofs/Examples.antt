@@ -25,10 +25,28 @@ use Rattle.bp_import.specs.Files.{dat_path, file_read, file_rule}
 use Rattle.bp_import.specs.Records.{fields_of, record_of}
 use Rattle.bp_import.specs.Scans.{LinesAnswer, Scan, scan_of, scan_read}
 use Rattle.bp_import.specs.WordPages.{places_of, words_inside, words_on}
+use Rattle.bp_import.specs.declared.columns.TheConstants.{MAX_COLUMN}
 use Rattle.bp_import.specs.declared.files.TheConstants.{DAT, FILE_LIMIT, IMAGE, OPT, WORDS}
 use Rattle.bp_import.specs.declared.records.Record.{Record}
 
+-- ---- which file a rule is of
+
+dat_file : DAT ≡ 0
+dat_file = refl
+
+opt_file : OPT ≡ 1
+opt_file = refl
+
+words_file : WORDS ≡ 2
+words_file = refl
+
+image_file : IMAGE ≡ 3
+image_file = refl
+
 -- ---- columns
+
+most_of_a_column : MAX_COLUMN ≡ 64
+most_of_a_column = refl
 
 abbrev least : List (List ℕ)
 least = codes "BEGDOC" ∷ codes "BEGATTACH" ∷ []

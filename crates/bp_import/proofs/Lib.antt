@@ -1,6 +1,5 @@
 pub mod ScanLemmas
 pub mod ScanTurns
-pub mod ColumnLemmas
 pub mod BreakLemmas
 pub mod TableLemmas
 pub mod TurnLemmas

@@ -14,7 +14,7 @@ use Rattle.bp_load.specs.Table.{Table}
 use Rattle.bp_load.specs.declared.opt.OptLine.{OptLine}
 use Rattle.bp_matter.specs.Texts.{is_field_name, is_name_character, is_value, is_value_character}
 use Rattle.bp_matter.specs.ValidProductions.{itself}
-use Rattle.bp_matter.specs.ValidRows.{all_differ}
+use Rattle.bp_core.specs.Differing.{all_differ}
 use Rattle.bp_import.specs.Columns.{are_columns, is_begattach, is_begdoc, is_column, is_field, table_of}
 use Rattle.bp_import.specs.Records.{cell_under, field_cells, fields_of, record_of, records_of}
 use Rattle.bp_import.specs.declared.columns.TheConstants.{MAX_COLUMN}

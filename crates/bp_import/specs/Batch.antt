@@ -102,6 +102,7 @@ pub record ImagesAnswer (files : FileMap) (plan : Plan) (answer : Result BatchSh
   pub read : LinesAnswer files plan.name 1 plan.lines scans
   pub gives : answer ≡ scans >>= batch_by plan
 
+-- the batch of a plan and its images, or the rule of the plan
 abbrev pub PlanAnswers : FileMap → Result Plan Rule → Result BatchShown Rule → Type 0
 PlanAnswers files (Ok plan) answer = ImagesAnswer files plan answer
 PlanAnswers files (Err rule) answer = answer ≡ Err rule

@@ -44,6 +44,7 @@ breaks_behind before docs (line ∷ lines) =
     then Err (broken_behind before)
     else breaks_behind (before ++ line ∷ []) (docs_after docs line) lines
 
+-- the document breaks of the OPT lines are the records of the DAT
 abbrev pub breaks_of : List Record → List OptLine → Result (Unit {0}) Rule
 breaks_of docs lines = breaks_behind [] docs lines
 

@@ -11,7 +11,7 @@ use Rattle.bp_load.specs.Dat.{dat_of, values_of}
 use Rattle.bp_load.specs.Lines.{filled_lines, without_mark}
 use Rattle.bp_load.specs.Table.{Table}
 use Rattle.bp_matter.specs.ValidProductions.{itself}
-use Rattle.bp_matter.specs.ValidRows.{all_differ}
+use Rattle.bp_core.specs.Differing.{all_differ}
 use Rattle.bp_import.specs.Steps.{demand, ◌>>=◌}
 use Rattle.bp_import.specs.declared.columns.TheConstants.{MAX_COLUMN}
 

@@ -28,5 +28,6 @@ parents_from n before parent (doc ∷ docs) =
     then onto parent (parents_from (n + 1) (Some family) parent docs)
     else Err (rule_at_line FamilyBroken n))
 
+-- the parent of each record, or the first rule
 abbrev pub parents_of : List Record → Result (List ℕ) Rule
 parents_of docs = parents_from 1 None 0 docs

@@ -13,12 +13,15 @@ use Rattle.bp_import.specs.declared.files.TheConstants.{FILE_LIMIT}
 abbrev pub below : List ℕ → List ℕ → List ℕ
 below name path = name ++ solidus ∷ path
 
+-- the path of the DAT file of a batch
 abbrev pub dat_path : List ℕ → List ℕ
 dat_path name = below name (codes "load.dat")
 
+-- the path of the OPT file of a batch
 abbrev pub opt_path : List ℕ → List ℕ
 opt_path name = below name (codes "load.opt")
 
+-- the path of the words file of a batch
 abbrev pub words_path : List ℕ → List ℕ
 words_path name = below name (codes "words.csv")
 

@@ -10,6 +10,7 @@ use Rattle.bp_import.specs.Scans.{at_line}
 use Rattle.bp_import.specs.declared.refusals.ImportRefusal.{ImportRefusal}
 use Rattle.bp_import.specs.declared.refusals.ImportRefusal.TheVariants as refusals
 
+-- a refusal of a call as one of an import
 abbrev pub BecomesRefusal : Refusal → ImportRefusal → Type 0
 BecomesRefusal (calls.Rule rule) refusal = refusal ≡ refusals.Rule rule
 BecomesRefusal calls.OutOfMemory refusal = refusal ≡ refusals.OutOfMemory

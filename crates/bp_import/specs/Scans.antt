@@ -31,9 +31,11 @@ pub record Scan : Type 0 where
 abbrev pub at_line : ℕ → Rule → Rule
 at_line n rule = record rule { line = n }
 
+-- a scan of bytes and page
 abbrev pub scan_with : List ℕ → Image → Scan
 scan_with bytes page = record { bytes = bytes; page = page }
 
+-- a scan as contracts see it
 abbrev pub scan_seen : ScanFile → Scan
 scan_seen scan = scan_with scan.bytes.items scan.page
 

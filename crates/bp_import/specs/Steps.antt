@@ -4,6 +4,7 @@ use Rattle.bp_core.specs.declared.rules.Rule.{Rule}
 
 -- the next step, from the value of the one before
 infixl 10 ◌>>=◌
+-- a step, and then the next, or the first rule
 abbrev pub ◌>>=◌ : {A B : Type 0} → Result A Rule → (A → Result B Rule) → Result B Rule
 Ok value >>= next = next value
 Err rule >>= next = Err rule

@@ -2,12 +2,9 @@
 ghost use Rattle.std.specs.Prelude.{◌≡◌, ◌==◌, not, IfOk};
 ghost use Rattle.std.specs.List.{list_all, list_any};
 ghost use Rattle.bp_import.specs.Columns.{are_columns, is_begattach, is_begdoc, is_column, is_end, is_field};
-ghost use Rattle.bp_matter.specs.ValidProductions.{itself};
-ghost use Rattle.bp_matter.specs.ValidRows.{all_differ};
 
-use bp_core::{OutOfMemory, Text};
+use bp_core::{OutOfMemory, Text, texts_differ};
 use std::alloc::Global;
-use std::collections::BTreeSet;
 
 /// The most bytes of the name of a column.
 pub const MAX_COLUMN: usize = 64;
@@ -20,7 +17,7 @@ pub(crate) fn are_columns(alloc: Global, columns: &[Text]) -> Result<bool, OutOf
     if !has_begdoc(columns) || !has_begattach(columns) || !are_named(columns) {
         return Ok(false);
     }
-    all_differ(alloc, columns)
+    texts_differ(alloc, columns)
 }
 
 fn has_begdoc(columns: &[Text]) -> bool
@@ -51,22 +48,6 @@ fn has_no_newline(text: &Text) -> bool
     ensures { result ≡ list_all (λ c. not (c == 10)) text.now }
 {
     text.as_str().chars().all(|c| c != '\n')
-}
-
-// Whether no two texts are alike. They are gone through from the last, so that each is compared
-// with those behind it.
-fn all_differ(alloc: Global, texts: &[Text]) -> Result<bool, OutOfMemory>
-    ensures { IfOk result (λ differ. differ ≡ all_differ itself texts.now) }
-{
-    let mut behind = BTreeSet::new(alloc);
-    let mut rest = texts;
-    while let Some((text, before)) = rest.split_last() {
-        if !behind.insert(text.as_str())? {
-            return Ok(false);
-        }
-        rest = before;
-    }
-    Ok(true)
 }
 
 /// Whether the column names the first page of a document.

@@ -1,7 +1,7 @@
 // Pages with their words, and the documents that they belong to.
 ghost use Rattle.std.specs.Prelude.{◌≡◌, [], length, map, replicate, sum, IfOk, IsTrue, List, Ok};
 ghost use Rattle.bp_load.specs.declared.opt.OptLine.{OptLine};
-ghost use Rattle.bp_matter.specs.ValidRows.{all_differ};
+ghost use Rattle.bp_core.specs.Differing.{all_differ};
 ghost use Rattle.bp_import.specs.Batch.{docs_of};
 ghost use Rattle.bp_import.specs.Breaks.{cut};
 ghost use Rattle.bp_import.specs.Documents.{with_words, words_of_lines};

@@ -10,14 +10,11 @@ mod documents;
 mod families;
 mod files;
 mod laws;
-mod names;
 mod plans;
 mod records;
 mod refusals;
 mod scans;
 mod tables;
-#[cfg(test)]
-mod tests;
 mod word_pages;
 
 pub use batch::read_batch;

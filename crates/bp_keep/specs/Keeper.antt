@@ -8,11 +8,13 @@ use Rattle.bp_keep.specs.Puts.{put_all}
 use Rattle.bp_keep.specs.declared.refusals.KeepRefusal.{KeepRefusal}
 use Rattle.bp_keep.specs.declared.refusals.KeepRefusal.TheVariants.{Failed, OutOfMemory}
 
--- what is known of a keeper: its rows, if they are told; how often a call failed; and whether it is
--- sure, one that can't fail
+-- what is known of a keeper: its rows, if they are told; how often a call failed; how often it was
+-- asked to load, and to commit; and whether it is sure, one that can't fail
 pub record KeeperView : Type 0 where
   pub rows : Option (List Row)
   pub faults : ℕ
+  pub loads : ℕ
+  pub commits : ℕ
   pub sure : Bool
 
 -- where both tell rows, they tell the same
@@ -30,13 +32,15 @@ abbrev pub LoadOf : List Row → Result (List Row) KeepRefusal → Type 0
 LoadOf rows (Ok loaded) = loaded ≡ rows
 LoadOf rows (Err _) = Unit {0}
 
--- a load gave this: the rows, wherever they are told; it left them
+-- a load gave this: the rows, where they are told as it ends, since what a disk holds may show only
+-- in the call. It left them
 pub record Loads (before : KeeperView) (result : Result (List Row) KeepRefusal)
     (after : KeeperView) : Type 0 where
-  pub told_before : IfSome before.rows (λ rows. LoadOf rows result)
   pub told_after : IfSome after.rows (λ rows. LoadOf rows result)
   pub same : SameRows before.rows after.rows
   pub faults : after.faults ≡ faults_after before.faults result
+  pub loads : after.loads ≡ risen before.loads
+  pub commits : after.commits ≡ before.commits
   pub sure : after.sure ≡ before.sure
 
 -- the rows, if they are told, after a list of puts: all of them made, or none
@@ -50,4 +54,6 @@ pub record Commits (before : KeeperView) (puts : List Put)
     (result : Result (Unit {0}) KeepRefusal) (after : KeeperView) : Type 0 where
   pub rows : IfSome after.rows (λ now. rows_after puts before.rows result ≡ Some now)
   pub faults : after.faults ≡ faults_after before.faults result
+  pub loads : after.loads ≡ before.loads
+  pub commits : after.commits ≡ risen before.commits
   pub sure : after.sure ≡ before.sure

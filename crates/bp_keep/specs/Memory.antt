@@ -17,6 +17,8 @@ keeper_shown keeper =
     record {
       rows = Some (keeper_rows keeper);
       faults = keeper.faults;
+      loads = keeper.loads;
+      commits = keeper.commits;
       sure = is_sure keeper.calls keeper.faults;
     }
 

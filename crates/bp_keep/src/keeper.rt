@@ -7,8 +7,8 @@ use crate::refusals::KeepRefusal;
 use bp_core::{PutList, RowList};
 use std::alloc::Global;
 
-/// A keeper of rows, at most one of a key. It counts its faults. The count stands still at the
-/// greatest u64.
+/// A keeper of rows, at most one of a key. It counts its faults, its loads and its commits. A count
+/// stands still at the greatest u64.
 ///
 ///     let rows = keeper.load(alloc)?;
 ///     keeper.commit(alloc, &puts)?;
@@ -17,13 +17,13 @@ pub trait Keeper {
     ghost shows: { Self → KeeperView };
 
     /// The rows, in ascending order of key: by kind, then by first number, then by second. `Failed`
-    /// where the keeper failed, which raises the count by one. No load changes the rows.
+    /// where the keeper failed, which raises the count of faults by one. No load changes the rows.
     fn load(&mut self, alloc: Global) -> Result<RowList, KeepRefusal>
         ensures { Loads (shows self.old) result (shows self.new) };
 
     /// Makes these puts in order: each sets the body of its key, or removes the row of its key.
     /// With `Ok` all are made; a refusal leaves the rows. `Failed` where the keeper failed, which
-    /// raises the count by one.
+    /// raises the count of faults by one.
     fn commit(&mut self, alloc: Global, puts: &PutList) -> Result<(), KeepRefusal>
         ensures { Commits (shows self.old) puts.now result (shows self.new) };
 

@@ -24,6 +24,8 @@ pub struct MemKeeper {
     slots: Slots,
     calls: Calls,
     faults: u64,
+    loads: u64,
+    commits: u64,
     ghost in_order: { IsTrue (in_order 0 slots.entries) },
     ghost ascending: { IsTrue (ascends row_key 0 (given.items ++ held slots.entries)) },
 }
@@ -36,7 +38,13 @@ impl MemKeeper {
     pub fn over(rows: RowList, failing: NumberList) -> MemKeeper
         requires { IsTrue (ascends row_key 0 rows) }
         ensures shows { keeper_shown result
-            ≡ record { rows = Some rows; faults = 0; sure = (length failing == 0) } }
+            ≡ record {
+              rows = Some rows;
+              faults = 0;
+              loads = 0;
+              commits = 0;
+              sure = (length failing == 0);
+            } }
         ensures calls { keeper_calls result ≡ no_calls failing }
     {
         let given = rows.into_vec();
@@ -46,6 +54,8 @@ impl MemKeeper {
             slots,
             calls: Calls::new(failing),
             faults: 0,
+            loads: 0,
+            commits: 0,
         }
     }
 }
@@ -68,6 +78,7 @@ impl Keeper for MemKeeper {
             ↔ IsTrue (next_fails (keeper_calls self.old)) }
         ensures numbered { keeper_calls self.new ≡ after_call (keeper_calls self.old) }
     {
+        self.loads = self.loads.saturating_add(1);
         if is_fault(&mut self.calls, &mut self.faults) {
             return Err(KeepRefusal::Failed);
         }
@@ -83,6 +94,7 @@ impl Keeper for MemKeeper {
             ↔ IsTrue (next_fails (keeper_calls self.old)) }
         ensures numbered { keeper_calls self.new ≡ after_call (keeper_calls self.old) }
     {
+        self.commits = self.commits.saturating_add(1);
         if is_fault(&mut self.calls, &mut self.faults) {
             return Err(KeepRefusal::Failed);
         }

@@ -45,6 +45,7 @@ together None others = None
 together (Some v) None = None
 together (Some v) (Some vs) = Some (v ∷ vs)
 
+-- the values of pieces, where each is one
 abbrev pub each_value : List (List ℕ) → Option (List (List ℕ))
 each_value [] = Some []
 each_value (piece ∷ pieces) = together (quoted_value (chars piece)) (each_value pieces)
@@ -73,6 +74,7 @@ after_header None records = Err (rule_at_line DatShape 1)
 after_header (Some columns) records =
     with_rows columns (each_line (row_of (length columns)) DatShape 2 records)
 
+-- the table of lines, or the first rule
 abbrev pub table_of : List (List ℕ) → Result Table Rule
 table_of [] = Err (rule_at_line DatShape 1)
 table_of (header ∷ records) = after_header (values_of header) records
@@ -116,6 +118,7 @@ is_cell_character c =
     not (c == quote) && not (c == separator)
     && not (c == carriage_return) && not (c == newline_sign)
 
+-- a text can stand as a value
 abbrev pub is_cell : List ℕ → Bool
 is_cell text = list_all is_cell_character text
 

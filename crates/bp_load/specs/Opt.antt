@@ -83,15 +83,17 @@ opt_line_text line = join_with_byte comma (opt_fields line) ++ line_end
 abbrev pub opt_text : List OptLine → List ℕ
 opt_text lines = flat_map opt_line_text lines
 
--- U+FEFF, the byte order mark
-abbrev pub mark : ℕ
-mark = 0xFEFF
+-- U+FEFF, the character of the byte order mark
+abbrev pub byte_order_character : ℕ
+byte_order_character = 0xFEFF
 
 -- no comma, CR, LF or byte order mark
 abbrev pub is_field_character : ℕ → Bool
 is_field_character c =
-    not (c == comma) && not (c == carriage_return) && not (c == newline) && not (c == mark)
+    not (c == comma) && not (c == carriage_return)
+    && not (c == newline) && not (c == byte_order_character)
 
+-- a text can stand as a field
 abbrev pub is_field : List ℕ → Bool
 is_field text = list_all is_field_character text
 

@@ -354,6 +354,3 @@ fn write_character(c: char) -> char
 {
     if c == '\n' { NEWLINE_SIGN } else { c }
 }
-
-#[cfg(test)]
-mod tests;

@@ -1,8 +1,7 @@
 // The OPT load file (Opticon): a line a page.
 ghost use Rattle.std.specs.Prelude.{◌≡◌, ◌==◌, true, false, ◌<◌, ◌^◌, length, drop, slice_index_or, [], ◌∷◌, nat_lt, is_some, IfOk, OnOk, IsTrue, ◌++◌, encode_utf8_all, MatchOption};
 ghost use Rattle.std.specs.Option.{ok_or, option_copied};
-ghost use Rattle.std.specs.Char.{is_ascii_digit};
-ghost use Rattle.std.specs.List.{list_all, slice_split};
+ghost use Rattle.std.specs.List.{slice_split};
 ghost use Rattle.std.specs.Str.{chars, all_scalars};
 ghost use Rattle.bp_core.specs.Answers.{Answers};
 ghost use Rattle.bp_core.specs.Characters.{comma};
@@ -12,7 +11,7 @@ ghost use Rattle.bp_load.specs.OptFields.{fields_of, seven};
 
 use crate::fields::next_field;
 use crate::lines::{first_line, without_mark};
-use bp_core::{Bytes, ListOf, OutOfMemory, Refusal, Rule, RuleKind, Text};
+use bp_core::{Bytes, ListOf, OutOfMemory, Refusal, Rule, RuleKind, Text, are_digits};
 use std::alloc::Global;
 
 /// A page of a production: its image id, its volume and the path of its image, whether a document, a
@@ -147,13 +146,7 @@ fn is_flag(text: &str) -> bool
 fn is_page_count(text: &[u8]) -> bool
     ensures { result ≡ is_page_count text.now }
 {
-    text.len() <= 9 && are_digits(text)
-}
-
-fn are_digits(text: &[u8]) -> bool
-    ensures { result ≡ list_all is_ascii_digit text.now }
-{
-    text.iter().all(|byte| byte.is_ascii_digit())
+    text.is_empty() || are_digits(text)
 }
 
 // The fields in memory of their own.
@@ -265,6 +258,3 @@ fn write_flag(out: &mut Vec<u8>, is_set: bool) -> Result<(), OutOfMemory>
     out.extend_from_slice(text)?;
     Ok(())
 }
-
-#[cfg(test)]
-mod tests;

@@ -24,7 +24,8 @@ use Rattle.bp_matter.specs.Fields.{word, long}
 use Rattle.bp_matter.specs.Bodies.{staff_body, doc_body, page_body, call_body, box_body, held_body, prefix_body, words_body}
 use Rattle.bp_matter.specs.Matter.{Matter, staff_key, doc_key, page_key, words_key, call_key}
 use Rattle.bp_matter.specs.Valid.{IsValid}
-use Rattle.bp_matter.specs.ValidRows.{is_numbered, all_differ}
+use Rattle.bp_core.specs.Differing.{all_differ}
+use Rattle.bp_matter.specs.ValidRows.{is_numbered}
 use Rattle.bp_matter.specs.ValidStaff.{begins_with_lead, staff_digest, staff_fits}
 use Rattle.bp_matter.specs.ValidFields.{field_name, field_fits}
 use Rattle.bp_matter.specs.ValidDocs.{are_families, doc_fits}

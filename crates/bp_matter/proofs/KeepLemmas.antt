@@ -9,7 +9,7 @@ use Rattle.std.specs.Str.{bytes_eq, chars}
 use Rattle.std.proofs.lemmas.Bool.Decides.{nat_tests}
 use Rattle.std.proofs.lemmas.List.Folds.{list_any-append}
 use Rattle.std.proofs.lemmas.Map.Text.{is_eq-slice_cmp}
-use Rattle.bp_matter.proofs.DifferLemmas.{code_test, cond_or}
+use Rattle.bp_core.proofs.DifferLemmas.{code_test, cond_or}
 use Rattle.bp_matter.specs.ValidProductions.{has_prefix}
 use Rattle.bp_matter.specs.declared.rows.PrefixRow.{PrefixRow}
 use Rattle.bp_matter.specs.declared.rows.ProductionRow.{ProductionRow}

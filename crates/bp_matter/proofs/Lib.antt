@@ -1,7 +1,6 @@
 pub mod BodyLemmas
 pub mod CheckLemmas
 pub mod CodecLemmas
-pub mod DifferLemmas
 mod Examples
 pub mod FieldLemmas
 pub mod FormLemmas

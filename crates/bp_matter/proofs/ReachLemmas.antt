@@ -7,7 +7,7 @@ use Rattle.std.proofs.lemmas.Bool.{cases_Bool}
 use Rattle.std.proofs.lemmas.List.Folds.{list_any-append}
 use Rattle.std.proofs.lemmas.Map.Text.{is_eq-slice_cmp}
 use Rattle.std.proofs.lemmas.Slice.Eq.{bytes_eq-Decides}
-use Rattle.bp_matter.proofs.DifferLemmas.{lent_cmp, code_test}
+use Rattle.bp_core.proofs.DifferLemmas.{lent_cmp, code_test}
 use Rattle.bp_matter.specs.ValidPrefixes.{after_items, after_productions, after_reached, is_number, is_reached, is_under, is_used, spans_reach}
 use Rattle.bp_matter.specs.declared.rows.PrefixRow.{PrefixRow}
 use Rattle.bp_matter.specs.declared.rows.ProductionRow.{ProductionRow}

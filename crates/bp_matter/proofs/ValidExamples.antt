@@ -22,7 +22,7 @@ use Rattle.bp_matter.specs.ValidWords.{words_fit}
 use Rattle.bp_matter.specs.ValidBatches.{batch_fits}
 use Rattle.bp_matter.specs.Confirming.{may_hold}
 use Rattle.bp_matter.specs.declared.rows.State.TheVariants.{Uncalled, Confirmed}
-use Rattle.bp_matter.specs.declared.limits.TheConstants.{MAX_STAFF, MAX_FIELDS, MAX_DOCUMENTS, MAX_PAGES, MAX_PIXELS, MAX_BATCHES, MAX_PRODUCTIONS, MAX_BOX, MAX_NAME}
+use Rattle.bp_matter.specs.declared.limits.TheConstants.{MAX_STAFF, MAX_FIELDS, MAX_DOCUMENTS, MAX_PAGES, MAX_PIXELS, MAX_BATCHES, MAX_PRODUCTIONS, MAX_BOX, MAX_NAME, MAX_DESCRIPTION, MAX_DESIGNATION, MAX_ID}
 
 -- ---- limits
 
@@ -50,6 +50,21 @@ most_batches = refl
 
 most_productions : is_most MAX_PRODUCTIONS 1000 ≡ true
 most_productions = refl
+
+most_boxes : is_most MAX_BOX 1000 ≡ true
+most_boxes = refl
+
+most_of_a_name : is_most MAX_NAME 200 ≡ true
+most_of_a_name = refl
+
+most_of_a_description : is_most MAX_DESCRIPTION 1000 ≡ true
+most_of_a_description = refl
+
+most_of_a_designation : is_most MAX_DESIGNATION 40 ≡ true
+most_of_a_designation = refl
+
+most_of_an_id : is_most MAX_ID 32 ≡ true
+most_of_an_id = refl
 
 -- boxes are numbered 1 to 1,000
 first_box : names MAX_BOX 1 ≡ true

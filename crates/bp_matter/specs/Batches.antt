@@ -7,7 +7,7 @@ use Rattle.bp_rows.specs.Limits.{sides_are_imported}
 use Rattle.bp_text.specs.declared.words.Word.{Word}
 use Rattle.bp_matter.specs.Texts.{is_batch_name, is_field_name, is_value, is_id_of_doc, is_word_text}
 use Rattle.bp_matter.specs.ValidProductions.{itself}
-use Rattle.bp_matter.specs.ValidRows.{all_differ}
+use Rattle.bp_core.specs.Differing.{all_differ}
 use Rattle.bp_matter.specs.Written.{are_few, image_written, is_short, is_word, word_written}
 use Rattle.bp_matter.specs.declared.batches.BatchDoc.{BatchDoc}
 use Rattle.bp_matter.specs.declared.batches.BatchPage.{BatchPage}

@@ -27,24 +27,30 @@ use Rattle.bp_matter.specs.Fields.{byte, word, long, text, list, flag, optional,
 abbrev pub entry_part : Entry → List ℕ
 entry_part e = text e.date ++ (text e.author ++ (text e.recipients ++ text e.description))
 
+-- a box but its number
 abbrev pub box_rest : BoxRow → List ℕ
 box_rest b = word b.page.0 ++ (rect b.rect ++ basis b.basis)
 
+-- a box within an item
 abbrev pub box_part : BoxRow → List ℕ
 box_part b = word b.num ++ box_rest b
 
+-- a held field within an item
 abbrev pub held_part : HeldRow → List ℕ
 held_part h = word h.field ++ basis h.basis
 
+-- a word within a page
 abbrev pub word_part : Word → List ℕ
 word_part w = word w.line ++ (rect w.rect ++ text w.text)
 
+-- an item within a production
 abbrev pub item_part : Item → List ℕ
 item_part i =
     word i.doc.0 ++ (word i.parent.0 ++ (treatment i.treatment ++ (list box_part i.boxes
     ++ (list held_part i.held ++ (optional entry_part i.entry ++ (text i.designation
     ++ span i.span))))))
 
+-- a request within a production
 abbrev pub request_part : Request → List ℕ
 request_part r =
     text r.id ++ (text r.volume ++ (prefix r.prefix ++ (word r.from.0 ++ (word r.to.0
@@ -60,40 +66,51 @@ image_part p =
 abbrev pub staff_body : StaffRow → List ℕ
 staff_body row = byte 1 ++ (byte (role_number row.role) ++ (row.digest ++ text row.name))
 
+-- the body of a field
 abbrev pub field_body : FieldRow → List ℕ
 field_body row = byte 1 ++ text row.name
 
+-- the body of a document
 abbrev pub doc_body : DocRow → List ℕ
 doc_body row =
     byte 1 ++ (word row.parent.0 ++ (word row.pages ++ (word row.batch ++ (text row.id
     ++ list text row.values))))
 
+-- the body of a page
 abbrev pub page_body : PageRow → List ℕ
 page_body row = byte 1 ++ image_part row.image
 
+-- the body of a call
 abbrev pub call_body : CallRow → List ℕ
 call_body row =
     byte 1 ++ (state row.state ++ (flag row.responsive ++ (treatment row.treatment
     ++ text row.designation)))
 
+-- the body of a box
 abbrev pub box_body : DocBox → List ℕ
 box_body box = byte 1 ++ box_rest box.row
 
+-- the body of a held field
 abbrev pub held_body : DocHeld → List ℕ
 held_body held = byte 1 ++ basis held.row.basis
 
+-- the body of a log entry
 abbrev pub entry_body : DocEntry → List ℕ
 entry_body row = byte 1 ++ entry_part row.entry
 
+-- the body of a prefix
 abbrev pub prefix_body : PrefixRow → List ℕ
 prefix_body row = byte 1 ++ (byte row.prefix.width ++ (long row.next ++ text row.prefix.text))
 
+-- the body of a production
 abbrev pub production_body : ProductionRow → List ℕ
 production_body row =
     byte 1 ++ (request_part row.production.request ++ list item_part row.production.items)
 
+-- the body of a batch
 abbrev pub batch_body : BatchRow → List ℕ
 batch_body row = byte 1 ++ (row.digest ++ (word row.documents ++ (word row.pages ++ text row.name)))
 
+-- the body of the words of a page
 abbrev pub words_body : PageWords → List ℕ
 words_body row = byte 1 ++ list word_part row.words

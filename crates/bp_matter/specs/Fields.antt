@@ -15,22 +15,27 @@ use Rattle.bp_matter.specs.declared.rows.State.{State}
 use Rattle.bp_matter.specs.declared.rows.State.TheVariants.{Uncalled, First, Confirmed}
 
 -- a number of 8 bits
+-- by RFC 3629 for the bytes of a text
 abbrev pub byte : ℕ → List ℕ
 byte n = n ∷ []
 
 -- a number of 32 bits; kept closed, since it computes to four cells
+-- by RFC 3629 for the bytes of a text
 unfoldable pub word : ℕ → List ℕ
 word n = to_le_bytes w32 n
 
 -- a number of 64 bits
+-- by RFC 3629 for the bytes of a text
 unfoldable pub long : ℕ → List ℕ
 long n = to_le_bytes w64 n
 
 -- four bytes of length, and the characters in UTF-8
+-- by RFC 3629 for the bytes of a text
 abbrev pub text : List ℕ → List ℕ
 text characters = word (length (encode_utf8_all characters)) ++ encode_utf8_all characters
 
 -- a list of values, each written so
+-- by RFC 3629 for the bytes of a text
 abbrev pub list : {V : Type 0} → (V → List ℕ) → List V → List ℕ
 list write values = word (length values) ++ flat_map write values
 
@@ -40,6 +45,7 @@ flag_number true = 1
 flag_number false = 0
 
 -- a truth value is one byte
+-- by RFC 3629 for the bytes of a text
 abbrev pub flag : Bool → List ℕ
 flag b = byte (flag_number b)
 
@@ -54,10 +60,12 @@ value_if write None = []
 value_if write (Some v) = write v
 
 -- a flag, and the value where there is one
+-- by RFC 3629 for the bytes of a text
 abbrev pub optional : {V : Type 0} → (V → List ℕ) → Option V → List ℕ
 optional write o = flag (is_there o) ++ value_if write o
 
 -- the number of a role
+-- by RFC 3629 for the bytes of a text
 abbrev pub role_number : Role → ℕ
 role_number Reviewer = 0
 role_number Second = 1
@@ -66,6 +74,7 @@ role_number Clerk = 3
 role_number Receiver = 4
 
 -- the number of a ground
+-- by RFC 3629 for the bytes of a text
 abbrev pub basis_number : Basis → ℕ
 basis_number Ac = 0
 basis_number Wp = 1
@@ -73,10 +82,12 @@ basis_number Pi = 2
 basis_number Ts = 3
 
 -- a ground is one byte
+-- by RFC 3629 for the bytes of a text
 abbrev pub basis : Basis → List ℕ
 basis held_for = byte (basis_number held_for)
 
 -- PI and TS have none: no whole document is withheld on them
+-- by RFC 3629 for the bytes of a text
 abbrev pub treatment_number : Treatment → ℕ
 treatment_number Produce = 0
 treatment_number Redact = 1
@@ -85,6 +96,7 @@ treatment_number (Withhold Wp) = 3
 treatment_number (Withhold _) = 255
 
 -- a treatment is one byte
+-- by RFC 3629 for the bytes of a text
 abbrev pub treatment : Treatment → List ℕ
 treatment t = byte (treatment_number t)
 
@@ -106,17 +118,21 @@ confirmer_of (Confirmed _ confirmer) = confirmer.0
 confirmer_of _ = 0
 
 -- a state, its last editor and its confirmer
+-- by RFC 3629 for the bytes of a text
 abbrev pub state : State → List ℕ
 state s = byte (state_number s) ++ (word (editor_of s) ++ word (confirmer_of s))
 
 -- a rectangle
+-- by RFC 3629 for the bytes of a text
 abbrev pub rect : Rect → List ℕ
 rect r = word r.left ++ (word r.top ++ (word r.width ++ word r.height))
 
 -- the first and the last number of a span
+-- by RFC 3629 for the bytes of a text
 abbrev pub span : Span → List ℕ
 span s = long s.first ++ long s.last
 
 -- a prefix and its width
+-- by RFC 3629 for the bytes of a text
 abbrev pub prefix : Prefix → List ℕ
 prefix p = text p.text ++ byte p.width

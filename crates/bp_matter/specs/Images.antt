@@ -11,10 +11,12 @@ use Rattle.bp_t6.specs.Written.{strip_of}
 
 -- its strip: the rows coded, the end of the facsimile block and zero bits to the byte (ITU-T T.6,
 -- 2.2.4)
+-- by ITU-T T.6; TIFF 6.0, section 8, ResolutionUnit
 unfoldable pub strip : Image → List ℕ
 strip p = strip_of p
 
 -- the number of a unit of length (TIFF 6.0, section 8, ResolutionUnit)
+-- by ITU-T T.6; TIFF 6.0, section 8, ResolutionUnit
 abbrev pub unit_number : LengthUnit → ℕ
 unit_number units.None = 1
 unit_number units.Inch = 2

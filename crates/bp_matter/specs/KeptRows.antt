@@ -20,36 +20,47 @@ use Rattle.bp_matter.specs.Bodies.{staff_body, field_body, doc_body, page_body, 
 abbrev pub staff_kept : StaffRow → Row
 staff_kept row = record { kind = 1; k1 = row.staff.0; k2 = 0; body = staff_body row }
 
+-- the kept row of a field
 abbrev pub field_kept : FieldRow → Row
 field_kept row = record { kind = 2; k1 = row.field; k2 = 0; body = field_body row }
 
+-- the kept row of a document
 abbrev pub doc_kept : DocRow → Row
 doc_kept row = record { kind = 3; k1 = row.doc.0; k2 = 0; body = doc_body row }
 
+-- the kept row of a page
 abbrev pub page_kept : PageRow → Row
 page_kept row = record { kind = 4; k1 = row.doc.0; k2 = row.page.0; body = page_body row }
 
+-- the kept row of a call
 abbrev pub call_kept : CallRow → Row
 call_kept row = record { kind = 5; k1 = row.doc.0; k2 = 0; body = call_body row }
 
+-- the kept row of a box
 abbrev pub box_kept : DocBox → Row
 box_kept row = record { kind = 6; k1 = row.doc.0; k2 = row.row.num; body = box_body row }
 
+-- the kept row of a held field
 abbrev pub held_kept : DocHeld → Row
 held_kept row = record { kind = 7; k1 = row.doc.0; k2 = row.row.field; body = held_body row }
 
+-- the kept row of a log entry
 abbrev pub entry_kept : DocEntry → Row
 entry_kept row = record { kind = 8; k1 = row.doc.0; k2 = 0; body = entry_body row }
 
+-- the kept row of a prefix
 abbrev pub prefix_kept : PrefixRow → Row
 prefix_kept row = record { kind = 9; k1 = row.num; k2 = 0; body = prefix_body row }
 
+-- the kept row of a production
 abbrev pub production_kept : ProductionRow → Row
 production_kept row = record { kind = 10; k1 = row.num; k2 = 0; body = production_body row }
 
+-- the kept row of a batch
 abbrev pub batch_kept : BatchRow → Row
 batch_kept row = record { kind = 11; k1 = row.num; k2 = 0; body = batch_body row }
 
+-- the kept row of the words of a page
 abbrev pub words_kept : PageWords → Row
 words_kept row = record { kind = 12; k1 = row.doc.0; k2 = row.page.0; body = words_body row }
 

@@ -41,15 +41,19 @@ prefix_with text m = find (λ row. bytes_eq row.prefix.text text) m.prefixes
 abbrev pub doc_with : ℕ → Matter → Option DocRow
 doc_with doc m = find_key doc_key doc m.docs
 
+-- the call of a document
 abbrev pub call_with : ℕ → Matter → Option CallRow
 call_with doc m = find_key call_key doc m.calls
 
+-- the log entry of a document
 abbrev pub entry_with : ℕ → Matter → Option DocEntry
 entry_with doc m = find_key entry_key doc m.entries
 
+-- a page of a document
 abbrev pub page_with : ℕ → ℕ → Matter → Option PageRow
 page_with doc page m = find_key page_key (two_keys doc page) m.pages
 
+-- the words of a page
 abbrev pub words_with : ℕ → ℕ → Matter → Option PageWords
 words_with doc page m = find_key words_key (two_keys doc page) m.words
 

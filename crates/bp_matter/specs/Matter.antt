@@ -48,9 +48,11 @@ pub record Shown : Type 0 where
 abbrev pub staff_key : StaffRow → ℕ
 staff_key row = row.staff.0
 
+-- fields go by their number
 abbrev pub field_key : FieldRow → ℕ
 field_key row = row.field
 
+-- documents go by their number
 abbrev pub doc_key : DocRow → ℕ
 doc_key row = row.doc.0
 
@@ -58,27 +60,35 @@ doc_key row = row.doc.0
 abbrev pub page_key : PageRow → ℕ
 page_key row = two_keys row.doc.0 row.page.0
 
+-- calls go by their document
 abbrev pub call_key : CallRow → ℕ
 call_key row = row.doc.0
 
+-- boxes go by document and number
 abbrev pub box_key : DocBox → ℕ
 box_key row = two_keys row.doc.0 row.row.num
 
+-- held fields go by document and field
 abbrev pub held_key : DocHeld → ℕ
 held_key row = two_keys row.doc.0 row.row.field
 
+-- log entries go by their document
 abbrev pub entry_key : DocEntry → ℕ
 entry_key row = row.doc.0
 
+-- prefixes go by their number
 abbrev pub prefix_key : PrefixRow → ℕ
 prefix_key row = row.num
 
+-- productions go by their number
 abbrev pub production_key : ProductionRow → ℕ
 production_key row = row.num
 
+-- batches go by their number
 abbrev pub batch_key : BatchRow → ℕ
 batch_key row = row.num
 
+-- words go by document and page
 abbrev pub words_key : PageWords → ℕ
 words_key row = two_keys row.doc.0 row.page.0
 
@@ -86,5 +96,6 @@ words_key row = two_keys row.doc.0 row.page.0
 abbrev pub box_number : BoxRow → ℕ
 box_number row = row.num
 
+-- held fields of an item go by their field
 abbrev pub held_number : HeldRow → ℕ
 held_number row = row.field

@@ -105,21 +105,25 @@ one_of n = if n == 1 then Some tt else None
 abbrev pub flag_of : ℕ → Option Bool
 flag_of n = if n == 0 then Some false else (if n == 1 then Some true else None)
 
+-- the ground of a byte
 abbrev pub basis_of : ℕ → Option Basis
 basis_of n =
     if n == 0 then Some Ac else (if n == 1 then Some Wp else (if n == 2 then Some Pi
     else (if n == 3 then Some Ts else None)))
 
+-- the treatment of a byte
 abbrev pub treatment_of : ℕ → Option Treatment
 treatment_of n =
     if n == 0 then Some Produce else (if n == 1 then Some Redact else (if n == 2
     then Some (Withhold Ac) else (if n == 3 then Some (Withhold Wp) else None)))
 
+-- the role of a byte
 abbrev pub role_of : ℕ → Option Role
 role_of n =
     if n == 0 then Some Reviewer else (if n == 1 then Some Second else (if n == 2 then Some Lead
     else (if n == 3 then Some Clerk else (if n == 4 then Some Receiver else None))))
 
+-- the unit of a byte
 abbrev pub unit_of : ℕ → Option LengthUnit
 unit_of n =
     if n == 1 then Some units.None else (if n == 2 then Some units.Inch else (if n == 3
@@ -186,12 +190,14 @@ rect_at bytes = do
   height ← word_at width.1
   Some (record { left = left.0; top = top.0; width = width.0; height = height.0 }, height.1)
 
+-- a span at the front of bytes
 unfoldable pub span_at : List ℕ → Read Span
 span_at bytes = do
   first ← long_at bytes
   last ← long_at first.1
   Some (record { first = first.0; last = last.0 }, last.1)
 
+-- a prefix at the front of bytes
 unfoldable pub prefix_at : List ℕ → Read Prefix
 prefix_at bytes = do
   text ← text_at bytes
@@ -294,6 +300,7 @@ request_at bytes = do
 
 -- ---- bodies, of the rows of that key
 
+-- a member of the staff by number and body
 unfoldable pub staff_at : ℕ → List ℕ → Read StaffRow
 staff_at staff bytes = do
   version ← value_of one_of bytes
@@ -310,12 +317,14 @@ staff_at staff bytes = do
     name.1,
   )
 
+-- a field by number and body
 unfoldable pub field_at : ℕ → List ℕ → Read FieldRow
 field_at field bytes = do
   version ← value_of one_of bytes
   name ← text_at version.1
   Some (record { field = field; name = name.0 }, name.1)
 
+-- a document by number and body
 unfoldable pub doc_at : ℕ → List ℕ → Read DocRow
 doc_at doc bytes = do
   version ← value_of one_of bytes
@@ -359,12 +368,14 @@ image_at bytes = do
     rows = lines;
   })
 
+-- a page by its numbers and body
 unfoldable pub page_at : ℕ → ℕ → List ℕ → Option PageRow
 page_at doc page bytes = do
   version ← value_of one_of bytes
   image ← image_at version.1
   Some (record { doc = record { 0 = doc }; page = record { 0 = page }; image = image })
 
+-- a call by document and body
 unfoldable pub call_at : ℕ → List ℕ → Read CallRow
 call_at doc bytes = do
   version ← value_of one_of bytes
@@ -383,12 +394,14 @@ call_at doc bytes = do
     designation.1,
   )
 
+-- a box by its numbers and body
 unfoldable pub box_at : ℕ → ℕ → List ℕ → Read DocBox
 box_at doc num bytes = do
   version ← value_of one_of bytes
   row ← box_rest_at num version.1
   Some (record { doc = record { 0 = doc }; row = row.0 }, row.1)
 
+-- a held field by its numbers and body
 unfoldable pub held_at : ℕ → ℕ → List ℕ → Read DocHeld
 held_at doc field bytes = do
   version ← value_of one_of bytes
@@ -404,12 +417,14 @@ held_at doc field bytes = do
     basis.1,
   )
 
+-- a log entry by document and body
 unfoldable pub entry_at : ℕ → List ℕ → Read DocEntry
 entry_at doc bytes = do
   version ← value_of one_of bytes
   entry ← entry_fields_at version.1
   Some (record { doc = record { 0 = doc }; entry = entry.0 }, entry.1)
 
+-- a prefix by number and body
 unfoldable pub prefix_row_at : ℕ → List ℕ → Read PrefixRow
 prefix_row_at num bytes = do
   version ← value_of one_of bytes
@@ -425,6 +440,7 @@ prefix_row_at num bytes = do
     text.1,
   )
 
+-- a production by number and body
 unfoldable pub production_at : ℕ → List ℕ → Read ProductionRow
 production_at num bytes = do
   version ← value_of one_of bytes
@@ -442,6 +458,7 @@ production_at num bytes = do
     items.1,
   )
 
+-- a batch by number and body
 unfoldable pub batch_at : ℕ → List ℕ → Read BatchRow
 batch_at num bytes = do
   version ← value_of one_of bytes
@@ -460,6 +477,7 @@ batch_at num bytes = do
     name.1,
   )
 
+-- the words of a page by its numbers and body
 unfoldable pub words_at : ℕ → ℕ → List ℕ → Read PageWords
 words_at doc page bytes = do
   version ← value_of one_of bytes

@@ -6,14 +6,17 @@ use Rattle.bp_core.specs.Characters.{newline, carriage_return, space, comma, hyp
 use Rattle.bp_matter.specs.declared.limits.TheConstants.{MAX_DESIGNATION, MAX_ID}
 
 -- neither a control character below 20 hex, nor 7F
+-- by RFC 3629
 abbrev pub is_plain_character : ℕ → Bool
 is_plain_character c = nat_le 32 c && not (c == 127)
 
 -- nor what quotes a value
+-- by RFC 3629
 abbrev pub is_text_character : ℕ → Bool
 is_text_character c = is_plain_character c && not (c == quote)
 
 -- at most so many bytes in UTF-8, of such characters
+-- by RFC 3629
 abbrev pub is_text : ℕ → List ℕ → Bool
 is_text limit text = nat_le (length (encode_utf8_all text)) limit && list_all is_text_character text
 

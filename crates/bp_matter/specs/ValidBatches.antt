@@ -4,7 +4,8 @@ use Rattle.std.specs.Prelude.{Bool, IsTrue, List, length, nat_le, ℕ}
 use Rattle.bp_matter.specs.Written.{batch_written}
 use Rattle.bp_matter.specs.Matter.{batch_key}
 use Rattle.bp_matter.specs.Texts.{is_batch_name}
-use Rattle.bp_matter.specs.ValidRows.{all_differ, is_numbered}
+use Rattle.bp_core.specs.Differing.{all_differ}
+use Rattle.bp_matter.specs.ValidRows.{is_numbered}
 use Rattle.bp_matter.specs.declared.rows.BatchRow.{BatchRow}
 use Rattle.bp_matter.specs.declared.limits.TheConstants.{MAX_BATCHES}
 

@@ -5,7 +5,8 @@ use Rattle.std.specs.Str.{bytes_eq}
 use Rattle.bp_matter.specs.Written.{field_written}
 use Rattle.bp_matter.specs.Matter.{field_key}
 use Rattle.bp_matter.specs.Texts.{is_field_name}
-use Rattle.bp_matter.specs.ValidRows.{all_differ, is_numbered}
+use Rattle.bp_core.specs.Differing.{all_differ}
+use Rattle.bp_matter.specs.ValidRows.{is_numbered}
 use Rattle.bp_matter.specs.declared.rows.FieldRow.{FieldRow}
 use Rattle.bp_matter.specs.declared.limits.TheConstants.{MAX_FIELDS}
 

@@ -6,7 +6,8 @@ use Rattle.bp_bates.specs.Prefixes.{is_good_prefix}
 use Rattle.bp_bates.specs.Spans.{largest_of}
 use Rattle.bp_matter.specs.Written.{prefix_written}
 use Rattle.bp_matter.specs.Matter.{prefix_key}
-use Rattle.bp_matter.specs.ValidRows.{all_differ, is_numbered}
+use Rattle.bp_core.specs.Differing.{all_differ}
+use Rattle.bp_matter.specs.ValidRows.{is_numbered}
 use Rattle.bp_matter.specs.declared.rows.Item.{Item}
 use Rattle.bp_matter.specs.declared.rows.PrefixRow.{PrefixRow}
 use Rattle.bp_matter.specs.declared.rows.ProductionRow.{ProductionRow}

@@ -7,7 +7,8 @@ use Rattle.bp_matter.specs.Matter.{production_key}
 use Rattle.bp_matter.specs.Texts.{is_column_name, is_id, is_volume}
 use Rattle.bp_matter.specs.ValidFields.{has_field}
 use Rattle.bp_matter.specs.ValidItems.{are_whole, item_fits}
-use Rattle.bp_matter.specs.ValidRows.{all_differ, is_numbered, names}
+use Rattle.bp_core.specs.Differing.{all_differ}
+use Rattle.bp_matter.specs.ValidRows.{is_numbered, names}
 use Rattle.bp_matter.specs.declared.rows.DocRow.{DocRow}
 use Rattle.bp_matter.specs.declared.rows.FieldRow.{FieldRow}
 use Rattle.bp_matter.specs.declared.rows.Item.{Item}

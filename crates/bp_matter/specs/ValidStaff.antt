@@ -6,7 +6,8 @@ use Rattle.bp_core.specs.declared.review.Role.TheVariants.{Lead, Second}
 use Rattle.bp_matter.specs.Written.{staff_written}
 use Rattle.bp_matter.specs.Matter.{staff_key}
 use Rattle.bp_matter.specs.Texts.{is_text}
-use Rattle.bp_matter.specs.ValidRows.{all_differ, is_numbered}
+use Rattle.bp_core.specs.Differing.{all_differ}
+use Rattle.bp_matter.specs.ValidRows.{is_numbered}
 use Rattle.bp_matter.specs.declared.rows.StaffRow.{StaffRow}
 use Rattle.bp_matter.specs.declared.limits.TheConstants.{MAX_NAME, MAX_STAFF}
 

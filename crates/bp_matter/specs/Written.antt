@@ -69,22 +69,28 @@ treatment_written t = nat_lt (treatment_number t) 4
 abbrev pub rect_written : Rect → Bool
 rect_written r = is_word r.left && (is_word r.top && (is_word r.width && is_word r.height))
 
+-- the numbers of a span fit
 abbrev pub span_written : Span → Bool
 span_written s = is_long s.first && is_long s.last
 
+-- the texts of a log entry fit
 abbrev pub entry_fields_written : Entry → Bool
 entry_fields_written e =
     is_short e.date && (is_short e.author && (is_short e.recipients && is_short e.description))
 
+-- the numbers of a box fit
 abbrev pub box_row_written : BoxRow → Bool
 box_row_written b = is_word b.num && (is_word b.page.0 && rect_written b.rect)
 
+-- the number of a held field fits
 abbrev pub held_row_written : HeldRow → Bool
 held_row_written h = is_word h.field
 
+-- a word fits
 abbrev pub word_written : Word → Bool
 word_written w = is_word w.line && (rect_written w.rect && is_short w.text)
 
+-- an item fits
 abbrev pub item_written : Item → Bool
 item_written i =
     is_word i.doc.0 && (is_word i.parent.0 && (treatment_written i.treatment
@@ -92,6 +98,7 @@ item_written i =
     && (if_there entry_fields_written i.entry && (is_short i.designation
     && span_written i.span))))))
 
+-- a request fits
 abbrev pub request_written : Request → Bool
 request_written r =
     is_short r.id && (is_short r.volume && (is_short r.prefix.text && (is_word r.from.0
@@ -107,6 +114,7 @@ abbrev pub first_number : List Item → ℕ
 first_number [] = 0
 first_number (i ∷ items) = i.span.first
 
+-- the span from the first item to the last
 abbrev pub span_of : List Item → Span
 span_of items = record { first = first_number items; last = last_number 0 items }
 
@@ -118,9 +126,11 @@ same_span s t = (s.first == t.first) && (s.last == t.last)
 abbrev pub staff_written : StaffRow → Bool
 staff_written row = is_word row.staff.0 && ((length row.digest == 32) && is_short row.name)
 
+-- a field fits
 abbrev pub field_written : FieldRow → Bool
 field_written row = is_word row.field && is_short row.name
 
+-- a document fits
 abbrev pub doc_written : DocRow → Bool
 doc_written row =
     is_word row.doc.0 && (is_word row.parent.0 && (is_word row.pages && (is_word row.batch
@@ -132,36 +142,45 @@ image_written p =
     is_word p.width && (is_word p.height && (is_word p.xres.num && (is_word p.xres.den
     && (is_word p.yres.num && (is_word p.yres.den && has_lines p.width p.height p.rows)))))
 
+-- a page fits
 abbrev pub page_written : PageRow → Bool
 page_written row = is_word row.doc.0 && (is_word row.page.0 && image_written row.image)
 
+-- a call fits
 abbrev pub call_written : CallRow → Bool
 call_written row =
     is_word row.doc.0 && (state_written row.state && (treatment_written row.treatment
     && is_short row.designation))
 
+-- a box of a document fits
 abbrev pub box_written : DocBox → Bool
 box_written box = is_word box.doc.0 && box_row_written box.row
 
+-- a held field of a document fits
 abbrev pub held_written : DocHeld → Bool
 held_written held = is_word held.doc.0 && held_row_written held.row
 
+-- the log entry of a document fits
 abbrev pub entry_written : DocEntry → Bool
 entry_written row = is_word row.doc.0 && entry_fields_written row.entry
 
+-- a prefix fits
 abbrev pub prefix_written : PrefixRow → Bool
 prefix_written row = is_word row.num && (is_long row.next && is_short row.prefix.text)
 
+-- a production fits, and its span is that of its items
 abbrev pub production_written : ProductionRow → Bool
 production_written row =
     is_word row.num && (request_written row.production.request
     && (are_few item_written row.production.items
     && same_span row.production.span (span_of row.production.items)))
 
+-- a batch fits
 abbrev pub batch_written : BatchRow → Bool
 batch_written row =
     is_word row.num && ((length row.digest == 32) && (is_word row.documents && (is_word row.pages
     && is_short row.name)))
 
+-- the words of a page fit
 abbrev pub words_written : PageWords → Bool
 words_written row = is_word row.doc.0 && (is_word row.page.0 && are_few word_written row.words)

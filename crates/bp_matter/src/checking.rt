@@ -5,12 +5,11 @@ ghost use Rattle.bp_matter.specs.Valid.{AreWritten, IsValid};
 
 mod batches;
 mod calls;
-mod confirming;
-mod differing;
+pub(crate) mod confirming;
 mod docs;
-mod entries;
+pub(crate) mod entries;
 mod fields;
-mod items;
+pub(crate) mod items;
 mod keeping;
 mod labels;
 mod marks;
@@ -21,7 +20,6 @@ mod productions;
 mod reaching;
 mod requests;
 mod staff;
-mod treatments;
 mod words;
 
 use self::batches::batches_valid;

@@ -13,9 +13,43 @@ impl Production {
         ensures { IfOk result (λ production. production ≡ self.now) }
     {
         Ok(Production {
-            request: copy_request(alloc, &self.request)?,
+            request: self.request.copy(alloc)?,
             items: copy_items(alloc, &self.items)?,
             span: self.span,
+        })
+    }
+}
+
+impl Request {
+    /// An equal request.
+    pub fn copy(&self, alloc: Global) -> Result<Request, OutOfMemory>
+        ensures { IfOk result (λ request. request ≡ self.now) }
+    {
+        let prefix = Prefix {
+            text: copy_text(&self.prefix.text)?,
+            width: self.prefix.width,
+        };
+        Ok(Request {
+            id: copy_text(&self.id)?,
+            volume: copy_text(&self.volume)?,
+            prefix,
+            from: self.from,
+            to: self.to,
+            fields: copy_texts(alloc, &self.fields)?,
+        })
+    }
+}
+
+impl Entry {
+    /// An equal log entry.
+    pub fn copy(&self) -> Result<Entry, OutOfMemory>
+        ensures { IfOk result (λ entry. entry ≡ self.now) }
+    {
+        Ok(Entry {
+            date: copy_text(&self.date)?,
+            author: copy_text(&self.author)?,
+            recipients: copy_text(&self.recipients)?,
+            description: copy_text(&self.description)?,
         })
     }
 }
@@ -158,7 +192,7 @@ fn copy_freeze(alloc: Global, request: &Request) -> Result<Call, OutOfMemory>
     ensures { IfOk result (λ call. call ≡ Call.Freeze request.now) }
 {
     Ok(Call::Freeze {
-        request: copy_request(alloc, request)?,
+        request: request.copy(alloc)?,
     })
 }
 
@@ -182,23 +216,6 @@ fn copy_texts(alloc: Global, texts: &TextList) -> Result<TextList, OutOfMemory>
         copies.push(copy_text(text)?)?;
     }
     Ok(ListOf::from_vec(copies))
-}
-
-fn copy_request(alloc: Global, request: &Request) -> Result<Request, OutOfMemory>
-    ensures { IfOk result (λ copy. copy ≡ request.now) }
-{
-    let prefix = Prefix {
-        text: copy_text(&request.prefix.text)?,
-        width: request.prefix.width,
-    };
-    Ok(Request {
-        id: copy_text(&request.id)?,
-        volume: copy_text(&request.volume)?,
-        prefix,
-        from: request.from,
-        to: request.to,
-        fields: copy_texts(alloc, &request.fields)?,
-    })
 }
 
 fn copy_boxes(alloc: Global, rows: &BoxList) -> Result<BoxList, OutOfMemory>
@@ -226,12 +243,7 @@ fn copy_entry(entry: &Option<Entry>) -> Result<Option<Entry>, OutOfMemory>
 {
     match entry {
         None => Ok(None),
-        Some(entry) => Ok(Some(Entry {
-            date: copy_text(&entry.date)?,
-            author: copy_text(&entry.author)?,
-            recipients: copy_text(&entry.recipients)?,
-            description: copy_text(&entry.description)?,
-        })),
+        Some(entry) => Ok(Some(entry.copy()?)),
     }
 }
 

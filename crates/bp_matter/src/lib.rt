@@ -24,11 +24,15 @@ mod rows;
 mod shared_page;
 mod tables;
 mod taking;
-mod texts;
+pub mod texts;
+pub mod treatments;
 mod writing;
 
 pub use batches::{Batch, BatchDoc, BatchDocList, BatchPage, BatchPageList};
 pub use calls::{Call, DocView, Reply};
+pub use checking::confirming::confirm_rule;
+pub use checking::entries::entry_fits;
+pub use checking::items::optional_fits;
 pub use kinds::Kind;
 pub use limits::{
     MAX_BATCHES, MAX_BOX, MAX_DESCRIPTION, MAX_DESIGNATION, MAX_DOCUMENTS, MAX_FIELDS, MAX_ID,

@@ -109,13 +109,15 @@ fn is_at_most(text: &Text, limit: usize) -> bool
     text.as_str().chars().count() <= limit
 }
 
-pub(crate) fn is_text(text: &Text, limit: usize) -> bool
+/// Whether a call takes the text: at most so many bytes in UTF-8, no control character and no U+00FE.
+pub fn is_text(text: &Text, limit: usize) -> bool
     ensures { result ≡ is_text limit text.now }
 {
     text.len() <= limit && are_text_characters(text)
 }
 
-pub(crate) fn is_designation(text: &Text) -> bool
+/// Whether a document may have this designation.
+pub fn is_designation(text: &Text) -> bool
     ensures { result ≡ is_designation text.now }
 {
     is_at_most(text, MAX_DESIGNATION) && are_designation_characters(text)
@@ -127,13 +129,15 @@ fn is_there(text: &Text) -> bool
     !text.is_empty()
 }
 
-pub(crate) fn is_volume(text: &Text) -> bool
+/// Whether it may be the name of a volume: 1 to 32 characters of A-Z, 0-9, `-` and `_`.
+pub fn is_volume(text: &Text) -> bool
     ensures { result ≡ is_volume text.now }
 {
     is_there(text) && is_at_most(text, MAX_ID) && are_volume_characters(text)
 }
 
-pub(crate) fn is_id(text: &Text) -> bool
+/// Whether it may be the id of a production: 1 to 32 characters of A-Z, a-z, 0-9, `-` and `_`.
+pub fn is_id(text: &Text) -> bool
     ensures { result ≡ is_id text.now }
 {
     is_there(text) && is_at_most(text, MAX_ID) && are_id_characters(text)
@@ -163,14 +167,15 @@ pub(crate) fn is_word_text(text: &Text) -> bool
     !text.is_empty() && are_plain_characters(text)
 }
 
-pub(crate) fn is_batch_name(text: &Text) -> bool
+/// Whether a batch may have this name: 1 to 32 of A-Z, a-z, 0-9, `-` and `_`.
+pub fn is_batch_name(text: &Text) -> bool
     ensures { result ≡ is_batch_name text.now }
 {
     is_id(text)
 }
 
-// Whether each load file has a column of this name of itself.
-pub(crate) fn is_column_name(text: &Text) -> bool
+/// Whether each load file has a column of this name of itself.
+pub fn is_column_name(text: &Text) -> bool
     ensures { result ≡ is_column_name text.now }
 {
     is_column(text.as_str().as_bytes())

@@ -8,15 +8,22 @@ use Rattle.std.specs.declared.fs.options.OpenOptions.{OpenOptions}
 use Rattle.std.specs.declared.io.Error.{Error}
 use Rattle.std.specs.declared.io.ErrorKind.TheVariants as kinds
 use Rattle.bp_outside.specs.declared.files.FileRow.{FileRow}
+use Rattle.bp_outside.specs.declared.refusals.DoorRefusal.TheVariants as door_refusals
 use Rattle.bp_outside.specs.declared.refusals.FolderRefusal.TheVariants as folder_refusals
 use Rattle.bp_outside.specs.declared.refusals.OutRefusal.TheVariants as out_refusals
 use Rattle.bp_outside.specs.declared.refusals.ReadRefusal.TheVariants as read_refusals
 use Rattle.bp_outside.specs.Source.{SourceView, after_read}
+use Rattle.bp_outside.specs.Door as doors
 use Rattle.bp_outside.specs.Folder as folders
 use Rattle.bp_outside.specs.Out as outs
 use Rattle.bp_outside.specs.Memory.{file_map, paths_differ}
-use Rattle.bp_outside.specs.SystemAnswers.{opening_refusal, write_answer}
+use Rattle.bp_outside.specs.SystemAnswers.{opening_refusal, read_answer, write_answer}
 use Rattle.bp_outside.specs.SystemFiles.{BeginsEmpty}
+use Rattle.bp_outside.specs.declared.input.TheConstants.{INPUT_CHUNK}
+use Rattle.bp_outside.specs.declared.memory.door.TheConstants.{PASS_LIMIT}
+use Rattle.bp_outside.specs.declared.memory.folder.TheConstants.{APPEND_LIMIT}
+use Rattle.bp_outside.specs.declared.memory.output.TheConstants.{WRITE_LIMIT}
+use Rattle.bp_outside.specs.declared.system.tcp_door.TheConstants.{BASE_PORT, DESK_LIMIT, DRAIN_LIMIT, DRAIN_MILLIS, SILENCE_MILLIS}
 use Rattle.bp_outside.proofs.FileMapLemmas.{get-first_with}
 
 abbrev page : FileRow
@@ -119,3 +126,85 @@ begins_empty =
 
 keeps_what_stood_there : ¬ (BeginsEmpty writing)
 keeps_what_stood_there begins = false≢true begins.empties
+
+-- a door at which the second exchange is under way
+abbrev second : doors.DoorView
+second =
+    record {
+      exchanges = Some (doors.fresh ∷ doors.fresh ∷ []);
+      under_way = true;
+      closed = false;
+      faults = 0;
+      accepts = 2;
+      sure = true;
+    }
+
+only_the_last_exchange_reads : doors.changed (doors.took (7 ∷ []) false) second
+    ≡ record second {
+      exchanges = Some (doors.fresh ∷ record doors.fresh { read = 7 ∷ [] } ∷ []);
+    }
+only_the_last_exchange_reads = refl
+
+no_byte_is_the_end_of_input : doors.changed (doors.took [] true) second
+    ≡ record second { exchanges = Some (doors.fresh ∷ record doors.fresh { ended = true } ∷ []) }
+no_byte_is_the_end_of_input = refl
+
+a_refused_accept_is_counted : doors.after_accept second (Err door_refusals.Failed)
+    ≡ record second { faults = 1; accepts = 3 }
+a_refused_accept_is_counted = refl
+
+a_closed_door_leaves_its_exchanges : doors.after_accept second (Ok false)
+    ≡ record second { closed = true; accepts = 3 }
+a_closed_door_leaves_its_exchanges = refl
+
+a_peer_comes : doors.after_accept second (Ok true)
+    ≡ record second {
+      exchanges = Some (doors.fresh ∷ doors.fresh ∷ doors.fresh ∷ []);
+      accepts = 3;
+    }
+a_peer_comes = refl
+
+a_refusal_marks_its_exchange : doors.after_refusal second door_refusals.OutOfMemory
+    ≡ record second { exchanges = Some (doors.fresh ∷ record doors.fresh { lacked = true } ∷ []) }
+a_refusal_marks_its_exchange = refl
+
+it_is_hung_up : doors.after_hang_up second
+    ≡ record second {
+      exchanges = Some (doors.fresh ∷ record doors.fresh { hung_up = true } ∷ []);
+      under_way = false;
+    }
+it_is_hung_up = refl
+
+a_read_fails : (error : Error) → read_answer (Err error) ≡ Err door_refusals.Failed
+a_read_fails error = refl
+
+the_end_of_input_is_no_fault : read_answer (Ok 0) ≡ Ok 0
+the_end_of_input_is_no_fault = refl
+
+-- the numbers
+the_base_port : BASE_PORT ≡ 48200
+the_base_port = refl
+
+the_last_desk : DESK_LIMIT ≡ 16
+the_last_desk = refl
+
+ten_seconds_of_silence : SILENCE_MILLIS ≡ 10000
+ten_seconds_of_silence = refl
+
+two_seconds_of_reading_off : DRAIN_MILLIS ≡ 2000
+two_seconds_of_reading_off = refl
+
+two_mebibytes_are_read_off : DRAIN_LIMIT ≡ 2097152
+two_mebibytes_are_read_off = refl
+
+bytes_of_one_read_of_an_input : INPUT_CHUNK ≡ 16384
+bytes_of_one_read_of_an_input = refl
+
+bytes_of_one_pass_in_memory : PASS_LIMIT ≡ 4096
+bytes_of_one_pass_in_memory = refl
+
+bytes_of_one_append_in_memory : APPEND_LIMIT ≡ 4096
+bytes_of_one_append_in_memory = refl
+
+bytes_of_one_write_in_memory : WRITE_LIMIT ≡ 4096
+bytes_of_one_write_in_memory = refl

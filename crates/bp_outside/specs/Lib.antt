@@ -1,11 +1,14 @@
-pub mod Appending
 pub mod Counts
+pub mod Door
 pub mod Folder
+pub mod Input
 pub mod Memory
+pub mod MemoryDoor
 pub mod Out
 pub mod ReadCounts
 pub mod Reading
 pub mod Source
+pub mod Streams
 pub mod SystemAnswers
 pub mod SystemFiles
 pub mod Untold

@@ -19,6 +19,7 @@ paths_differ [] = true
 paths_differ (row ∷ rows) =
     not (list_any (λ other. bytes_eq other.path row.path) rows) && paths_differ rows
 
+-- files as pairs of path and bytes
 abbrev pub path_pairs : List FileRow → List (List ℕ × List ℕ)
 path_pairs rows = map (λ row. (row.path, row.bytes)) rows
 
@@ -37,9 +38,15 @@ source_shown source =
       sure = is_sure source.calls source.counts.faults;
     }
 
+-- the calls of a source so far
 abbrev pub source_calls : MemSource → Calls
 source_calls source = source.calls
 
+-- how often it was asked to read
+abbrev pub source_reads : MemSource → ℕ
+source_reads source = source.calls.made
+
+-- the files of a source in their order
 abbrev pub source_files : MemSource → List FileRow
 source_files source = source.files
 
@@ -53,6 +60,7 @@ folder_shown folder =
       sure = is_sure folder.calls folder.faults;
     }
 
+-- the calls of a folder so far
 abbrev pub folder_calls : MemFolder → Calls
 folder_calls folder = folder.calls
 
@@ -65,5 +73,6 @@ out_shown out =
       sure = is_sure out.calls out.faults;
     }
 
+-- the calls of an out so far
 abbrev pub out_calls : MemOut → Calls
 out_calls out = out.calls

@@ -4,6 +4,8 @@ use Rattle.std.specs.declared.io.Error.{Error}
 use Rattle.std.specs.declared.io.ErrorKind.{ErrorKind}
 use Rattle.std.specs.declared.io.ErrorKind.TheVariants.{NotFound, NotADirectory}
 use Rattle.bp_outside.specs.Counts.{risen}
+use Rattle.bp_outside.specs.declared.refusals.DoorRefusal.{DoorRefusal}
+use Rattle.bp_outside.specs.declared.refusals.DoorRefusal.TheVariants as doors
 use Rattle.bp_outside.specs.declared.refusals.ReadRefusal.{ReadRefusal}
 use Rattle.bp_outside.specs.declared.refusals.ReadRefusal.TheVariants.{Absent, Failed}
 
@@ -13,6 +15,11 @@ abbrev pub write_answer : {E : Type 0} → E → ℕ → Result ℕ Error → Re
 write_answer failed length (Ok count) =
     if (count == 0) && not (length == 0) then Err failed else Ok count
 write_answer failed length (Err error) = Err failed
+
+-- how many bytes a read at a door gave; failed where it was an error
+abbrev pub read_answer : Result ℕ Error → Result ℕ DoorRefusal
+read_answer (Ok count) = Ok count
+read_answer (Err error) = Err doors.Failed
 
 -- a count of faults after an answer: an error raises it
 abbrev pub after_answer : {T E : Type 0} → Result T E → ℕ → ℕ

@@ -97,3 +97,36 @@ impl From<OutOfMemory> for OutRefusal {
         OutRefusal::OutOfMemory
     }
 }
+
+/// Why a door didn't do what was asked.
+#[derive(Clone, Copy, Debug, PartialEq, Eq, Error)]
+pub enum DoorRefusal {
+    /// The door failed.
+    #[error("the door failed")]
+    Failed,
+    /// There was too little memory.
+    #[error("out of memory")]
+    OutOfMemory,
+}
+
+impl From<AllocError> for DoorRefusal {
+    ghost use Rattle.std.specs.Prelude.{◌≡◌};
+    ghost use Rattle.bp_outside.specs.declared.refusals.DoorRefusal.TheVariants as refusals;
+
+    ghost from_gives = { λ _ refusal. refusal ≡ refusals.OutOfMemory };
+
+    fn from(_error: AllocError) -> DoorRefusal {
+        DoorRefusal::OutOfMemory
+    }
+}
+
+impl From<OutOfMemory> for DoorRefusal {
+    ghost use Rattle.std.specs.Prelude.{◌≡◌};
+    ghost use Rattle.bp_outside.specs.declared.refusals.DoorRefusal.TheVariants as refusals;
+
+    ghost from_gives = { λ _ refusal. refusal ≡ refusals.OutOfMemory };
+
+    fn from(_error: OutOfMemory) -> DoorRefusal {
+        DoorRefusal::OutOfMemory
+    }
+}

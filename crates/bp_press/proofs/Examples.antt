@@ -38,9 +38,16 @@ use Rattle.sha2.specs.Sha256.{compress, digest_bytes, first_words, hash_after, r
 use Rattle.bp_press.specs.Contents.{image_in, produced_page, slip_sheet}
 use Rattle.bp_press.specs.Manifest.{manifest_line, manifest_of}
 use Rattle.bp_press.specs.Paths.{folder_of}
+use Rattle.bp_press.specs.declared.paths.TheConstants.{FOLDER_DIGITS, IMAGES_A_FOLDER}
 use Rattle.bp_press.specs.Volume.{file_at, files_of, volume_of}
 
 -- ---- folders of a thousand images
+
+images_a_folder : IMAGES_A_FOLDER ≡ 1000
+images_a_folder = refl
+
+folder_digits : FOLDER_DIGITS ≡ 4
+folder_digits = refl
 
 first_folder : folder_of 0 ≡ codes "0001"
 first_folder = refl

@@ -13,7 +13,8 @@ use Rattle.bp_matter.specs.Valid.{IsValid}
 use Rattle.bp_matter.specs.ValidItems.{item_fits, item_of}
 use Rattle.bp_matter.specs.ValidPages.{are_paged, has_rows, page_fits}
 use Rattle.bp_matter.specs.ValidProductions.{field_chosen, itself, production_fits, request_fits}
-use Rattle.bp_matter.specs.ValidRows.{all_differ, is_numbered}
+use Rattle.bp_core.specs.Differing.{all_differ}
+use Rattle.bp_matter.specs.ValidRows.{is_numbered}
 use Rattle.bp_matter.specs.ValidFields.{has_field}
 use Rattle.bp_matter.specs.Written.{image_written, page_written}
 use Rattle.bp_matter.specs.declared.rows.DocRow.{DocRow}

@@ -21,6 +21,7 @@ use Rattle.bp_freeze.specs.Log.{label_in}
 use Rattle.bp_freeze.specs.Seeing.{page_count}
 
 -- its images, its text, and its values of the chosen fields
+-- by FRCP 26(b)(5)(A)
 pub record Content : Type 0 where
   pub images : List Image
   pub text : List ℕ
@@ -29,14 +30,17 @@ pub record Content : Type 0 where
 -- ---- of an item that is withheld
 
 -- the sheet that stands for it, under its one label
+-- by FRCP 26(b)(5)(A)
 unfoldable pub slip_sheet : Request → Item → Basis → Image
 slip_sheet q i basis = slip_of basis (label_in q.prefix i.span.first) i.designation
 
 -- the text of that sheet
+-- by FRCP 26(b)(5)(A)
 abbrev pub withheld_text : Basis → List ℕ
 withheld_text basis = slip_text basis ++ line_end ++ form_feed ∷ []
 
 -- each chosen field is empty
+-- by FRCP 26(b)(5)(A)
 abbrev pub withheld_content : Request → Item → Basis → Content
 withheld_content q i basis = record {
   images = slip_sheet q i basis ∷ [];
@@ -47,44 +51,54 @@ withheld_content q i basis = record {
 -- ---- of an item that isn't
 
 -- a page of a document; one that isn't there has no pixels
+-- by FRCP 26(b)(5)(A)
 abbrev pub image_in : Matter → ℕ → ℕ → Image
 image_in m doc page =
     unwrap_or (of_row (λ row. row.image) (page_with doc page m))
     (white_image 0 0 slip_resolution slip_resolution Inch)
 
 -- its page of that number, burned, with its label and its designation
+-- by FRCP 26(b)(5)(A)
 unfoldable pub produced_page : Request → Matter → Item → ℕ → Image
 produced_page q m i page =
     produced_of (image_in m i.doc.0 page) (rects_on i.boxes page)
     (label_in q.prefix (i.span.first + page - 1)) i.designation
 
 -- the words of that page which no box touches
+-- by FRCP 26(b)(5)(A)
 abbrev pub kept_text : Matter → Item → ℕ → List ℕ
 kept_text m i page =
     page_text_of (unwrap_or (kept_words m i.doc.0 page (rects_on i.boxes page)) [])
 
 -- what stands for a value that is held
+-- by FRCP 26(b)(5)(A)
 abbrev pub held_text : HeldRow → List ℕ
 held_text held = codes "WITHHELD - " ++ basis_code held.basis
 
 -- a value that isn't held stands for itself
+-- by FRCP 26(b)(5)(A)
 abbrev pub value_unless : Option HeldRow → Option (List ℕ) → List ℕ
 value_unless (Some held) value = held_text held
 value_unless None value = unwrap_or value []
 
 -- what is shown of a field, if there is one
+-- by FRCP 26(b)(5)(A)
 abbrev pub value_by : Matter → Item → Option ℕ → List ℕ
 value_by m i None = []
 value_by m i (Some field) = value_unless (held_for i.held field) (value_in m i.doc.0 field)
 
 -- what is shown of the field of a name
+-- by FRCP 26(b)(5)(A)
 abbrev pub value_shown : Matter → Item → List ℕ → List ℕ
 value_shown m i name = value_by m i (field_number m name)
 
 -- the numbers of the pages of a document
+-- by FRCP 26(b)(5)(A)
 abbrev pub pages_of : Matter → ℕ → List ℕ
 pages_of m doc = range_with_len 1 (page_count m doc)
 
+-- the images, text and values of an item that is produced
+-- by FRCP 26(b)(5)(A)
 abbrev pub produced_content : Request → Matter → Item → Content
 produced_content q m i = record {
   images = map (produced_page q m i) (pages_of m i.doc.0);
@@ -95,23 +109,30 @@ produced_content q m i = record {
 -- ---- of each
 
 -- the ground on which a whole document is withheld
+-- by FRCP 26(b)(5)(A)
 abbrev pub ground_of : Treatment → Option Basis
 ground_of (Withhold basis) = Some basis
 ground_of _ = None
 
+-- the content of an item, by whether it is withheld
+-- by FRCP 26(b)(5)(A)
 abbrev pub content_by : Request → Matter → Item → Option Basis → Content
 content_by q m i (Some basis) = withheld_content q i basis
 content_by q m i None = produced_content q m i
 
 -- the value in the column of a chosen field: of a withheld item it is empty
+-- by FRCP 26(b)(5)(A)
 abbrev pub value_in_column : Matter → Item → Option Basis → List ℕ → List ℕ
 value_in_column m i (Some basis) name = []
 value_in_column m i None name = value_shown m i name
 
 -- an item, and what a volume shows of it
+-- by FRCP 26(b)(5)(A)
 pub record Part : Type 0 where
   pub item : Item
   pub content : Content
 
+-- an item and its content
+-- by FRCP 26(b)(5)(A)
 abbrev pub part_of : Request → Matter → Item → Part
 part_of q m i = record { item = i; content = content_by q m i (ground_of i.treatment) }

@@ -36,5 +36,6 @@ abbrev pub text_file : Request → Placed → FileRow
 text_file q p =
     file (text_path solidus q p.place p.item.span.first) (encode_utf8_all p.content.text)
 
+-- the files of an item: its images, then its text
 abbrev pub item_files : Request → Placed → List FileRow
 item_files q p = image_files q p.place p.item.span.first p.content.images ++ text_file q p ∷ []

@@ -20,20 +20,24 @@ use Rattle.bp_press.specs.Files.{Placed}
 use Rattle.bp_press.specs.Paths.{image_path, text_path}
 
 -- the items of a family
+-- by Concordance DAT, Opticon OPT
 abbrev pub family_of : Production → Item → List Item
 family_of f i = filter (λ other. other.parent.0 == i.parent.0) f.items
 
 -- how many labels an item has
+-- by Concordance DAT, Opticon OPT
 abbrev pub label_count : Item → ℕ
 label_count i = i.span.last + 1 - i.span.first
 
 -- the code of a ground, if there is one
+-- by Concordance DAT, Opticon OPT
 abbrev pub optional_code : Option Basis → List ℕ
 optional_code None = []
 optional_code (Some basis) = basis_code basis
 
 -- the values of an item in the columns that each DAT has: its first and its last label, those of
 -- its family, how many labels it has, what is stamped on it, why it is withheld, and its text
+-- by Concordance DAT, Opticon OPT
 abbrev pub own_values : Production → Placed → List (List ℕ)
 own_values f p =
     let prefix = f.request.prefix in let i = p.item in let family = family_of f i in
@@ -43,18 +47,23 @@ own_values f p =
     ∷ text_path reverse_solidus f.request p.place i.span.first ∷ []
 
 -- and in the chosen fields
+-- by Concordance DAT, Opticon OPT
 abbrev pub dat_row : Production → Placed → List (List ℕ)
 dat_row f p = own_values f p ++ p.content.values
 
 -- the DAT, as a table and written
+-- by Concordance DAT, Opticon OPT
 abbrev pub dat_table : Production → List Placed → Table
 dat_table f items =
     record { columns = columns ++ f.request.fields; rows = map (dat_row f) items }
 
+-- the bytes of the DAT file
+-- by Concordance DAT, Opticon OPT
 abbrev pub dat_bytes : Production → List Placed → List ℕ
 dat_bytes f items = dat_text (dat_table f items)
 
 -- the line of an image of an item, counted from 0; the first says how many there are
+-- by Concordance DAT, Opticon OPT
 abbrev pub opt_line : Request → Placed → ℕ → OptLine
 opt_line q p k = record {
   image = label_in q.prefix (p.item.span.first + k);
@@ -66,9 +75,12 @@ opt_line q p k = record {
   pages = if k == 0 then decimal (length p.content.images) else [];
 }
 
+-- the lines of an item in the OPT file
+-- by Concordance DAT, Opticon OPT
 abbrev pub opt_lines : Request → Placed → List OptLine
 opt_lines q p = map (opt_line q p) (range_with_len 0 (length p.content.images))
 
 -- the OPT
+-- by Concordance DAT, Opticon OPT
 abbrev pub opt_bytes : Request → List Placed → List ℕ
 opt_bytes q items = opt_text (flat_map (opt_lines q) items)

@@ -28,5 +28,6 @@ text_path separator q place number =
 abbrev pub data_path : Request → List ℕ → List ℕ
 data_path q ending = join_with_byte solidus (q.volume ∷ codes "DATA" ∷ (q.volume ++ ending) ∷ [])
 
+-- the path of the manifest
 abbrev pub manifest_path : Request → List ℕ
 manifest_path q = join_with_byte solidus (q.volume ∷ codes "MANIFEST.TXT" ∷ [])

@@ -16,6 +16,7 @@ use Rattle.bp_press.specs.Paths.{image_path}
 use Rattle.bp_press.specs.Volume.{placed_items, volume_of}
 
 -- among the files is one of this path, which is read as this page and as no other
+-- by TIFF 6.0
 pub record HoldsPage (files : List FileRow) (path : List ℕ) (page : Image) : Type 0 where
   pub before : List FileRow
   pub bytes : List ℕ
@@ -25,6 +26,7 @@ pub record HoldsPage (files : List FileRow) (path : List ℕ) (page : Image) : T
 
 -- among the files are those of the images of an item: the sheet of one that is withheld on a
 -- ground, or each page of one that isn't
+-- by TIFF 6.0
 abbrev pub HoldsImages : List FileRow → Request → Matter → Placed → Option Basis → Type 0
 HoldsImages files q m p (Some basis) =
     HoldsPage files (image_path solidus q p.place p.item.span.first) (slip_sheet q p.item basis)
@@ -34,9 +36,12 @@ HoldsImages files q m p None =
     (image_path solidus q (p.place + page - 1) (p.item.span.first + page - 1))
     (produced_page q m p.item page)
 
+-- the images of an item are read back as what they were made of
+-- by TIFF 6.0
 abbrev pub HoldsItem : List FileRow → Request → Matter → Placed → Type 0
 HoldsItem files q m p = HoldsImages files q m p (ground_of p.item.treatment)
 
 -- the images of a volume are read as the pages and the sheets that they were made of
+-- by TIFF 6.0
 abbrev pub IsReadBack : Production → Matter → Type 0
 IsReadBack f m = All (HoldsItem (volume_of f m) f.request m) (placed_items f m)

@@ -20,12 +20,15 @@ use Rattle.bp_press.specs.Paths.{data_path, manifest_path}
 abbrev pub dat_file : Production → List Placed → FileRow
 dat_file f items = file (data_path f.request (codes ".DAT")) (dat_bytes f items)
 
+-- the OPT file
 abbrev pub opt_file : Production → List Placed → FileRow
 opt_file f items = file (data_path f.request (codes ".OPT")) (opt_bytes f.request items)
 
+-- the privilege log
 abbrev pub log_file : Production → FileRow
 log_file f = file (data_path f.request (codes "-LOG.CSV")) (log_of f)
 
+-- the three files of data: DAT, OPT and log
 abbrev pub data_files : Production → List Placed → List FileRow
 data_files f items = dat_file f items ∷ opt_file f items ∷ log_file f ∷ []
 

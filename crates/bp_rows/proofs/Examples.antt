@@ -1,6 +1,7 @@
 -- Worked examples of the definitions in specs/, each run by the check.
 use Rattle.std.proofs.Common.{ℕ, ◌≡◌, ◌≤◌, Bool, true, false, List, [], ◌∷◌, ◌++◌, replicate, get_or, refl, sym, subst, arith}
 use Rattle.bp_core.specs.declared.rectangle.Rect.{Rect}
+use Rattle.bp_rows.specs.declared.limits.TheConstants.{MAX_WIDTH, MAX_HEIGHT, MAX_PIXELS, MAX_IMPORT_HEIGHT, MAX_IMPORT_PIXELS}
 use Rattle.bp_rows.specs.declared.resolution.Res.{Res}
 use Rattle.bp_rows.specs.declared.resolution.Unit.TheVariants.{Inch}
 use Rattle.bp_rows.specs.Limits.{sides_are_allowed, sides_are_imported}
@@ -11,6 +12,23 @@ use Rattle.bp_rows.specs.Packed.{packed_rows}
 use Rattle.bp_rows.specs.Changes.{changes_of}
 use Rattle.bp_rows.specs.Runs.{painted_runs, IsRuns}
 use Rattle.bp_rows.specs.Words.{pixels_in, ones_from, last_of}
+
+-- ---- limits
+
+widest : MAX_WIDTH ≡ 20000
+widest = refl
+
+highest : MAX_HEIGHT ≡ 20032
+highest = refl
+
+most_pixels : MAX_PIXELS ≡ 200640000
+most_pixels = refl
+
+highest_import : MAX_IMPORT_HEIGHT ≡ 20000
+highest_import = refl
+
+most_imported : MAX_IMPORT_PIXELS ≡ 200000000
+most_imported = refl
 
 -- ---- sides
 
@@ -40,6 +58,12 @@ largest_import = refl
 
 too_high_to_import : sides_are_imported 1 20001 ≡ false
 too_high_to_import = refl
+
+too_wide_to_import : sides_are_imported 20001 1 ≡ false
+too_wide_to_import = refl
+
+too_many_to_import : sides_are_imported 20000 10001 ≡ false
+too_many_to_import = refl
 
 -- ---- pixels
 

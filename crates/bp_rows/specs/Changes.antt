@@ -3,11 +3,13 @@
 use Rattle.std.specs.Prelude.{ℕ, zero, suc, ◌+◌, ◌<◌, ◌≤◌, ◌≡◌, Bool, true, false, not, List, [], ◌∷◌, length, slice_index_or, if◌then◌else◌}
 
 -- the pixel differs from the one before it
+-- by ITU-T T.6, 2.2.2, changing picture elements
 abbrev pub differs : Bool → Bool → Bool
 differs true pixel = not pixel
 differs false pixel = pixel
 
 -- the places, counted from one on, of the changing elements of pixels that follow a pixel
+-- by ITU-T T.6, 2.2.2, changing picture elements
 abbrev pub changes_from : ℕ → Bool → List Bool → List ℕ
 changes_from at before [] = []
 changes_from at before (pixel ∷ row) =
@@ -15,6 +17,7 @@ changes_from at before (pixel ∷ row) =
     else changes_from (at + 1) pixel row
 
 -- the places of the changing elements of a row; before its first pixel stands a white one
+-- by ITU-T T.6, 2.2.2, changing picture elements
 abbrev pub changes_of : List Bool → List ℕ
 changes_of row = changes_from 0 false row
 
@@ -24,6 +27,7 @@ changes_of row = changes_from 0 false row
 abbrev pub place_at : List ℕ → ℕ → ℕ → ℕ
 place_at places width k = slice_index_or places k width
 
+-- a number is odd
 abbrev pub odd : ℕ → Bool
 odd zero = false
 odd (suc n) = not (odd n)

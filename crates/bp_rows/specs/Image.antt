@@ -7,6 +7,7 @@ use Rattle.bp_rows.specs.declared.resolution.Unit.{Unit as LengthUnit}
 
 -- Sides in pixels, two resolutions and their unit, and the rows from the top, each from the left.
 -- True is black.
+-- by TIFF 6.0, section 3, bilevel images
 pub record Image : Type 0 where
   pub width : ℕ
   pub height : ℕ
@@ -16,16 +17,19 @@ pub record Image : Type 0 where
   pub rows : List (List Bool)
 
 -- so many rows, each of that many pixels
+-- by TIFF 6.0, section 3, bilevel images
 pub record IsGrid (width height : ℕ) (rows : List (List Bool)) : Type 0 where
   pub down : length rows ≡ height
   pub across : (r : ℕ) → r < height → length (slice_index_or rows r []) ≡ width
 
 -- a resolution of two numbers of 32 bits
+-- by TIFF 6.0, section 3, bilevel images
 pub record FitsRes (res : Res) : Type 0 where
   pub num : res.num < 2 ^ 32
   pub den : res.den < 2 ^ 32
 
 -- an image of allowed sides, with rows of these sides
+-- by TIFF 6.0, section 3, bilevel images
 pub record IsPage (p : Image) : Type 0 where
   pub sides : IsTrue (sides_are_allowed p.width p.height)
   pub xres : FitsRes p.xres

@@ -16,4 +16,4 @@ pub use limits::{MAX_WIDTH, allowed_sides, import_sides};
 pub use page::{Page, StripFault};
 pub use paint::push_row;
 pub use resolution::{Res, Unit};
-pub use runs::Runs;
+pub use runs::{Runs, push_runs};

@@ -11,7 +11,8 @@ use Rattle.bp_matter.specs.ValidBatches.{BatchFacts, batch_fits, batch_name}
 use Rattle.bp_matter.specs.ValidDocs.{DocFacts, are_families, doc_fits}
 use Rattle.bp_matter.specs.ValidFields.{FieldFacts, field_fits, field_name, has_field}
 use Rattle.bp_matter.specs.ValidProductions.{itself}
-use Rattle.bp_matter.specs.ValidRows.{all_differ, is_numbered, names}
+use Rattle.bp_core.specs.Differing.{all_differ}
+use Rattle.bp_matter.specs.ValidRows.{is_numbered, names}
 use Rattle.bp_matter.specs.Written.{are_few, batch_written, doc_written, field_written, is_short, is_word}
 use Rattle.bp_matter.specs.declared.batches.BatchDoc.{BatchDoc}
 use Rattle.bp_matter.specs.declared.rows.BatchRow.{BatchRow}

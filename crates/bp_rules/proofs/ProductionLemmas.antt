@@ -19,7 +19,8 @@ use Rattle.bp_matter.specs.ValidItems.{are_whole, due_after, held_row_fits, is_d
 use Rattle.bp_matter.specs.ValidMarks.{BoxFacts, HeldFacts, box_fits, doc_box_fits, doc_held_fits}
 use Rattle.bp_matter.specs.ValidPages.{inside_page}
 use Rattle.bp_matter.specs.ValidProductions.{ProductionFacts, all_marked_on, blank, field_chosen, is_marked, itself, mark, marked_on, production_fits, request_fits, stand_once}
-use Rattle.bp_matter.specs.ValidRows.{all_differ, is_numbered, names}
+use Rattle.bp_core.specs.Differing.{all_differ}
+use Rattle.bp_matter.specs.ValidRows.{is_numbered, names}
 use Rattle.bp_matter.specs.declared.rows.BoxRow.{BoxRow}
 use Rattle.bp_matter.specs.declared.rows.CallRow.{CallRow}
 use Rattle.bp_matter.specs.declared.rows.DocBox.{DocBox}

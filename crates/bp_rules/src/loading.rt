@@ -1,7 +1,7 @@
 // Loading the tables of a matter.
 ghost use Rattle.std.specs.Prelude.{◌≡◌, IfOk, IsTrue};
 ghost use Rattle.bp_matter.specs.ValidProductions.{itself};
-ghost use Rattle.bp_matter.specs.ValidRows.{all_differ};
+ghost use Rattle.bp_core.specs.Differing.{all_differ};
 ghost use Rattle.bp_freeze.specs.Numbers.{AreTakenOnce, all_labels};
 ghost use Rattle.bp_rules.specs.Loading.{LoadsTables};
 

@@ -1,7 +1,7 @@
 // Steps: decided, kept and made.
 ghost use Rattle.std.specs.Prelude.{◌≡◌, IsTrue};
 ghost use Rattle.bp_matter.specs.ValidProductions.{itself};
-ghost use Rattle.bp_matter.specs.ValidRows.{all_differ};
+ghost use Rattle.bp_core.specs.Differing.{all_differ};
 ghost use Rattle.bp_freeze.specs.Numbers.{AreTakenOnce, all_labels};
 ghost use Rattle.bp_rules.specs.Changes.{CanBeMade};
 ghost use Rattle.bp_rules.specs.Keeping.{StepKeeps};

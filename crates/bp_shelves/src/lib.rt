@@ -5,8 +5,6 @@
 mod shelved;
 mod shelves;
 mod stocking;
-#[cfg(test)]
-mod tests;
 
 pub use shelved::Shelved;
 pub use shelves::Shelves;

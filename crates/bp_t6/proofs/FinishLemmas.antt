@@ -49,7 +49,7 @@ zeros : (k : ℕ) → low_bits k 0 ≡ replicate k false
 zeros zero = refl
 zeros (suc k) = ap (λ v. eqb v 1 ∷ low_bits k 0) (bit_at-zero k) ∙ ap (λ bs. false ∷ bs) (zeros k)
 
-length-low_bits : (k n : ℕ) → length (low_bits k n) ≡ k
+pub length-low_bits : (k n : ℕ) → length (low_bits k n) ≡ k
 length-low_bits zero n = refl
 length-low_bits (suc k) n = ap suc (length-low_bits k n)
 

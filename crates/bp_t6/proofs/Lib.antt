@@ -8,6 +8,7 @@ pub mod GatherLemmas
 pub mod LawLemmas
 pub mod LeastLemmas
 pub mod LookLemmas
+pub mod MarkLemmas
 pub mod MissingLemmas
 pub mod NearLemmas
 pub mod OneFaultLemmas
@@ -16,6 +17,8 @@ pub mod OneStopLemmas
 pub mod PlaceLemmas
 pub mod RowLemmas
 pub mod RunCodeLemmas
+pub mod RunPlaceLemmas
+pub mod SoFarLemmas
 pub mod SomeAnswerLemmas
 pub mod StepLemmas
 pub mod StripLemmas

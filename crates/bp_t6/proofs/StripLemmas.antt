@@ -18,29 +18,21 @@ use Rattle.bp_t6.specs.Read.{RowReads, LinesRead}
 use Rattle.bp_t6.specs.Faults.{RowFault, LinesFault, here, later, StripFault}
 use Rattle.bp_rows.specs.Changes.{Shows}
 use Rattle.bp_t6.specs.Reading.{IfFault, RowIsRead, RowStops}
+use Rattle.bp_t6.specs.SoFar.{LinesTo, last_line}
 use Rattle.bp_t6.specs.Strips.{refusal_for, AppendsLines, SaysFault, IsRefused}
 use Rattle.bp_core.specs.Answers.{IfRule}
 use Rattle.bp_t6.proofs.RunCodeLemmas.{flat_map-append}
 use Rattle.bp_rows.proofs.ShownLemmas.{shows_white}
 
--- lines are read in turn, and these bits are left
-abbrev pub LinesTo : List Bool → List Bool → List (List Bool) → List Bool → Type 0
-LinesTo above bits [] rest = bits ≡ rest
-LinesTo above bits (line ∷ lines) rest = (next : List Bool) × RowReads above bits line next × LinesTo line next lines rest
-
-abbrev pub last_line : List Bool → List (List Bool) → List Bool
-last_line above [] = above
-last_line above (line ∷ lines) = last_line line lines
-
 pub lines_to-read : (above bits : List Bool) (lines : List (List Bool)) (rest : List Bool) → LinesTo above bits lines rest → LinesRead above bits lines
 lines_to-read above bits [] rest so = tt
 lines_to-read above bits (line ∷ lines) rest so = (so.0, so.1, lines_to-read line so.0 lines rest so.2)
 
-lines_more : (above bits : List Bool) (lines : List (List Bool)) (rest line next : List Bool) → LinesTo above bits lines rest → RowReads (last_line above lines) rest line next → LinesTo above bits (lines ++ line ∷ []) next
+pub lines_more : (above bits : List Bool) (lines : List (List Bool)) (rest line next : List Bool) → LinesTo above bits lines rest → RowReads (last_line above lines) rest line next → LinesTo above bits (lines ++ line ∷ []) next
 lines_more above bits [] rest line next so reads = (next, subst (λ (bs : List Bool). RowReads above bs line next) (sym so) reads, refl)
 lines_more above bits (first ∷ lines) rest line next so reads = (so.0, so.1, lines_more first so.0 lines rest line next so.2 reads)
 
-last-more : (above : List Bool) (lines : List (List Bool)) (line : List Bool) → last_line above (lines ++ line ∷ []) ≡ line
+pub last-more : (above : List Bool) (lines : List (List Bool)) (line : List Bool) → last_line above (lines ++ line ∷ []) ≡ line
 last-more above [] line = refl
 last-more above (first ∷ lines) line = last-more first lines line
 
@@ -52,7 +44,7 @@ to_short above bits [] rest so = omega (arith, ap length so)
 to_short above bits (line ∷ lines) rest so = omega (arith, rest_short above bits line so.0 so.1, to_short line so.0 lines rest so.2)
 
 -- the first fault stands after the lines that are read
-lines_fault : (above bits : List Bool) (lines : List (List Bool)) (rest : List Bool) (left : ℕ) (kind : RuleKind) (at : ℕ) → LinesTo above bits lines rest → length lines < left → RowFault (last_line above lines) rest kind at → LinesFault above bits left kind (length lines) (length bits - length rest + at)
+pub lines_fault : (above bits : List Bool) (lines : List (List Bool)) (rest : List Bool) (left : ℕ) (kind : RuleKind) (at : ℕ) → LinesTo above bits lines rest → length lines < left → RowFault (last_line above lines) rest kind at → LinesFault above bits left kind (length lines) (length bits - length rest + at)
 lines_fault above bits [] rest left kind at so more fault =
     let none : at ≡ length bits - length rest + at = omega (arith, ap length so) in
     subst (λ (n : ℕ). LinesFault above bits left kind 0 n) none (here above bits left kind at more (subst (λ (bs : List Bool). RowFault above bs kind at) (sym so) fault))

@@ -1,11 +1,13 @@
 pub mod Coding
 pub mod Faults
 pub mod Gathered
+pub mod Marks
 pub mod Modes
 pub mod Near
 pub mod Places
 pub mod Read
 pub mod Reading
+pub mod SoFar
 pub mod Strips
 pub mod Turns
 pub mod Written

@@ -7,6 +7,7 @@ use Rattle.bp_t6.specs.declared.near_reader.Near.{Near}
 use Rattle.bp_t6.specs.Modes.{Mode, Pass, Vertical, code, vertical_rows}
 
 -- a number of 64 binary digits, of which so many of the first are the first of these bits
+-- by ITU-T T.6, table 1
 pub record Holds (word count : ℕ) (bits : List Bool) : Type 0 where
   pub digits : List Bool
   pub whole : length digits ≡ 64
@@ -16,10 +17,12 @@ pub record Holds (word count : ℕ) (bits : List Bool) : Type 0 where
   pub same : take count digits ≡ take count bits
 
 -- the mode that a shift stands for: vertical up to 6, and then pass
+-- by ITU-T T.6, table 1
 abbrev pub near_mode : ℕ → Mode
 near_mode shift = if nat_eq shift 7 then Pass else Vertical shift
 
 -- the bits begin with the code of that mode, of that length; the row of pass is 0
+-- by ITU-T T.6, table 1
 pub record BeginsNear (bits : List Bool) (near : Near) : Type 0 where
   pub small : near.shift ≤ 7
   pub short : near.len ≤ 7

@@ -34,6 +34,7 @@ abbrev pub IfFault : (ReadFault → Type 0) → Stop → Type 0
 IfFault P (Fault f) = P f
 IfFault P OutOfMemory = Unit {0}
 
+-- the place of a reader
 abbrev pub place_under : Under → Place
 place_under u = record { right = u.right; black = u.black }
 

@@ -15,6 +15,7 @@ use Rattle.bp_t6.specs.declared.reading.Stop.TheVariants as answers
 use Rattle.bp_t6.specs.Read.{StripReads}
 use Rattle.bp_t6.specs.Faults.{StripFault}
 
+-- the resolution of a page that is read from a bare strip
 abbrev pub strip_res : Res
 strip_res = record { num = 200; den = 1 }
 
@@ -53,6 +54,7 @@ pub record SaysFault (bits : List Bool) (width height first : ℕ) (rule : Broke
   pub says : rule ≡ fault_rule kind (first + row) at
 
 -- by the sides, or by the first fault of the strip
+-- the sides are refused, or the strip has that fault
 abbrev pub IsRefused : List Bool → ℕ → ℕ → Refusal → Type 0
 IsRefused bits width height (refusals.Rule rule) =
     ((sides_are_allowed width height ≡ false) × (rule ≡ page_limit_rule width height))

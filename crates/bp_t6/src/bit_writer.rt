@@ -1,12 +1,15 @@
 // Bits gathered into bytes, the first bit highest.
-ghost use Rattle.std.specs.Prelude.{◌≡◌, ◌<◌, ◌≤◌, ◌^◌, ◌++◌, [], OnOk, OnErr, IfOk};
+ghost use Rattle.std.specs.Prelude.{◌≡◌, ◌<◌, ◌≤◌, ◌^◌, ◌++◌, Bool, List, [], OnOk, OnErr, IfOk};
 ghost use Rattle.bp_codes.specs.Bits.{code_bits};
 ghost use Rattle.bp_rows.specs.Packed.{packed_row};
+ghost use Rattle.bp_t6.specs.Marks.{IsMarked, Continues};
 
 use crate::lengths::LONGEST_CODE;
+use crate::mark::Mark;
 use bp_codes::Code;
 use std::alloc::{AllocError, Global};
 use std::marker::Model;
+use std::mem;
 
 /// Whole words of four bytes, and up to 31 bits that wait for more.
 #[derive(Drop)]
@@ -63,19 +66,39 @@ impl BitWriter {
         Ok(())
     }
 
-    /// The bytes of the bits, with zero bits to the byte.
-    pub fn finish(self) -> Result<Vec<u8>, AllocError>
-        ensures { IfOk result (λ bytes. bytes.items ≡ packed_row self) }
+    /// The place behind the bits so far.
+    pub fn mark(&self) -> Mark
+        ensures { IsMarked result self.now }
     {
-        let BitWriter {
-            mut bytes,
-            held,
-            fill,
-        } = self;
-        let word = (held << (32 - fill)) as u32;
+        Mark {
+            bytes: self.bytes.len(),
+            held: self.held,
+            fill: self.fill,
+        }
+    }
+
+    /// Takes back the bits behind a place. It takes no memory.
+    pub fn go_back(&mut self, mark: &Mark)
+        ensures { (bits : List Bool) →
+            IsMarked mark.now bits → Continues bits self.old → self.new ≡ bits }
+    {
+        self.bytes.truncate(mark.bytes);
+        self.held = mark.held;
+        self.fill = mark.fill;
+    }
+
+    /// The bytes of the bits, with zero bits to the byte. No bits are left.
+    pub fn finish(&mut self, alloc: Global) -> Result<Vec<u8>, AllocError>
+        ensures bytes { IfOk result (λ bytes. bytes.items ≡ packed_row self.old) }
+        ensures none { OnOk result (self.new ≡ []) }
+        ensures kept { OnErr result (self.new ≡ self.old) }
+    {
+        let word = (self.held << (32 - self.fill)) as u32;
         let last = word.to_be_bytes();
-        let count = (fill as usize + 7) / 8;
-        bytes.extend_from_slice(&last[..count])?;
-        Ok(bytes)
+        let count = (self.fill as usize + 7) / 8;
+        self.bytes.extend_from_slice(&last[..count])?;
+        self.held = 0;
+        self.fill = 0;
+        Ok(mem::replace(&mut self.bytes, Vec::new(alloc)))
     }
 }

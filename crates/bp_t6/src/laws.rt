@@ -1,12 +1,16 @@
 //! The laws of strips. The functions do nothing: the contract of each is the law.
-ghost use Rattle.std.specs.Prelude.{◌≡◌, ◌<◌, ◌≤◌, ◌+◌, ◌*◌, ◌^◌, ◌↔◌, ◌⊎◌, ℕ, Bool, List, length};
+ghost use Rattle.std.specs.Prelude.{◌≡◌, ◌<◌, ◌≤◌, ◌+◌, ◌*◌, ◌^◌, ◌↔◌, ◌⊎◌, ℕ, Bool, List, None, length, take};
 ghost use Rattle.bp_core.specs.declared.rules.RuleKind.{RuleKind};
 ghost use Rattle.bp_codes.specs.declared.span.Fill.TheVariants.{High};
 ghost use Rattle.bp_codes.specs.Bits.{bits_of};
-ghost use Rattle.bp_rows.specs.Image.{Image, IsPage};
+ghost use Rattle.bp_rows.specs.Image.{Image, IsPage, row_of};
+ghost use Rattle.bp_rows.specs.Runs.{IsRuns};
 ghost use Rattle.bp_t6.specs.Written.{row_code, strip_of};
 ghost use Rattle.bp_t6.specs.Faults.{StripFault};
 ghost use Rattle.bp_t6.specs.Read.{StripReads};
+ghost use Rattle.bp_t6.specs.SoFar.{ReadSoFar, ReadsNext, ReadsPage, unread};
+ghost use Rattle.bp_t6.specs.Strips.{SaysFault};
+ghost use Rattle.bp_core.specs.declared.rules.Rule.{Rule as BrokenRule};
 
 use bp_codes::laws::{black_laws, mode_laws, mode_place_laws, white_laws};
 
@@ -51,6 +55,29 @@ pub fn reading_law()
     black_laws();
     mode_laws();
     mode_place_laws();
+}
+
+/// The rows that are read one after another over the strip of a page are the page's, in order, and
+/// none of them breaks a rule. A fault of some rows is one of more rows too.
+pub fn rows_law()
+    ensures begins { (p : Image) (reader : ReadSoFar) →
+        reader ≡ unread (bits_of High (strip_of p)) p.width → ReadsPage p 0 reader }
+    ensures next { (p : Image) (count : ℕ) (old new : ReadSoFar) (runs : List ℕ) →
+        IsPage p → count < p.height → ReadsPage p count old →
+        new.bits ≡ old.bits → new.width ≡ old.width → new.fault ≡ None →
+        ReadsNext (take count p.rows) new runs →
+        IsRuns runs (row_of p count) × ReadsPage p (count + 1) new }
+    ensures never { (p : Image) (count : ℕ) (reader : ReadSoFar) (rule : BrokenRule) →
+        IsPage p → count < p.height → ReadsPage p count reader →
+        SaysFault reader.bits reader.width (reader.row + 1) 0 rule →
+        ⊥ }
+    ensures more { (bits : List Bool) (width count height : ℕ) →
+        (kind : RuleKind) (row at : ℕ) →
+        StripFault bits width count kind row at → count ≤ height →
+        StripFault bits width height kind row at }
+{
+    strip_law();
+    reading_law();
 }
 
 /// Whatever the bits are, a strip of any sides is read as some lines or has some fault.

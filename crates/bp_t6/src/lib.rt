@@ -2,7 +2,8 @@
 //!
 //! `code_page` gives the strip of a page; its contract cites `strip_of` of specs/Written.antt, the
 //! coding procedure of T.6. `read_strip` gives the page of a strip, or the first place where it breaks
-//! a rule: `StripReads` of specs/Read.antt and `StripFault` of specs/Faults.antt. `laws` says that the
+//! a rule: `StripReads` of specs/Read.antt and `StripFault` of specs/Faults.antt. `StripRows` and
+//! `StripWriter` do the same a row at a time, as runs (specs/SoFar.antt). `laws` says that the
 //! strip of a page is read as the page's rows and as no others, and that any bits are read as some rows
 //! or have some fault.
 #![tactic(auto)]
@@ -11,6 +12,8 @@ mod bit_writer;
 pub mod laws;
 mod lengths;
 mod line_reader;
+mod line_writer;
+mod mark;
 mod missing;
 mod mode_reader;
 mod near_index;
@@ -19,13 +22,15 @@ mod page;
 mod quick_reader;
 mod reading;
 mod row;
+mod run_places;
 mod run_reader;
 mod strip_reader;
+mod strip_rows;
+mod strip_writer;
 mod tables;
-#[cfg(test)]
-mod tests;
 mod turns;
-mod writer;
 
 pub use page::code_page;
 pub use strip_reader::{StripReader, read_strip};
+pub use strip_rows::StripRows;
+pub use strip_writer::StripWriter;

@@ -4,7 +4,7 @@ ghost use Rattle.bp_codes.specs.CodeLists.{end_of_block};
 ghost use Rattle.bp_rows.specs.Image.{IsPage};
 ghost use Rattle.bp_t6.specs.Written.{strip_bits, strip_of};
 
-use crate::writer::StripWriter;
+use crate::line_writer::LineWriter;
 use bp_core::{Bytes, OutOfMemory};
 use bp_rows::Page;
 use std::alloc::Global;
@@ -19,16 +19,16 @@ pub fn code_page(alloc: Global, page: &Page) -> Result<Bytes, OutOfMemory>
         IfOk result (λ bytes. length bytes ≤ 8 * (width + 1) * height + 4) }
     ensures fits { IfOk result (λ bytes. length bytes < 2 ^ 32) }
 {
-    let writer = code_rows(alloc, page)?;
-    Ok(Bytes::from_vec(writer.finish()?))
+    let mut writer = code_rows(alloc, page)?;
+    Ok(Bytes::from_vec(writer.finish(alloc)?))
 }
 
 // The strip under way with all rows of a page.
-fn code_rows(alloc: Global, page: &Page) -> Result<StripWriter, OutOfMemory>
+fn code_rows(alloc: Global, page: &Page) -> Result<LineWriter, OutOfMemory>
     ensures page { IsPage page.now }
     ensures coded { IfOk result (λ writer. writer.out ++ end_of_block ≡ strip_bits page.now) }
 {
-    let mut writer = StripWriter::new(alloc, page.width());
+    let mut writer = LineWriter::new(alloc, page.width());
     let mut line = Vec::new(alloc);
     for row in 0..page.height() {
         page.row_changes(row, &mut line)?;

@@ -74,9 +74,9 @@ impl StripReader {
     }
 }
 
-// What is answered of a row where reading stops.
+/// What is answered of a row where reading stops.
 #[inline(never)]
-fn refusal_of(stop: Stop, row: u64) -> Refusal
+pub fn refusal_of(stop: Stop, row: u64) -> Refusal
     ensures { result ≡ refusal_for stop row }
 {
     match stop {

@@ -3,6 +3,7 @@ ghost use Rattle.std.specs.Prelude.{◌≡◌, ◌<◌, ◌≤◌, ◌+◌, ◌-
 ghost use Rattle.bp_codes.specs.CodeLists.{white_codes, black_codes, mode_codes, end_of_block};
 ghost use Rattle.bp_t6.specs.Modes.{code, run_bits_in, run_codes};
 ghost use Rattle.bp_t6.specs.Gathered.{AreShort};
+ghost use Rattle.bp_t6.specs.Marks.{Continues};
 ghost use Rattle.bp_t6.specs.Written.{run_of};
 
 use crate::bit_writer::BitWriter;
@@ -53,7 +54,8 @@ impl CodeTables {
     #[inline(always)]
     pub fn put_mode(&self, out: &mut BitWriter, row: usize) -> Result<(), AllocError>
         requires { row < 9 }
-        ensures { OnOk result (out.new ≡ out.old ++ code mode_codes row) }
+        ensures put { OnOk result (out.new ≡ out.old ++ code mode_codes row) }
+        ensures begins { Continues out.old out.new }
     {
         put_code(out, self.mode_table(), row)
     }
@@ -61,7 +63,9 @@ impl CodeTables {
     /// The codes of a run go out.
     #[inline(always)]
     pub fn put_run(&self, out: &mut BitWriter, is_black: bool, run: u32) -> Result<(), AllocError>
-        ensures { OnOk result (out.new ≡ out.old ++ run_bits_in (run_codes is_black) (run_of run)) }
+        ensures put { let bits = run_bits_in (run_codes is_black) (run_of run) in
+            OnOk result (out.new ≡ out.old ++ bits) }
+        ensures begins { Continues out.old out.new }
     {
         put_run(out, self.run_table(is_black), run)
     }
@@ -69,7 +73,8 @@ impl CodeTables {
 
 /// The end of the facsimile block goes out: twice the end-of-line code (ITU-T T.6, EOFB).
 pub fn put_end_of_block(out: &mut BitWriter) -> Result<(), AllocError>
-    ensures { OnOk result (out.new ≡ out.old ++ end_of_block) }
+    ensures put { OnOk result (out.new ≡ out.old ++ end_of_block) }
+    ensures begins { Continues out.old out.new }
 {
     let end = Code { bits: 1, len: 12 };
     out.put(end)?;
@@ -80,7 +85,8 @@ pub fn put_end_of_block(out: &mut BitWriter) -> Result<(), AllocError>
 #[inline(always)]
 fn put_run(out: &mut BitWriter, codes: &CodeTable<104>, run: u32) -> Result<(), AllocError>
     requires { AreShort codes.now ≡ true }
-    ensures { OnOk result (out.new ≡ out.old ++ run_bits_in codes.now (run_of run)) }
+    ensures put { OnOk result (out.new ≡ out.old ++ run_bits_in codes.now (run_of run)) }
+    ensures begins { Continues out.old out.new }
 {
     for _ in 0..run / LONGEST_MAKE_UP {
         put_code(out, codes, BEFORE_MAKE_UPS + MAKE_UPS as usize)?;
@@ -101,7 +107,8 @@ fn put_code<const N: usize>(
 ) -> Result<(), AllocError>
     requires within { row < N }
     requires short { AreShort codes.now ≡ true }
-    ensures { OnOk result (out.new ≡ out.old ++ code codes.now row) }
+    ensures put { OnOk result (out.new ≡ out.old ++ code codes.now row) }
+    ensures begins { Continues out.old out.new }
 {
     out.put(codes.code_of(row))
 }

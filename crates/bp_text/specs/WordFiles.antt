@@ -1,37 +1,33 @@
 -- Files of words: comma-separated values (RFC 4180), a record a word. What the records of a text
 -- are is csv's to say.
-use Rattle.std.specs.Prelude.{ℕ, ◌&&◌, ◌||◌, ◌==◌, Bool, List, [], length, nat_le, slice_index_or, Option, Some, None, Result, if◌then◌else◌}
-use Rattle.std.specs.Char.{is_ascii_control, is_ascii_digit}
-use Rattle.std.specs.List.{list_all, list_any}
-use Rattle.std.specs.Option.{option_and_then}
+use Rattle.std.specs.Prelude.{ℕ, ◌||◌, ◌==◌, Bool, List, [], length, slice_index_or, Option, Some, None, Result, if◌then◌else◌}
+use Rattle.std.specs.Char.{is_ascii_control}
+use Rattle.std.specs.List.{list_any}
 use Rattle.std.specs.Str.{chars, is_utf8}
-use Rattle.std.specs.Str.Parse.{digits_value}
 use Rattle.csv.specs.Reading.{default_config, records, strip_bom}
+use Rattle.bp_core.specs.Digits.{are_digits, number_in}
 use Rattle.bp_core.specs.InTurn.{read_each}
+use Rattle.bp_core.specs.OptionSteps.{◌>>=◌}
 use Rattle.bp_core.specs.Rules.{rule_at_line}
 use Rattle.bp_core.specs.declared.rectangle.Rect.{Rect}
 use Rattle.bp_core.specs.declared.rules.Rule.{Rule}
 use Rattle.bp_core.specs.declared.rules.RuleKind.TheVariants.{WordShape}
-use Rattle.bp_text.specs.declared.word_files.TheConstants.{FIELDS, MOST_DIGITS, IMAGE, LINE, LEFT, TOP, WIDTH, HEIGHT, TEXT}
+use Rattle.bp_text.specs.declared.word_files.TheConstants.{FIELDS, IMAGE, LINE, LEFT, TOP, WIDTH, HEIGHT, TEXT}
 use Rattle.bp_text.specs.declared.words.WordRow.{WordRow}
-
-infixl 10 ◌>>=◌
-abbrev pub ◌>>=◌ : {A B : Type 0} → Option A → (A → Option B) → Option B
-o >>= f = option_and_then f o
 
 -- 1 to 9 digits are a number, with leading zeros or without
 abbrev pub is_number : List ℕ → Bool
-is_number field =
-    nat_le 1 (length field) && nat_le (length field) MOST_DIGITS
-    && list_all is_ascii_digit field
+is_number field = are_digits field
 
+-- the number of a field, if it is one
 abbrev pub number_of : List ℕ → Option ℕ
-number_of field = if is_number field then Some (digits_value 10 field) else None
+number_of field = number_in field
 
 -- a width or a height is a number other than 0
 abbrev pub nonzero : ℕ → Option ℕ
 nonzero n = if n == 0 then None else Some n
 
+-- the side of a word, which is not 0
 abbrev pub side_of : List ℕ → Option ℕ
 side_of field = number_of field >>= nonzero
 

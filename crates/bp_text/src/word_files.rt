@@ -10,10 +10,10 @@ ghost use Rattle.bp_core.specs.Answers.{Answers};
 ghost use Rattle.bp_core.specs.Rules.{rule_at_line};
 ghost use Rattle.bp_text.specs.ReadRecords.{IsBetween, Takes, records_left};
 ghost use Rattle.bp_text.specs.ReadFields.{parts_seen};
-ghost use Rattle.bp_text.specs.WordFiles.{words_of, row_of, word_row_of, rect_of, field_of, number_of, side_of, characters_of, word_text_of, is_blank};
+ghost use Rattle.bp_text.specs.WordFiles.{words_of, row_of, word_row_of, rect_of, field_of, side_of, characters_of, word_text_of, is_blank};
 
 use crate::words::{Word, WordRow, WordRows};
-use bp_core::{ListOf, OutOfMemory, Rect, Refusal, Rule, RuleKind, Text};
+use bp_core::{ListOf, OutOfMemory, Rect, Refusal, Rule, RuleKind, Text, number_in};
 use csv::{ByteRecord, Reader, ReaderBuilder};
 use std::alloc::Global;
 
@@ -33,9 +33,6 @@ const WIDTH: usize = 4;
 const HEIGHT: usize = 5;
 
 const TEXT: usize = 6;
-
-// How many digits a number has at most.
-const MOST_DIGITS: usize = 9;
 
 /// The words of a file, each with the id of the image of its page, or WordShape with the number of
 /// the first bad record, counted from 1. The file has comma-separated values (RFC 4180) in UTF-8,
@@ -193,21 +190,4 @@ fn side_in(field: &[u8]) -> Option<u32>
         0 => None,
         side => Some(side),
     }
-}
-
-// A number of 1 to 9 digits.
-fn number_in(field: &[u8]) -> Option<u32>
-    ensures { result ≡ number_of field.now }
-{
-    if field.is_empty() || field.len() > MOST_DIGITS {
-        return None;
-    }
-    let mut number = 0;
-    for digit in field {
-        if !digit.is_ascii_digit() {
-            return None;
-        }
-        number = number * 10 + u32::from(*digit - b'0');
-    }
-    Some(number)
 }

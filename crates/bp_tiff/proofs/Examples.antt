@@ -6,6 +6,8 @@ use Rattle.bp_rows.specs.declared.resolution.Res.{Res}
 use Rattle.bp_rows.specs.declared.resolution.Unit.TheVariants as units
 use Rattle.bp_rows.specs.Image.{Image}
 use Rattle.bp_tiff.specs.declared.form.Form.TheVariants.{Plain, G4}
+use Rattle.bp_tiff.specs.declared.places.TheConstants as places
+use Rattle.bp_tiff.specs.declared.tags.TheConstants as tags
 use Rattle.bp_tiff.specs.Tiff.{tiff_of}
 use Rattle.bp_tiff.specs.Units.{unit_of}
 
@@ -88,3 +90,47 @@ sizes = (refl, refl)
 
 no_unit : unit_of 0 ≡ None
 no_unit = refl
+
+-- ---- the numbers that the definitions cite
+
+-- section 8, and of T6Options section 11
+tags_are :
+    (tags.IMAGE_WIDTH ≡ 256)
+    × (tags.IMAGE_LENGTH ≡ 257)
+    × (tags.BITS_PER_SAMPLE ≡ 258)
+    × (tags.COMPRESSION ≡ 259)
+    × (tags.PHOTOMETRIC ≡ 262)
+    × (tags.FILL_ORDER ≡ 266)
+    × (tags.STRIP_OFFSETS ≡ 273)
+    × (tags.ORIENTATION ≡ 274)
+    × (tags.SAMPLES_PER_PIXEL ≡ 277)
+    × (tags.ROWS_PER_STRIP ≡ 278)
+    × (tags.STRIP_BYTE_COUNTS ≡ 279)
+    × (tags.X_RESOLUTION ≡ 282)
+    × (tags.Y_RESOLUTION ≡ 283)
+    × (tags.T6_OPTIONS ≡ 293)
+    × (tags.RESOLUTION_UNIT ≡ 296)
+tags_are = (refl, refl, refl, refl, refl, refl, refl, refl, refl, refl, refl, refl, refl, refl, refl)
+
+-- section 2, Types
+types_are : (tags.SHORT ≡ 3) × (tags.LONG ≡ 4) × (tags.RATIONAL ≡ 5)
+types_are = (refl, refl, refl)
+
+-- section 8, RowsPerStrip: 2 ^ 32 - 1
+all_rows_are : tags.ALL_ROWS ≡ 4294967295
+all_rows_are = refl
+
+-- section 2, Image File Header and IFD Entry
+header_is : (places.HEADER_BYTES ≡ 8) × (places.MAGIC ≡ 42) × (places.ENTRY_BYTES ≡ 12)
+header_is = (refl, refl, refl)
+
+-- where the parts of a file that is written stand
+places_are :
+    (places.DIRECTORY_AT ≡ 8)
+    × (places.PLAIN_XRES_AT ≡ 170)
+    × (places.PLAIN_YRES_AT ≡ 178)
+    × (places.PLAIN_STRIP_AT ≡ 186)
+    × (places.G4_XRES_AT ≡ 182)
+    × (places.G4_YRES_AT ≡ 190)
+    × (places.G4_STRIP_AT ≡ 198)
+places_are = (refl, refl, refl, refl, refl, refl, refl)

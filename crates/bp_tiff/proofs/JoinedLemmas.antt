@@ -52,10 +52,10 @@ grids_joined w m n xs ys a b = record {
       (cases_lt r m);
 }
 
-pub distributed : (a b s : ℕ) → (a + b) * s ≡ a * s + b * s
+distributed : (a b s : ℕ) → (a + b) * s ≡ a * s + b * s
 distributed a b s = omega arith
 
-pub rows_split : (r m s : ℕ) → m ≤ r → r * s ≡ m * s + (r - m) * s
+rows_split : (r m s : ℕ) → m ≤ r → r * s ≡ m * s + (r - m) * s
 rows_split r m s h = let e : r ≡ m + (r - m) = omega arith in ap (λ q. q * s) e ∙ distributed m (r - m) s
 
 pub values_joined : (f : Fill) (w m n : ℕ) (xs ys : List ℕ) → length xs ≡ m * row_bytes w → packed_values f w (m + n) (xs ++ ys) ≡ packed_values f w m xs ++ packed_values f w n ys

@@ -1,4 +1,3 @@
-pub mod BetweenLemmas
 pub mod Examples
 pub mod FileLemmas
 pub mod FindingLemmas

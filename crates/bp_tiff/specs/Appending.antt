@@ -40,15 +40,6 @@ pub record HasRead (bytes : List ℕ) (l : Layout) (k : ℕ) (out : List ℕ) : 
       → StripsBreak bytes l (l.strips.count - k) k rule
       → StripsBreak bytes l l.strips.count 0 rule
 
--- how many rows the strips from one up to another have
-abbrev pub rows_between : Layout → ℕ → ℕ → ℕ
-rows_between l from to = rows_before l to - rows_before l from
-
--- packed rows that hold what these strips hold
-pub record HoldsBetween (bytes : List ℕ) (l : Layout) (from to : ℕ) (rows : List ℕ) : Type 0 where
-  pub long : length rows ≡ rows_between l from to * row_bytes l.sides.width
-  pub holds : StripsHold bytes l (to - from) from (lines_in l (rows_between l from to) rows)
-
 -- packed rows that hold what all strips hold
 pub record HoldsAll (bytes : List ℕ) (l : Layout) (rows : List ℕ) : Type 0 where
   pub long : length rows ≡ l.sides.height * row_bytes l.sides.width

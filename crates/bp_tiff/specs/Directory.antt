@@ -12,6 +12,7 @@ use Rattle.bp_tiff.specs.Numbers.{short_at, long_at}
 use Rattle.bp_tiff.specs.Rules.{◌>>=◌, require, tiff_head, tiff_bounds, many_pages}
 
 -- section 2, Image File Header: a file begins with its byte order
+-- by TIFF 6.0, section 2, Image File Header, Image File Directory
 abbrev pub order_of : List ℕ → Option ByteOrder
 order_of bytes =
     if bytes_eq (take 2 bytes) (codes "II") then Some Little
@@ -20,6 +21,7 @@ order_of bytes =
 
 -- then come 42 and the place of the directory; section 2, Image File Directory: a count, the
 -- entries, and the place of the next directory, which is to be none
+-- by TIFF 6.0, section 2, Image File Header, Image File Directory
 unfoldable pub directory_in : List ℕ → ByteOrder → Result Directory Rule
 directory_in bytes order = do
   _ ← require (short_at order bytes 2 == MAGIC) tiff_head
@@ -31,6 +33,8 @@ directory_in bytes order = do
   _ ← require (long_at order bytes end == 0) many_pages
   Ok (record { order = order; first = at + 2; count = count })
 
+-- the header and the directory that it names, or the first rule
+-- by TIFF 6.0, section 2, Image File Header, Image File Directory
 abbrev pub directory_of : List ℕ → Result Directory Rule
 directory_of bytes = do
   _ ← require (nat_le HEADER_BYTES (length bytes)) tiff_head
@@ -43,6 +47,7 @@ IsIn bytes d = d.first + ENTRY_BYTES * d.count + 4 ≤ length bytes
 
 -- section 2, IFD Entry: its tag, the type and the count of its values, and four bytes that are the
 -- values or say where they stand
+-- by TIFF 6.0, section 2, IFD Entry
 abbrev pub entry_at : ByteOrder → List ℕ → ℕ → FoundEntry
 entry_at order bytes at = record {
   kind = short_at order bytes (at + 2);
@@ -58,5 +63,7 @@ first_from order bytes tag (suc left) at = elim (short_at order bytes at == tag)
   | false ↦ first_from order bytes tag left (at + ENTRY_BYTES)
 ]
 
+-- the first entry of a tag, if there is one
+-- by TIFF 6.0, section 2, IFD Entry
 unfoldable pub entry_of : List ℕ → Directory → ℕ → Option FoundEntry
 entry_of bytes d tag = first_from d.order bytes tag d.count d.first

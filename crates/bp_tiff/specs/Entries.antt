@@ -16,36 +16,47 @@ use Rattle.bp_tiff.specs.Units.{unit_code}
 -- ---- the bytes of a directory
 
 -- section 2, IFD Entry: a type, and a count of one value
+-- by TIFF 6.0, section 2, IFD Entry
 abbrev pub one_value : ℕ → List ℕ
 one_value kind = to_le_bytes w16 kind ++ to_le_bytes w32 1
 
 -- section 2, IFD Entry: and four bytes, which begin with the value, or say where it stands
+-- by TIFF 6.0, section 2, IFD Entry
 abbrev pub value_bytes : Value → List ℕ
 value_bytes (values.Short n) = one_value tags.SHORT ++ to_le_bytes w16 n ++ 0 ∷ 0 ∷ []
 value_bytes (values.Long n) = one_value tags.LONG ++ to_le_bytes w32 n
 value_bytes (values.RationalAt at) = one_value tags.RATIONAL ++ to_le_bytes w32 at
 
 -- section 2, IFD Entry: after the tag
+-- by TIFF 6.0, section 2, IFD Entry
 abbrev pub entry_bytes : Entry → List ℕ
 entry_bytes e = to_le_bytes w16 e.tag ++ value_bytes e.value
 
 -- section 2, Image File Directory: the count of entries, the entries, and 0 for no next directory
+-- by TIFF 6.0, section 8, each field, and section 11, T6Options; section 2, Image File Directory
 abbrev pub directory : List Entry → List ℕ
 directory es = to_le_bytes w16 (length es) ++ flat_map entry_bytes es ++ to_le_bytes w32 0
 
 -- ---- the entries of each form
 
+-- an entry of one SHORT
+-- by TIFF 6.0, section 2, IFD Entry
 abbrev pub short : ℕ → ℕ → Entry
 short tag n = record { tag = tag; value = values.Short n }
 
+-- an entry of one LONG
+-- by TIFF 6.0, section 2, IFD Entry
 abbrev pub long : ℕ → ℕ → Entry
 long tag n = record { tag = tag; value = values.Long n }
 
+-- an entry of one RATIONAL, which stands at an offset
+-- by TIFF 6.0, section 2, IFD Entry
 abbrev pub ratio : ℕ → ℕ → Entry
 ratio tag at = record { tag = tag; value = values.RationalAt at }
 
 -- Sections 8 and 11, in the order of the tags. Compression 1 is none, 4 is T.6, here without
 -- uncompressed mode. White is zero, the first pixel stands in the high bit, all rows in one strip.
+-- by TIFF 6.0, section 8, each field, and section 11, T6Options; section 2, Image File Directory
 abbrev pub entries : Form → Fields → ℕ → List Entry
 entries Plain f strip_bytes =
     long tags.IMAGE_WIDTH f.width

@@ -19,6 +19,7 @@ use Rattle.bp_tiff.specs.Units.{unit_of}
 use Rattle.bp_tiff.specs.Values.{number_of, number_among, values_of, value_at, resolution_of, HasValues}
 
 -- section 8, ImageWidth, ImageLength: both sides are read first
+-- by TIFF 6.0, section 8, each field; of Compression 4 section 11
 unfoldable pub sides_of : List ℕ → Directory → Result Sides Rule
 sides_of bytes d = do
   width ← number_of bytes d tags.IMAGE_WIDTH None
@@ -27,6 +28,7 @@ sides_of bytes d = do
   Ok (record { width = width; height = height })
 
 -- section 8, Compression 1: none; section 11, Compression 4: ITU-T T.6
+-- by TIFF 6.0, section 8, each field; of Compression 4 section 11
 abbrev pub compression_of : List ℕ → Directory → Result Bool Rule
 compression_of bytes d = do
   value ← number_of bytes d tags.COMPRESSION None
@@ -35,6 +37,7 @@ compression_of bytes d = do
 
 -- section 8, BitsPerSample to FillOrder: one bit a pixel from the top left; which value is black,
 -- and which bit of a byte is the first
+-- by TIFF 6.0, section 8, each field; of Compression 4 section 11
 unfoldable pub coding_of : List ℕ → Directory → Result Coding Rule
 coding_of bytes d = do
   _ ← number_among bytes d tags.BITS_PER_SAMPLE (Some 1) (1 ∷ [])
@@ -50,10 +53,12 @@ coding_of bytes d = do
   })
 
 -- section 8, RowsPerStrip: the rows divided by those of a strip, rounded up
+-- by TIFF 6.0, section 8, each field; of Compression 4 section 11
 abbrev pub strips_due : ℕ → ℕ → ℕ
 strips_due height per_strip = (height + per_strip - 1) / per_strip
 
 -- section 8, RowsPerStrip, StripOffsets, StripByteCounts: without the first there is one strip
+-- by TIFF 6.0, section 8, each field; of Compression 4 section 11
 unfoldable pub strips_of : List ℕ → Directory → ℕ → Result Strips Rule
 strips_of bytes d height = do
   per_strip ← number_of bytes d tags.ROWS_PER_STRIP (Some tags.ALL_ROWS)
@@ -64,6 +69,7 @@ strips_of bytes d height = do
   Ok (record { rows = per_strip; count = due; offsets = offsets; lengths = lengths })
 
 -- section 8, XResolution, YResolution, ResolutionUnit: an inch where nothing is said
+-- by TIFF 6.0, section 8, each field; of Compression 4 section 11
 unfoldable pub scale_of : List ℕ → Directory → Result Scale Rule
 scale_of bytes d = do
   xres ← resolution_of bytes d tags.X_RESOLUTION
@@ -83,6 +89,7 @@ are_inside bytes d s zero k = true
 are_inside bytes d s (suc left) k = is_inside bytes d s k && are_inside bytes d s left (k + 1)
 
 -- all of it, or the first rule that is broken
+-- by TIFF 6.0, sections 2, 8 and 11
 unfoldable pub layout_of : List ℕ → Result Layout Rule
 layout_of bytes = do
   d ← directory_of bytes
@@ -94,6 +101,7 @@ layout_of bytes = do
   Ok (record { directory = d; sides = sides; coding = coding; strips = strips; scale = scale })
 
 -- what is known of a layout that was read
+-- by TIFF 6.0, sections 2, 8 and 11
 pub record IsLaid (bytes : List ℕ) (l : Layout) : Type 0 where
   pub sides : IsTrue (sides_are_allowed l.sides.width l.sides.height)
   pub rows : 0 < l.strips.rows

@@ -19,33 +19,39 @@ Lines = List (List Bool)
 -- ---- values and ink
 
 -- section 8, FillOrder: the value of the pixel at a place counted from the first bit of the bytes
+-- by TIFF 6.0, section 8, FillOrder, Compression, PhotometricInterpretation
 abbrev pub value_in : Fill → List ℕ → ℕ → Bool
 value_in High bytes at = black_at bytes at
 value_in Low bytes at = bit_at (slice_index bytes (at / 8)) (at % 8) == 1
 
 -- section 8, Compression 1: rows of values, each in whole bytes
+-- by TIFF 6.0, section 8, FillOrder, Compression, PhotometricInterpretation
 abbrev pub packed_values : Fill → ℕ → ℕ → List ℕ → List (List Bool)
 packed_values fill width rows bytes =
     grid_of width rows (λ r c. value_in fill bytes (place width r c))
 
 -- section 8, PhotometricInterpretation: black is a value of 1, or of 0 where 0 is black
+-- by TIFF 6.0, section 8, FillOrder, Compression, PhotometricInterpretation
 abbrev pub inked : Bool → List (List Bool) → List (List Bool)
 inked zero_is_black values = if zero_is_black then map (map not) values else values
 
 -- ---- the lines of a strip
 
 -- section 11, Compression 4: those that ITU-T T.6 reads
+-- by TIFF 6.0, section 11, Compression 4; section 8, Compression 1
 pub record CodedHolds (c : Coding) (width rows : ℕ) (strip : List ℕ) (lines : Lines) : Type 0 where
   pub values : List (List Bool)
   pub reads : StripReads (bits_of c.fill strip) width rows values
   pub means : lines ≡ inked c.zero_is_black values
 
 -- section 8, Compression 1: the bits past the width, and the bytes past the rows, are unread
+-- by TIFF 6.0, section 11, Compression 4; section 8, Compression 1
 pub record PackedHolds (c : Coding) (width rows : ℕ) (strip : List ℕ) (lines : Lines) : Type 0 where
   pub enough : rows * row_bytes width ≤ length strip
   pub means : lines ≡ inked c.zero_is_black (packed_values c.fill width rows strip)
 
 -- a strip of so many rows holds the lines
+-- by TIFF 6.0, section 11, Compression 4; section 8, Compression 1
 abbrev pub StripHolds : Coding → ℕ → ℕ → List ℕ → Lines → Type 0
 StripHolds c width rows strip lines = elim c.is_t6 [
   | true ↦ CodedHolds c width rows strip lines
@@ -59,11 +65,13 @@ abbrev pub CodedBreaks : Coding → ℕ → ℕ → ℕ → List ℕ → Rule �
 CodedBreaks c width rows first strip rule =
     SaysFault (bits_of c.fill strip) width rows first rule
 
+-- an uncompressed strip is too short for its rows
 pub record PackedBreaks (width rows : ℕ) (strip : List ℕ) (rule : Rule) : Type 0 where
   pub short : length strip < rows * row_bytes width
   pub says : rule ≡ tiff_strips
 
 -- by a strip of so many rows, whose first is that row of the page
+-- a strip of either coding breaks a rule
 abbrev pub StripBreaks : Coding → ℕ → ℕ → ℕ → List ℕ → Rule → Type 0
 StripBreaks c width rows first strip rule = elim c.is_t6 [
   | true ↦ CodedBreaks c width rows first strip rule

@@ -10,19 +10,25 @@ use Rattle.bp_tiff.specs.Values.{value_at}
 -- ---- one strip
 
 -- section 8, StripOffsets, StripByteCounts: the bytes of strip k, counted from 0
+-- by TIFF 6.0, section 8, StripOffsets, StripByteCounts, RowsPerStrip
 abbrev pub strip_bytes : List ℕ → Layout → ℕ → List ℕ
 strip_bytes bytes l k =
     take (value_at bytes l.directory l.strips.lengths k)
     (drop (value_at bytes l.directory l.strips.offsets k) bytes)
 
 -- section 8, RowsPerStrip: how many rows it has; the last has those that are left
+-- by TIFF 6.0, section 8, StripOffsets, StripByteCounts, RowsPerStrip
 abbrev pub strip_rows : Layout → ℕ → ℕ
 strip_rows l k = min l.strips.rows (l.sides.height - k * l.strips.rows)
 
+-- a strip of a file holds rows
+-- by TIFF 6.0, section 8, StripOffsets, StripByteCounts, RowsPerStrip
 abbrev pub Holds : List ℕ → Layout → ℕ → Lines → Type 0
 Holds bytes l k lines =
     StripHolds l.coding l.sides.width (strip_rows l k) (strip_bytes bytes l k) lines
 
+-- a strip of a file breaks a rule
+-- by TIFF 6.0, section 8, StripOffsets, StripByteCounts, RowsPerStrip
 abbrev pub Breaks : List ℕ → Layout → ℕ → Rule → Type 0
 Breaks bytes l k rule =
     let first = k * l.strips.rows in
@@ -39,6 +45,7 @@ pub record HeldInTurn (One Others : Lines → Type 0) (lines : Lines) : Type 0 w
   pub joined : lines ≡ these ++ rest
 
 -- so many strips from strip k on hold the lines
+-- by TIFF 6.0, section 8, StripOffsets, StripByteCounts, RowsPerStrip
 abbrev pub StripsHold : List ℕ → Layout → ℕ → ℕ → Lines → Type 0
 StripsHold bytes l zero k lines = lines ≡ []
 StripsHold bytes l (suc left) k lines =
@@ -51,6 +58,7 @@ pub record BrokenLater (One : Lines → Type 0) (Others : Type 0) : Type 0 where
   pub others : Others
 
 -- the first of them that holds no lines breaks the rule
+-- by TIFF 6.0, section 8, StripOffsets, StripByteCounts, RowsPerStrip
 abbrev pub StripsBreak : List ℕ → Layout → ℕ → ℕ → Rule → Type 0
 StripsBreak bytes l zero k rule = ⊥
 StripsBreak bytes l (suc left) k rule =
@@ -58,6 +66,7 @@ StripsBreak bytes l (suc left) k rule =
 
 -- ---- the file
 
+-- the page of a layout and its rows
 abbrev pub page_of : Layout → Lines → Image
 page_of l lines = record {
   width = l.sides.width;

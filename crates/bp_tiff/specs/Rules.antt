@@ -6,6 +6,7 @@ use Rattle.bp_core.specs.declared.rules.RuleKind.{RuleKind}
 use Rattle.bp_core.specs.declared.rules.RuleKind.TheVariants.{TiffHead, TiffBounds, TiffMissing, TiffType, TiffCompression, TiffMeaning, TiffManyPages, TiffStrips}
 
 infixl 10 ◌>>=◌
+-- what is read, and then the next, or the first rule
 abbrev pub ◌>>=◌ : {A B : Type 0} → Result A Rule → (A → Result B Rule) → Result B Rule
 Ok a >>= f = f a
 Err rule >>= f = Err rule
@@ -14,15 +15,19 @@ Err rule >>= f = Err rule
 abbrev pub require : Bool → Rule → Result (Unit {0}) Rule
 require test rule = if test then Ok tt else Err rule
 
+-- a rule that uses one value
 abbrev pub with_value : RuleKind → ℕ → Rule
 with_value kind value = record (bare_rule kind) { a = value }
 
+-- there is no header
 abbrev pub tiff_head : Rule
 tiff_head = bare_rule TiffHead
 
+-- there is more than one page
 abbrev pub many_pages : Rule
 many_pages = bare_rule TiffManyPages
 
+-- the strips are not those of the page
 abbrev pub tiff_strips : Rule
 tiff_strips = bare_rule TiffStrips
 
@@ -30,14 +35,18 @@ tiff_strips = bare_rule TiffStrips
 abbrev pub tiff_bounds : ℕ → Rule
 tiff_bounds tag = with_value TiffBounds tag
 
+-- a tag is missing
 abbrev pub tiff_missing : ℕ → Rule
 tiff_missing tag = with_value TiffMissing tag
 
+-- a field has another type or count
 abbrev pub tiff_type : ℕ → Rule
 tiff_type tag = with_value TiffType tag
 
+-- a field has another value
 abbrev pub tiff_meaning : ℕ → Rule
 tiff_meaning tag = with_value TiffMeaning tag
 
+-- another compression
 abbrev pub tiff_compression : ℕ → Rule
 tiff_compression value = with_value TiffCompression value

@@ -8,6 +8,7 @@ use Rattle.bp_tiff.specs.Values.{value_at}
 
 -- strip k, counted from 0, begins where the rows before it end, which begin at a place, and has
 -- bytes for all rows of its own
+-- by TIFF 6.0, section 8, StripOffsets, StripByteCounts
 pub record Follows (bytes : List ℕ) (l : Layout) (first k : ℕ) : Type 0 where
   pub begins : value_at bytes l.directory l.strips.offsets k
       ≡ first + k * l.strips.rows * row_bytes l.sides.width
@@ -15,11 +16,13 @@ pub record Follows (bytes : List ℕ) (l : Layout) (first k : ℕ) : Type 0 wher
       ≤ value_at bytes l.directory l.strips.lengths k
 
 -- all strips have no compression, and stand one behind another
+-- by TIFF 6.0, section 8, StripOffsets, StripByteCounts
 pub record StandTogether (bytes : List ℕ) (l : Layout) : Type 0 where
   pub packed : l.coding.is_t6 ≡ false
   pub each : (k : ℕ) → k < l.strips.count
       → Follows bytes l (value_at bytes l.directory l.strips.offsets 0) k
 
 -- so many packed rows as stand in the file from a place on
+-- by TIFF 6.0, section 8, StripOffsets, StripByteCounts
 abbrev pub rows_from : List ℕ → Layout → ℕ → ℕ → List ℕ
 rows_from bytes l at rows = take (rows * row_bytes l.sides.width) (drop at bytes)

@@ -23,23 +23,28 @@ fields_of p = record {
 }
 
 -- section 2, Image File Header: the byte order, 42, and where the directory begins
+-- by TIFF 6.0, section 2, Image File Header
 abbrev pub header : List ℕ
 header = codes "II" ++ to_le_bytes w16 MAGIC ++ to_le_bytes w32 DIRECTORY_AT
 
 -- section 2, RATIONAL: numerator and denominator
+-- by TIFF 6.0, section 2, RATIONAL
 abbrev pub rational : Res → List ℕ
 rational r = to_le_bytes w32 r.num ++ to_le_bytes w32 r.den
 
 -- all that stands before the strip
+-- by TIFF 6.0, section 2, RATIONAL
 abbrev pub head_of : Form → Fields → ℕ → List ℕ
 head_of form f strip_bytes =
     header ++ directory (entries form f strip_bytes) ++ rational f.xres ++ rational f.yres
 
 -- section 8, Compression 1: packed rows; section 11, Compression 4: the codes of ITU-T T.6
+-- by TIFF 6.0, section 8, Compression 1; section 11, Compression 4
 abbrev pub strip_of : Form → Image → List ℕ
 strip_of Plain p = packed_rows p.rows
 strip_of G4 p = t6_strip p
 
 -- TiffOf: the file of a page
+-- by TIFF 6.0, section 8, Compression 1; section 11, Compression 4
 abbrev pub tiff_of : Form → Image → List ℕ
 tiff_of form p = head_of form (fields_of p) (length (strip_of form p)) ++ strip_of form p

@@ -4,12 +4,14 @@ use Rattle.bp_rows.specs.declared.resolution.Unit.{Unit as LengthUnit}
 use Rattle.bp_rows.specs.declared.resolution.Unit.TheVariants as units
 
 -- its code in a file
+-- by TIFF 6.0, section 8, ResolutionUnit
 abbrev pub unit_code : LengthUnit → ℕ
 unit_code units.None = 1
 unit_code units.Inch = 2
 unit_code units.Centimetre = 3
 
 -- the unit of a code, where there is one
+-- by TIFF 6.0, section 8, ResolutionUnit
 abbrev pub unit_of : ℕ → Option LengthUnit
 unit_of code =
     if code == 1 then Some units.None

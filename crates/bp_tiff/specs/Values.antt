@@ -19,12 +19,14 @@ abbrev pub is_number : ℕ → Bool
 is_number kind = kind == tags.SHORT || kind == tags.LONG
 
 -- the one value of an entry, which stands in the entry
+-- by TIFF 6.0, section 2, IFD Entry
 abbrev pub number_in : List ℕ → Directory → ℕ → FoundEntry → Result ℕ Rule
 number_in bytes d tag e = do
   _ ← require (is_number e.kind && e.count == 1) (tiff_type tag)
   Ok (if e.kind == tags.LONG then long_at d.order bytes e.place else short_at d.order bytes e.place)
 
 -- the value of a tag; where there is no entry of it, the one that is given for this
+-- by TIFF 6.0, section 2, IFD Entry
 unfoldable pub number_of : List ℕ → Directory → ℕ → Option ℕ → Result ℕ Rule
 number_of bytes d tag missing = elim (entry_of bytes d tag) [
   | None ↦ ok_or missing (tiff_missing tag)
@@ -32,6 +34,7 @@ number_of bytes d tag missing = elim (entry_of bytes d tag) [
 ]
 
 -- the same, one of some values
+-- by TIFF 6.0, section 2, IFD Entry
 unfoldable pub number_among : List ℕ → Directory → ℕ → Option ℕ → List ℕ → Result ℕ Rule
 number_among bytes d tag missing allowed = do
   value ← number_of bytes d tag missing
@@ -40,10 +43,13 @@ number_among bytes d tag missing allowed = do
 
 -- ---- a value for each strip
 
+-- the bytes of a SHORT or a LONG
+-- by TIFF 6.0, section 2, IFD Entry
 abbrev pub value_size : Bool → ℕ
 value_size are_long = if are_long then 4 else 2
 
 -- in the entry where they fit its four bytes, else where it says
+-- by TIFF 6.0, section 2, IFD Entry
 abbrev pub values_in : List ℕ → Directory → ℕ → ℕ → FoundEntry → Result Values Rule
 values_in bytes d tag strips e = do
   _ ← require (is_number e.kind) (tiff_type tag)
@@ -53,6 +59,8 @@ values_in bytes d tag strips e = do
   _ ← require (nat_le (start + size) (length bytes)) (tiff_bounds tag)
   Ok (record { are_long = e.kind == tags.LONG; place = start })
 
+-- the values of the strips of a tag, or the first rule
+-- by TIFF 6.0, section 2, IFD Entry
 unfoldable pub values_of : List ℕ → Directory → ℕ → ℕ → Result Values Rule
 values_of bytes d tag strips = elim (entry_of bytes d tag) [
   | None ↦ Err (tiff_missing tag)
@@ -60,10 +68,12 @@ values_of bytes d tag strips = elim (entry_of bytes d tag) [
 ]
 
 -- so many of them stand in the file
+-- by TIFF 6.0, section 2, IFD Entry
 abbrev pub HasValues : List ℕ → Values → ℕ → Type 0
 HasValues bytes v n = v.place + value_size v.are_long * n ≤ length bytes
 
 -- value k of these, counted from 0
+-- by TIFF 6.0, section 2, IFD Entry
 abbrev pub value_at : List ℕ → Directory → Values → ℕ → ℕ
 value_at bytes d v k =
     if v.are_long then long_at d.order bytes (v.place + 4 * k)
@@ -71,10 +81,12 @@ value_at bytes d v k =
 
 -- ---- a resolution
 
+-- the resolution where a file tells none
 abbrev pub two_hundred : Res
 two_hundred = record { num = 200; den = 1 }
 
 -- section 2, RATIONAL: one of them
+-- by TIFF 6.0, section 2, RATIONAL
 abbrev pub resolution_in : List ℕ → Directory → ℕ → FoundEntry → Result Res Rule
 resolution_in bytes d tag e = do
   _ ← require (e.kind == tags.RATIONAL && e.count == 1) (tiff_type tag)
@@ -83,6 +95,7 @@ resolution_in bytes d tag e = do
   Ok (record { num = long_at d.order bytes start; den = long_at d.order bytes (start + 4) })
 
 -- or 200/1
+-- by TIFF 6.0, section 2, RATIONAL
 unfoldable pub resolution_of : List ℕ → Directory → ℕ → Result Res Rule
 resolution_of bytes d tag = elim (entry_of bytes d tag) [
   | None ↦ Ok two_hundred

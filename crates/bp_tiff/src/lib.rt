@@ -1,11 +1,10 @@
 //! Pages as TIFF files (TIFF 6.0): written plain or in Group 4, and read in every form that holds
 //! one bilevel page.
 //!
-//! `write_tiff` gives the file of a page; its contract cites `tiff_of` of specs/Tiff.antt, the file
-//! to the byte. `read_tiff` gives the page of a file or the first rule that it breaks: `TiffReads`
-//! and `TiffFault` of specs/Read.antt. `take_tiff` does the same, makes the page in the file's own
-//! memory where it can, and reads the strips of a long file side by side, in threads.
-//! `written_is_read` and `one_answer` are their laws.
+//! `write_tiff` gives the file of a page, and `write_strip` that of a page whose codes are there
+//! already; their contracts cite `tiff_of` of specs/Tiff.antt, the file to the byte. `read_tiff` gives the page of a file or the first rule that it breaks, and
+//! `take_tiff` makes the page in the file's own memory where it can: `TiffReads` and `TiffFault` of
+//! specs/Read.antt. `written_is_read` and `one_answer` are their laws.
 #![tactic(auto)]
 
 mod directory;
@@ -20,12 +19,9 @@ mod passes;
 mod places;
 mod reading;
 mod rules;
-mod side_by_side;
 mod standing;
 mod strips;
 mod tags;
-#[cfg(test)]
-mod tests;
 mod values;
 mod writing;
 
@@ -36,4 +32,4 @@ pub use layout::{Coding, Layout, Scale, Sides, Strips, read_layout};
 pub use numbers::ByteOrder;
 pub use reading::{read_tiff, take_tiff};
 pub use values::Values;
-pub use writing::{Strip, TiffParts, tiff_parts, write_tiff};
+pub use writing::{Strip, TiffParts, strip_parts, tiff_parts, write_strip, write_tiff};

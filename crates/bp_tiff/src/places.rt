@@ -14,24 +14,14 @@ pub const ENTRY_BYTES: usize = 12;
 /// The directory of a file that is written.
 pub const DIRECTORY_AT: u32 = 8;
 
-/// The value of ImageWidth, the first entry.
-pub const WIDTH_AT: u32 = 18;
-/// The value of ImageLength, the second entry.
-pub const HEIGHT_AT: u32 = 30;
-
-/// In a plain file, which has thirteen entries: the value of ResolutionUnit, the last of them.
-pub const PLAIN_UNIT_AT: u32 = 162;
-/// The resolution across.
+/// In a plain file, which has thirteen entries: the resolution across.
 pub const PLAIN_XRES_AT: u32 = 170;
 /// The resolution down.
 pub const PLAIN_YRES_AT: u32 = 178;
 /// The strip, which ends the file.
 pub const PLAIN_STRIP_AT: u32 = 186;
 
-/// In a file of the form G4, which has fourteen entries: the value of ResolutionUnit, the last of
-/// them.
-pub const G4_UNIT_AT: u32 = 174;
-/// The resolution across.
+/// In a file of the form G4, which has fourteen entries: the resolution across.
 pub const G4_XRES_AT: u32 = 182;
 /// The resolution down.
 pub const G4_YRES_AT: u32 = 190;

@@ -19,18 +19,12 @@ ghost use Rattle.bp_tiff.specs.Standing.{StandTogether};
 use crate::laws::one_answer;
 use crate::layout::{Coding, Layout, read_layout};
 use crate::passes::{invert_bytes, reverse_bytes};
-use crate::side_by_side::rows_side_by_side;
 use crate::standing::place_of_rows;
 use crate::strips::put_strips;
 use bp_codes::Fill;
 use bp_core::{OutOfMemory, Refusal};
 use bp_rows::{Page, bytes_of_strip};
 use std::alloc::Global;
-use std::thread::Threads;
-
-/// The codes of a file of so many bytes take some milliseconds to read, so that threads save more
-/// than they cost.
-pub const LONG_FILE: usize = 1 << 17;
 
 /// The page of a file of one bilevel page, plain or in Group 4 (TIFF 6.0, sections 2, 3, 8 and 11;
 /// ITU-T T.6), or the first rule that the bytes break: those of `read_layout` in their order, then
@@ -59,8 +53,8 @@ pub fn read_tiff(alloc: Global, bytes: &[u8]) -> Result<Page, Refusal>
 
 /// The same of a file that is handed over: where its rows stand in it without compression and one
 /// behind another, as in most plain files, they become the page's in the memory that the file had,
-/// and none is taken. The strips of a long file in Group 4 are read side by side, in threads.
-pub fn take_tiff<R: Threads + Sync>(rt: &R, alloc: Global, file: Vec<u8>) -> Result<Page, Refusal>
+/// and none is taken.
+pub fn take_tiff(alloc: Global, file: Vec<u8>) -> Result<Page, Refusal>
     ensures found { IfOk result (λ p. TiffReads file.items p) }
     ensures refused { IfErr result (IfRule (TiffFault file.items)) }
     ensures kind { IfErr result (IfRule (λ rule. IsPageRule rule.kind)) }
@@ -73,7 +67,7 @@ pub fn take_tiff<R: Threads + Sync>(rt: &R, alloc: Global, file: Vec<u8>) -> Res
         → IsOk result }
 {
     one_answer();
-    take_over(rt, alloc, file)
+    take_over(alloc, file)
 }
 
 fn read(alloc: Global, bytes: &[u8]) -> Result<Page, Refusal>
@@ -90,7 +84,7 @@ fn read(alloc: Global, bytes: &[u8]) -> Result<Page, Refusal>
     }
 }
 
-fn take_over<R: Threads + Sync>(rt: &R, alloc: Global, file: Vec<u8>) -> Result<Page, Refusal>
+fn take_over(alloc: Global, file: Vec<u8>) -> Result<Page, Refusal>
     ensures found { IfOk result (λ p. TiffReads file.items p) }
     ensures refused { IfErr result (IfRule (TiffFault file.items)) }
     ensures given { (l : Laid) → layout_of file.items ≡ Ok l
@@ -101,7 +95,7 @@ fn take_over<R: Threads + Sync>(rt: &R, alloc: Global, file: Vec<u8>) -> Result<
         Ok(layout) => layout,
         Err(rule) => return Err(Refusal::Rule(rule)),
     };
-    match rows_of(rt, alloc, file, &layout) {
+    match rows_of(alloc, file, &layout) {
         Ok(rows) => Ok(page_of_rows(&layout, rows)),
         Err(refusal) => Err(refusal),
     }
@@ -122,12 +116,7 @@ fn rows_in(alloc: Global, bytes: &[u8], layout: &Layout) -> Result<Vec<u8>, Refu
 }
 
 // The same of a file that is handed over.
-fn rows_of<R: Threads + Sync>(
-    rt: &R,
-    alloc: Global,
-    file: Vec<u8>,
-    layout: &Layout,
-) -> Result<Vec<u8>, Refusal>
+fn rows_of(alloc: Global, file: Vec<u8>, layout: &Layout) -> Result<Vec<u8>, Refusal>
     requires { IsLaid file.items layout.now }
     ensures found { IfOk result (λ rows. HoldsAll file.items layout.now rows.items) }
     ensures refused { let l = layout.now in
@@ -137,14 +126,8 @@ fn rows_of<R: Threads + Sync>(
     let size = bytes_of_strip(layout.sides.width, layout.sides.height);
     match place_of_rows(&file, layout) {
         Some(place) => Ok(part_of(file, place, size)),
-        None if is_long(&file, layout) => rows_side_by_side(rt, alloc, &file, layout),
         None => rows_in(alloc, &file, layout),
     }
-}
-
-// Whether the strips are worth reading side by side.
-fn is_long(file: &[u8], layout: &Layout) -> bool {
-    layout.coding.is_t6 && layout.strips.count > 1 && file.len() >= LONG_FILE
 }
 
 // A part of the bytes, in their own memory.

@@ -37,8 +37,7 @@ pub fn put_strips(
     Ok(())
 }
 
-/// Appends the rows of strip k.
-pub fn put_strip(
+fn put_strip(
     reader: &mut StripReader,
     bytes: &[u8],
     layout: &Layout,

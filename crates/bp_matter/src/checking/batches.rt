@@ -5,13 +5,12 @@ ghost use Rattle.std.specs.Str.{bytes_eq};
 ghost use Rattle.bp_matter.specs.Written.{batch_written};
 ghost use Rattle.bp_matter.specs.ValidBatches.{BatchFacts, batch_fits, batch_name};
 
-use super::differing::all_differ;
 use super::labels::BatchName;
 use super::numbers::is_numbered;
 use crate::limits::MAX_BATCHES;
 use crate::rows::BatchRow;
 use crate::texts::is_batch_name;
-use bp_core::{OutOfMemory, Text};
+use bp_core::{OutOfMemory, Text, all_differ};
 use std::alloc::Global;
 
 fn batches_fit(rows: &[BatchRow]) -> bool

@@ -7,9 +7,9 @@ ghost use Rattle.bp_matter.specs.Matter.{call_key};
 ghost use Rattle.bp_matter.specs.ValidCalls.{CallFacts, call_fits, state_fits};
 
 use super::numbers::names;
-use super::treatments::is_ground;
 use crate::rows::{CallRow, State};
 use crate::texts::is_designation;
+use crate::treatments::is_ground;
 use bp_core::ascends;
 
 fn state_fits(staff: usize, state: State) -> bool

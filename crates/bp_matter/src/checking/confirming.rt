@@ -9,9 +9,9 @@ ghost use Rattle.bp_matter.specs.Matter.{box_key, call_key, entry_key, held_key,
 ghost use Rattle.bp_matter.specs.Treatments.{is_privileged};
 
 use super::staff::checker_there;
-use super::treatments::{is_privileged, is_redact, is_withheld};
 use crate::marks::{boxes_on, held_on};
 use crate::rows::{CallRow, DocBox, DocEntry, DocHeld, StaffRow, State};
+use crate::treatments::{is_privileged, is_redact, is_withheld};
 use bp_core::{DocNo, RuleKind, Treatment, find_row};
 
 fn may_hold(call: Option<&CallRow>) -> bool

@@ -12,7 +12,8 @@ use crate::rows::{DocEntry, Entry};
 use crate::texts::is_text;
 use bp_core::ascends;
 
-pub(crate) fn entry_fits(entry: &Entry) -> bool
+/// Whether a call takes the four texts of a log entry.
+pub fn entry_fits(entry: &Entry) -> bool
     ensures { result ≡ entry_fits entry.now }
 {
     is_text(&entry.date, MAX_NAME)

@@ -5,13 +5,12 @@ ghost use Rattle.std.specs.Str.{bytes_eq};
 ghost use Rattle.bp_matter.specs.Written.{field_written};
 ghost use Rattle.bp_matter.specs.ValidFields.{FieldFacts, field_fits, field_name, has_field};
 
-use super::differing::all_differ;
 use super::labels::FieldName;
 use super::numbers::is_numbered;
 use crate::limits::MAX_FIELDS;
 use crate::rows::FieldRow;
 use crate::texts::is_field_name;
-use bp_core::{OutOfMemory, Text};
+use bp_core::{OutOfMemory, Text, all_differ};
 use std::alloc::Global;
 
 fn fields_fit(rows: &[FieldRow]) -> bool

@@ -11,9 +11,9 @@ ghost use Rattle.bp_matter.specs.ValidMarks.{box_fits};
 use super::entries::entry_fits;
 use super::marks::box_fits;
 use super::numbers::names;
-use super::treatments::{is_ground, is_privileged, is_redact, is_withheld};
 use crate::rows::{BoxRow, DocRow, Entry, HeldRow, Item, PageRow};
 use crate::texts::is_designation;
+use crate::treatments::{is_ground, is_privileged, is_redact, is_withheld};
 use bp_core::{DocNo, Treatment, ascends, find_row};
 
 fn numbers_due(treatment: Treatment, pages: u32) -> u32
@@ -48,7 +48,8 @@ fn is_logged(item: &Item) -> bool
         || held_is_privileged(item.held.as_slice())
 }
 
-fn optional_fits(entry: &Option<Entry>) -> bool
+/// Whether a log entry, if there is one, has texts that a call takes.
+pub fn optional_fits(entry: &Option<Entry>) -> bool
     ensures { result ≡ optional_fits entry.now }
 {
     match entry {

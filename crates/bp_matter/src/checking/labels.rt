@@ -2,9 +2,8 @@
 ghost use Rattle.std.specs.Prelude.{◌≡◌, encode_utf8_all};
 ghost use Rattle.std.specs.Str.{chars};
 
-use super::differing::Label;
 use crate::rows::{BatchRow, FieldRow, PrefixRow, ProductionRow, StaffRow};
-use bp_core::Text;
+use bp_core::{Text, UniqueText};
 
 // The characters in UTF-8.
 pub(crate) fn text_bytes(text: &Text) -> &[u8]
@@ -28,7 +27,7 @@ pub struct VolumeName;
 
 pub struct ChosenField;
 
-impl Label<StaffRow> for StaffDigest {
+impl UniqueText<StaffRow> for StaffDigest {
     ghost use Rattle.bp_matter.specs.ValidProductions.{itself};
     ghost use Rattle.bp_matter.specs.ValidStaff.{staff_digest};
 
@@ -43,7 +42,7 @@ impl Label<StaffRow> for StaffDigest {
     }
 }
 
-impl Label<FieldRow> for FieldName {
+impl UniqueText<FieldRow> for FieldName {
     ghost use Rattle.std.specs.Prelude.{encode_utf8_all};
     ghost use Rattle.std.specs.Str.{chars};
     ghost use Rattle.bp_matter.specs.ValidFields.{field_name};
@@ -59,7 +58,7 @@ impl Label<FieldRow> for FieldName {
     }
 }
 
-impl Label<BatchRow> for BatchName {
+impl UniqueText<BatchRow> for BatchName {
     ghost use Rattle.std.specs.Prelude.{encode_utf8_all};
     ghost use Rattle.std.specs.Str.{chars};
     ghost use Rattle.bp_matter.specs.ValidBatches.{batch_name};
@@ -75,7 +74,7 @@ impl Label<BatchRow> for BatchName {
     }
 }
 
-impl Label<PrefixRow> for PrefixText {
+impl UniqueText<PrefixRow> for PrefixText {
     ghost use Rattle.std.specs.Prelude.{encode_utf8_all};
     ghost use Rattle.std.specs.Str.{chars};
     ghost use Rattle.bp_matter.specs.ValidPrefixes.{prefix_text};
@@ -91,7 +90,7 @@ impl Label<PrefixRow> for PrefixText {
     }
 }
 
-impl Label<ProductionRow> for ProductionId {
+impl UniqueText<ProductionRow> for ProductionId {
     ghost use Rattle.std.specs.Prelude.{encode_utf8_all};
     ghost use Rattle.std.specs.Str.{chars};
     ghost use Rattle.bp_matter.specs.ValidProductions.{production_id};
@@ -107,7 +106,7 @@ impl Label<ProductionRow> for ProductionId {
     }
 }
 
-impl Label<ProductionRow> for VolumeName {
+impl UniqueText<ProductionRow> for VolumeName {
     ghost use Rattle.std.specs.Prelude.{encode_utf8_all};
     ghost use Rattle.std.specs.Str.{chars};
     ghost use Rattle.bp_matter.specs.ValidProductions.{production_volume};
@@ -123,7 +122,7 @@ impl Label<ProductionRow> for VolumeName {
     }
 }
 
-impl Label<Text> for ChosenField {
+impl UniqueText<Text> for ChosenField {
     ghost use Rattle.std.specs.Prelude.{encode_utf8_all};
     ghost use Rattle.std.specs.Str.{chars};
     ghost use Rattle.bp_matter.specs.ValidProductions.{itself};

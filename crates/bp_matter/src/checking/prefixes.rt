@@ -4,13 +4,12 @@ ghost use Rattle.std.specs.Prelude.{IfOk, IsTrue, ◌≡◌};
 ghost use Rattle.bp_matter.specs.Written.{prefix_written};
 ghost use Rattle.bp_matter.specs.ValidPrefixes.{PrefixFacts, prefix_fits};
 
-use super::differing::all_differ;
 use super::labels::PrefixText;
 use super::numbers::is_numbered;
 use super::reaching::prefixes_reach;
 use crate::rows::{PrefixRow, ProductionRow};
 use bp_bates::{good_prefix, largest};
-use bp_core::OutOfMemory;
+use bp_core::{OutOfMemory, all_differ};
 use std::alloc::Global;
 
 fn prefix_fits(row: &PrefixRow) -> bool

@@ -7,7 +7,6 @@ ghost use Rattle.bp_matter.specs.Written.{production_written};
 ghost use Rattle.bp_matter.specs.Matter.{doc_key, page_key};
 ghost use Rattle.bp_matter.specs.ValidProductions.{ProductionFacts, has_prefix, marked_on, production_fits, stand_once};
 
-use super::differing::all_differ;
 use super::items::{are_whole, items_fit};
 use super::keeping::prefixes_kept;
 use super::labels::{ProductionId, VolumeName};
@@ -15,7 +14,7 @@ use super::numbers::is_numbered;
 use super::requests::request_fits;
 use crate::limits::MAX_PRODUCTIONS;
 use crate::rows::{DocRow, FieldRow, Item, PageRow, PrefixRow, ProductionRow};
-use bp_core::OutOfMemory;
+use bp_core::{OutOfMemory, all_differ};
 use std::alloc::Global;
 
 fn production_fits(

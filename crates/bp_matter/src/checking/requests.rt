@@ -6,13 +6,12 @@ ghost use Rattle.bp_matter.specs.ValidProductions.{field_chosen, request_fits};
 ghost use Rattle.bp_matter.specs.ValidRows.{names};
 ghost use Rattle.bp_matter.specs.Texts.{is_id, is_volume};
 
-use super::differing::all_differ;
 use super::fields::has_field;
 use super::labels::ChosenField;
 use super::numbers::names;
 use crate::rows::{FieldRow, Request};
 use crate::texts::{is_column_name, is_id, is_volume};
-use bp_core::{OutOfMemory, Text};
+use bp_core::{OutOfMemory, Text, all_differ};
 use std::alloc::Global;
 
 fn are_chosen(fields: &[FieldRow], names: &[Text]) -> bool

@@ -8,13 +8,12 @@ ghost use Rattle.bp_matter.specs.Written.{staff_written};
 ghost use Rattle.bp_matter.specs.Matter.{staff_key};
 ghost use Rattle.bp_matter.specs.ValidStaff.{StaffFacts, begins_with_lead, checker_there, is_checker, is_lead, staff_digest, staff_fits};
 
-use super::differing::all_differ;
 use super::labels::StaffDigest;
 use super::numbers::is_numbered;
 use crate::limits::{MAX_NAME, MAX_STAFF};
 use crate::rows::StaffRow;
 use crate::texts::is_text;
-use bp_core::{OutOfMemory, Role};
+use bp_core::{OutOfMemory, Role, all_differ};
 use std::alloc::Global;
 
 fn is_lead(role: Role) -> bool

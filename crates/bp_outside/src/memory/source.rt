@@ -5,7 +5,8 @@ ghost use Rattle.std.specs.Str.{chars};
 ghost use Rattle.std.specs.FinMap as maps;
 ghost use Rattle.bp_outside.specs.Source.{ReadOver, after_read};
 ghost use Rattle.bp_core.specs.Calls.{no_calls, next_fails, after_call};
-ghost use Rattle.bp_outside.specs.Memory.{paths_differ, file_map, source_shown, source_calls, source_files};
+ghost use Rattle.bp_core.specs.Counts.{risen};
+ghost use Rattle.bp_outside.specs.Memory.{paths_differ, file_map, source_shown, source_reads, source_calls, source_files};
 
 use crate::counts::ReadCounts;
 use crate::files::{FileList, FileRow};
@@ -55,6 +56,8 @@ impl MemSource {
 impl Source for MemSource {
     ghost shows = { source_shown };
 
+    ghost reads = { source_reads };
+
     ghost use Rattle.bp_core.specs.Calls.{never_failed};
 
     ghost unfailing = { λ source. never_failed _ _ };
@@ -64,6 +67,7 @@ impl Source for MemSource {
         ensures limit { IfOk result (λ bytes. length bytes.items ≤ max) }
         ensures told { IfSome (source_shown self.old).files (ReadOver (chars path.now) max result) }
         ensures after { source_shown self.new ≡ after_read (source_shown self.old) result }
+        ensures counted { source_reads self.new ≡ risen (source_reads self.old) }
         ensures fails { IsErrOf result ReadRefusal.Failed
             ↔ IsTrue (next_fails (source_calls self.old)) }
         ensures numbered { source_calls self.new ≡ after_call (source_calls self.old) }

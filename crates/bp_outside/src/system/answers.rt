@@ -1,9 +1,9 @@
 // What the system's answers say to a source, a folder and an out. Each is a function of the answer.
 ghost use Rattle.std.specs.Prelude.{◌≡◌, ◌++◌, ◌∷◌, IfOk, string_bytes};
 ghost use Rattle.std.specs.Path.{slash};
-ghost use Rattle.bp_outside.specs.SystemAnswers.{after_answer, opening_refusal, write_answer};
+ghost use Rattle.bp_outside.specs.SystemAnswers.{after_answer, opening_refusal, read_answer, write_answer};
 
-use crate::refusals::ReadRefusal;
+use crate::refusals::{DoorRefusal, ReadRefusal};
 use std::alloc::{AllocError, Global};
 use std::io;
 use std::io::ErrorKind;
@@ -24,6 +24,20 @@ pub fn write_answer<E: Copy>(
         _ => {
             *faults = faults.saturating_add(1);
             Err(failed)
+        }
+    }
+}
+
+// How many bytes a read at a door gave. An error is a failure, and the faults rise.
+pub fn read_answer(answer: io::Result<usize>, faults: &mut u64) -> Result<usize, DoorRefusal>
+    ensures answer { result ≡ read_answer answer }
+    ensures counted { faults.new ≡ after_answer result faults.old }
+{
+    match answer {
+        Ok(count) => Ok(count),
+        Err(_) => {
+            *faults = faults.saturating_add(1);
+            Err(DoorRefusal::Failed)
         }
     }
 }

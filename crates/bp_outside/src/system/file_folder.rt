@@ -1,7 +1,7 @@
 // A folder of the file system as a folder to write to.
 ghost use Rattle.std.specs.Prelude.{◌≡◌, false, true, None, Some, Ok, Err, IsErrOf, IfErr, IfOk, OnErr, is_some};
-ghost use Rattle.bp_outside.specs.Appending.{AppendsTo};
 ghost use Rattle.bp_outside.specs.Folder.{Appends, after_finish};
+ghost use Rattle.bp_outside.specs.Streams.{AppendsTo};
 ghost use Rattle.bp_outside.specs.SystemAnswers.{after_answer};
 ghost use Rattle.bp_outside.specs.SystemFiles.{BeginsEmpty};
 ghost use Rattle.bp_outside.specs.Untold.{untold_folder};

@@ -23,6 +23,7 @@ const CHUNK: usize = 65536;
 pub struct FileSource<'a, R: Files> {
     rt: &'a R,
     folder: &'a str,
+    reads: u64,
     counts: ReadCounts,
 }
 
@@ -30,12 +31,14 @@ impl<'a, R: Files> FileSource<'a, R> {
     /// The files below this folder: `.` for the current one. Their paths have `/` between folders.
     pub fn below(rt: &'a R, folder: &'a str) -> FileSource<'a, R>
         ensures folder { result.folder.now ≡ folder.now }
+        ensures reads { result.reads ≡ 0 }
         ensures shows { untold_source result.counts
             ≡ record { files = None; faults = 0; absences = 0; overlong = 0; sure = false } }
     {
         FileSource {
             rt,
             folder,
+            reads: 0,
             counts: ReadCounts::ZERO,
         }
     }
@@ -46,9 +49,12 @@ impl<'a, R: Files> Source for FileSource<'a, R> {
 
     ghost shows = { λ source. untold_source source.counts };
 
+    ghost reads = { λ source. source.reads };
+
     ghost unfailing = { λ source sure. absurd (false≢true sure) };
 
     fn read(&mut self, alloc: Global, path: &str, max: u64) -> Result<Vec<u8>, ReadRefusal> {
+        self.reads = self.reads.saturating_add(1);
         let below = joined(alloc, self.folder, path)?;
         let mut opened = open(self.rt, below.as_str());
         match read_opened(&mut opened, alloc, max) {

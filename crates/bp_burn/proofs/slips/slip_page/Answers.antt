@@ -12,12 +12,12 @@ use Rattle.bp_burn.proofs.slips.slip_page.Goals.{After-draw_text}
 pub draw_text-requires-clause-page : goal.draw_text-requires-clause-page
 draw_text-requires-clause-page c =
     let P : Image → Type 0 = λ page. IsPage page in
-    subst P (sym c.in-Ok.ensures.ok.1) paper_is_page
+    subst P (sym c.in_ok-page.ensures) paper_is_page
 
 drawn : (c : After-draw_text) → c.draw_text.new.page ≡ inked (white_image 1700 2232 slip_resolution slip_resolution Inch) (is_drawn (slip_text c.args.basis) 1000 200 0)
 drawn c =
     c.draw_text.ensures
-    ∙ ap (λ page. inked page (is_drawn c.as_bytes-text.result.now 1000 200 0)) c.in-Ok.ensures.ok.1
+    ∙ ap (λ page. inked page (is_drawn c.as_bytes-text.result.now 1000 200 0)) c.in_ok-page.ensures
     ∙ ap (λ bytes. inked (white_image 1700 2232 slip_resolution slip_resolution Inch) (is_drawn bytes 1000 200 0)) (c.as_bytes-text.ensures.value ∙ c.slip_text.ensures)
 
 pub draw_band-requires-clause-page : goal.draw_band-requires-clause-page

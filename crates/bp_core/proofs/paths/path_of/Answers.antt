@@ -1,4 +1,4 @@
-use Rattle.std.proofs.Common.{Ok, Err, sym, ap, ◌∙◌}
+use Rattle.std.proofs.Common.{Ok, sym, ap, ◌∙◌}
 use Rattle.std.specs.Option.{ok_or}
 use Rattle.std.specs.Str.{chars}
 use Rattle.bp_core.specs.Rules.{bare_rule}
@@ -8,8 +8,8 @@ use Rattle.bp_core.proofs.paths.path_of.Goals as goal
 
 pub returns-then-not-is_path-clause-answer : goal.returns-then-not-is_path-clause-answer
 returns-then-not-is_path-clause-answer c =
-    ap (λ path. ok_or path (bare_rule PathRefused)) (refused (chars c.args.text.now) (sym c.is_path.ensures ∙ c.if-not-is_path.true))
-    ∙ ap Err (sym c.bare.ensures)
+    rw (c.bare.ensures)
+    (ap (λ path. ok_or path (bare_rule PathRefused)) (refused (chars c.args.text.now) (sym c.is_path.ensures ∙ c.if-not-is_path.true)))
 
 pub returns-in_err-joined_parts-clause-refused : goal.returns-in_err-joined_parts-clause-refused
 returns-in_err-joined_parts-clause-refused c =

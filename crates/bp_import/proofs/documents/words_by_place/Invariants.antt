@@ -1,7 +1,7 @@
 use Rattle.std.proofs.Common.{◌≡◌, ◌++◌, Ok, List, length, map, true}
 use Rattle.std.specs.Vec.Iter.{into_iter_items, into_iter_len}
 use Rattle.bp_load.specs.declared.opt.OptLine.{OptLine}
-use Rattle.bp_matter.specs.ValidRows.{all_differ}
+use Rattle.bp_core.specs.Differing.{all_differ}
 use Rattle.bp_import.specs.Documents.{words_of_lines}
 use Rattle.bp_import.specs.WordPages.{places_of}
 use Rattle.bp_import.proofs.documents.words_by_place.Given as goal

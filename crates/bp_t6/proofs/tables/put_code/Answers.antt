@@ -8,7 +8,7 @@ put-requires-clause-short g c = (code_at c.args.codes.now c.args.row c.code_of.r
 pub put-requires-clause-fits : goal.put-requires-clause-fits
 put-requires-clause-fits g c = (code_at c.args.codes.now c.args.row c.code_of.result c.requires.short c.code_of.ensures).fits
 
-pub returns : goal.returns
-returns g c =
+pub returns-clause-put : goal.returns-clause-put
+returns-clause-put g c =
     subst (λ (bs : List Bool). OnOk c.put.result (c.put.new.self ≡ c.args.out.now ++ bs))
     (code_at c.args.codes.now c.args.row c.code_of.result c.requires.short c.code_of.ensures).bits c.put.ensures.ok

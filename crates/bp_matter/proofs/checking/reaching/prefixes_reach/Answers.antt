@@ -3,7 +3,7 @@ use Rattle.std.specs.List.{list_all}
 use Rattle.std.proofs.lemmas.Bool.{and_parts, and_from}
 use Rattle.std.proofs.lemmas.List.{nil_from_length}
 use Rattle.std.specs.BTreeMap.{get}
-use Rattle.bp_matter.proofs.DifferLemmas.{lent_cmp}
+use Rattle.bp_core.proofs.DifferLemmas.{lent_cmp}
 use Rattle.bp_matter.proofs.ReachLemmas.{all_reached, reached_grown}
 use Rattle.bp_matter.specs.ValidPrefixes.{after_reached, is_reached, is_used, spans_reach}
 use Rattle.bp_matter.proofs.checking.reaching.prefixes_reach.Goals as goal

@@ -10,11 +10,11 @@ overflow_cast-word-2 c =
     let k : IsGathered c.self.inside.held c.self.inside.fill = record { few = c.self.invariant.few; small = c.self.invariant.small } in
     omega (arith, shift_is c.self.inside.held c.self.inside.fill k, shift_small c.self.inside.held c.self.inside.fill k)
 
-pub returns : goal.returns
-returns c =
+pub returns-clause-bytes : goal.returns-clause-bytes
+returns-clause-bytes c =
     let s = c.self.inside in
     let k : IsGathered s.held s.fill = record { few = c.self.invariant.few; small = c.self.invariant.small } in
-    c.in_ok-extend_from_slice.ensures.items
+    ap (λ v. v.items) c.replace.ensures.value ∙ c.in_ok-extend_from_slice.ensures.items
     ∙ ap (λ bs. s.bytes.items ++ take ((s.fill + 7) / 8) bs) (c.to_be_bytes-last.ensures ∙ ap (to_be_bytes w32) (shift_is s.held s.fill k))
     ∙ finished s.bytes.items s.held s.fill ((s.fill + 7) / 8) k c.self.invariant.fit (omega arith)
     ∙ ap packed_row c.self.view_is

@@ -15,6 +15,7 @@ invariant_of-self c =
     let few : s.fill + c.from-2.result < 32 = omega arith in
     let size : s.fill + code.len ≡ s.fill + c.from-2.result = ap (λ n. s.fill + n) (sym c.from-2.ensures) in
     record {
+      words = c.self.invariant.words;
       few = few;
       small = subst (λ (v : ℕ). v < 2 ^ (s.fill + c.from-2.result)) (sym is) (subst (λ (n : ℕ). s.held * 2 ^ code.len + code.bits < 2 ^ n) size (held_below s.held s.fill code.bits code.len (kept c.self.invariant) c.requires.fits));
       fit = c.self.invariant.fit;

@@ -1,0 +1,23 @@
+-- Strips of pages that go out (ITU-T T.6).
+use Rattle.std.specs.Prelude.{ℕ, ◌≡◌, ◌+◌, ◌&&◌, Bool, List, nat_le, nat_lt}
+use Rattle.std.specs.List.{list_any}
+use Rattle.bp_core.specs.declared.rectangle.Rect.{Rect}
+use Rattle.bp_core.specs.declared.stamps.Stamp.{Stamp}
+use Rattle.bp_rows.specs.Image.{grid_of}
+use Rattle.bp_burn.specs.Band.{band_texts}
+use Rattle.bp_burn.specs.declared.band.TheConstants.{BAND_ROWS}
+
+-- ---- the steps of making one
+
+-- some row of the rectangle is that row of the page
+abbrev pub has_row : Rect → ℕ → Bool
+has_row box row = nat_le box.top row && nat_lt row (box.top + box.height)
+
+-- some stamp lies in the row
+abbrev pub touches_row : List Stamp → ℕ → Bool
+touches_row stamps row = list_any (λ (s : Stamp). has_row s.rect row) stamps
+
+-- the rows of the band below a page of that width
+abbrev pub band_rows : ℕ → List ℕ → List ℕ → List (List Bool)
+band_rows width label designation =
+    grid_of width BAND_ROWS (band_texts width 0 label designation)

@@ -1,9 +1,0 @@
-use Rattle.std.proofs.Common.{length}
-use Rattle.bp_matter.proofs.DifferLemmas.{Seen}
-use Rattle.bp_matter.proofs.checking.differing.all_differ.Given as goal
-
-abbrev pub invariant-loop-first : goal.invariant-loop-first
-invariant-loop-first g l = Seen g.L.Label.text_of g.L.Label.coded g.L.Label.decoded l.rows l.rest l.seen
-
-abbrev pub decreases-loop-first : goal.decreases-loop-first
-decreases-loop-first g l = length l.rest

@@ -1,0 +1,119 @@
+-- Carry what one read of an input leaves to the whole of it.
+use Rattle.std.proofs.Common.{◌≡◌, ℕ, ◌+◌, ◌≤◌, ◌==◌, Bool, true, false, List, [], ◌++◌, length, take, refl, sym, ap, ◌∙◌, arith, inl, inr, length-append}
+use Rattle.std.specs.Prelude.{Err}
+use Rattle.std.proofs.lemmas.Bool.Decides.{nat_tests}
+use Rattle.std.proofs.lemmas.List.{append-nil, length-take-le}
+use Rattle.bp_outside.specs.Door.{DoorView, ReadsFirst, after_refusal, changed, took}
+use Rattle.bp_outside.specs.Input.{TakesInput, TakesMore, TakesPart, TakesSome, WasNeeded}
+use Rattle.bp_outside.specs.declared.input.InputStop.{InputStop}
+use Rattle.bp_outside.specs.declared.input.InputStop.TheVariants.{LackedMemory, Refused}
+use Rattle.bp_outside.specs.declared.input.TheConstants.{INPUT_CHUNK}
+use Rattle.bp_outside.proofs.DoorLemmas.{took_more, took_nothing}
+
+-- the test said that these bytes aren't enough
+pub not_enough : (is_enough : List ℕ → Bool) (bytes lent : List ℕ) (answer : Bool)
+    → lent ≡ bytes
+    → answer ≡ is_enough lent
+    → answer ≡ false
+    → is_enough bytes ≡ false
+not_enough is_enough bytes lent answer same is short = ap is_enough (sym same) ∙ sym is ∙ short
+
+pub longer_by : (bytes more now : List ℕ)
+    → now ≡ bytes ++ more
+    → length now ≡ length bytes + length more
+longer_by bytes more now is = ap length is ∙ length-append bytes more
+
+-- a read of some bytes
+some_more : (door after : DoorView) (room : List ℕ) (count : ℕ)
+    → ReadsFirst door room count after
+    → (count ≡ 0 → ⊥)
+    → after ≡ changed (took (take count room) false) door
+some_more door after room count step some =
+    let more : (count == 0) ≡ false = grind (arith, nat_tests, some) in
+    step.read ∙ ap (λ b. changed (took (take count room) b) door) more
+
+pub takes_more : (most : ℕ) (door after : DoorView) (room bytes now : List ℕ) (count : ℕ)
+    → ReadsFirst door room count after
+    → (count ≡ 0 → ⊥)
+    → length room ≤ most
+    → now ≡ bytes ++ take count room
+    → TakesMore most door bytes now after
+takes_more most door after room bytes now count step some fits is =
+    let part : length (take count room) ≡ count = length-take-le count room step.within in
+    record {
+      more = take count room;
+      some = omega (arith, some, part);
+      few = omega (arith, part, step.within, fits);
+      all = is;
+      read = some_more door after room count step some;
+    }
+
+pub takes_part : (door after : DoorView) (room : List ℕ) (count : ℕ)
+    → ReadsFirst door room count after
+    → (count ≡ 0 → ⊥)
+    → TakesPart door after
+takes_part door after room count step some =
+    record { some = take count room; read = some_more door after room count step some }
+
+-- a read that met the end of input
+pub no_more_bytes : (door after : DoorView) (room : List ℕ) (count : ℕ)
+    → ReadsFirst door room count after
+    → count ≡ 0
+    → after ≡ changed (took [] true) door
+no_more_bytes door after room count step none =
+    step.read ∙ ap (λ k. changed (took (take k room) (k == 0)) door) none
+
+-- so many bytes were read, and then more
+pub read_more : (door now after : DoorView) (so_far more all : List ℕ) (ended : Bool)
+    → now ≡ changed (took so_far false) door
+    → after ≡ changed (took more ended) now
+    → all ≡ so_far ++ more
+    → after ≡ changed (took all ended) door
+read_more door now after so_far more all ended before step is =
+    step ∙ ap (changed (took more ended)) before ∙ took_more door so_far more ended
+    ∙ ap (λ bytes. changed (took bytes ended) door) (sym is)
+
+-- nothing was read
+pub read_none : (door : DoorView) (bytes : List ℕ)
+    → bytes ≡ []
+    → door ≡ changed (took bytes false) door
+read_none door bytes none =
+    sym (ap (λ b. changed (took b false) door) none ∙ took_nothing door)
+
+pub none_needed : (is_enough : List ℕ → Bool) (bytes : List ℕ)
+    → bytes ≡ []
+    → WasNeeded is_enough bytes
+none_needed is_enough bytes none =
+    record { front = []; last = []; all = none; few = omega arith; needed = inl none }
+
+-- the bytes before these weren't enough
+pub more_needed : (is_enough : List ℕ → Bool) (front last bytes : List ℕ)
+    → is_enough front ≡ false
+    → length last ≤ INPUT_CHUNK
+    → bytes ≡ front ++ last
+    → WasNeeded is_enough bytes
+more_needed is_enough front last bytes short few is =
+    record { front = front; last = last; all = is; few = few; needed = inr short }
+
+-- the end of input came behind bytes that weren't enough
+pub end_needed : (is_enough : List ℕ → Bool) (bytes now : List ℕ)
+    → is_enough bytes ≡ false
+    → now ≡ bytes
+    → WasNeeded is_enough now
+end_needed is_enough bytes now short is =
+    more_needed is_enough bytes [] now short (omega arith) (is ∙ sym (append-nil bytes))
+
+-- reading stopped short, after so many bytes
+pub read_short : (is_enough : List ℕ → Bool) (stop : InputStop) (room : ℕ)
+    (door now after : DoorView) (so_far bytes : List ℕ)
+    → now ≡ changed (took so_far false) door
+    → TakesSome room now so_far (Err stop) bytes after
+    → TakesInput is_enough door (Err stop) after
+read_short is_enough LackedMemory room door now after so_far bytes before step =
+    record {
+      some = so_far ++ step.some;
+      read = read_more door now after so_far step.some (so_far ++ step.some) false before
+          step.read refl;
+    }
+read_short is_enough (Refused refusal) room door now after so_far bytes before step =
+    record { some = so_far; read = step ∙ ap (λ d. after_refusal d refusal) before }

@@ -1,0 +1,60 @@
+-- The input of one exchange at a door, read until it is enough.
+use Rattle.std.specs.Prelude.{◌≡◌, ◌⊎◌, ℕ, ◌<◌, ◌≤◌, Bool, true, false, List, [], ◌++◌, length, Vec, Result, Ok, Err}
+use Rattle.std.specs.declared.alloc.Global.{Global}
+use Rattle.bp_outside.specs.Door.{DoorView, after_refusal, changed, took}
+use Rattle.bp_outside.specs.declared.input.InputStop.{InputStop}
+use Rattle.bp_outside.specs.declared.input.InputStop.TheVariants.{LackedMemory, Refused}
+use Rattle.bp_outside.specs.declared.input.TheConstants.{INPUT_CHUNK}
+use Rattle.bp_outside.specs.declared.refusals.DoorRefusal.{DoorRefusal}
+
+-- the last read was still needed: at most so many bytes came with it, and those before it weren't
+-- enough
+pub record WasNeeded (is_enough : List ℕ → Bool) (bytes : List ℕ) : Type 0 where
+  pub front : List ℕ
+  pub last : List ℕ
+  pub all : bytes ≡ front ++ last
+  pub few : length last ≤ INPUT_CHUNK
+  pub needed : (bytes ≡ []) ⊎ (is_enough front ≡ false)
+
+-- these bytes were read: enough, or all that there were
+pub record TakesWhole (is_enough : List ℕ → Bool) (before : DoorView) (bytes : List ℕ)
+    (after : DoorView) : Type 0 where
+  pub ended : Bool
+  pub read : after ≡ changed (took bytes ended) before
+  pub whole : (is_enough bytes ≡ true) ⊎ (ended ≡ true)
+  pub needed : WasNeeded is_enough bytes
+
+-- some bytes were read, and lost for want of memory
+pub record TakesPart (before after : DoorView) : Type 0 where
+  pub some : List ℕ
+  pub read : after ≡ changed (took some false) before
+
+-- some bytes were read, and then a read was refused
+pub record StopsAt (before : DoorView) (refusal : DoorRefusal) (after : DoorView) : Type 0 where
+  pub some : List ℕ
+  pub read : after ≡ after_refusal (changed (took some false) before) refusal
+
+-- what reading an input leaves
+abbrev pub TakesInput : (List ℕ → Bool) → DoorView → Result (Vec ℕ Global) InputStop → DoorView
+    → Type 0
+TakesInput is_enough before (Ok bytes) after = TakesWhole is_enough before bytes.items after
+TakesInput is_enough before (Err LackedMemory) after = TakesPart before after
+TakesInput is_enough before (Err (Refused refusal)) after = StopsAt before refusal after
+
+-- some bytes, at most as many as there was room for, were read and put behind those before
+pub record TakesMore (room : ℕ) (before : DoorView) (bytes now : List ℕ) (after : DoorView)
+    : Type 0 where
+  pub more : List ℕ
+  pub some : 0 < length more
+  pub few : length more ≤ room
+  pub all : now ≡ bytes ++ more
+  pub read : after ≡ changed (took more false) before
+
+-- what one read of an input leaves: more bytes, or the end
+abbrev pub TakesSome : ℕ → DoorView → List ℕ → Result Bool InputStop → List ℕ → DoorView → Type 0
+TakesSome room before bytes (Ok true) now after = TakesMore room before bytes now after
+TakesSome room before bytes (Ok false) now after =
+    (now ≡ bytes) × (after ≡ changed (took [] true) before)
+TakesSome room before bytes (Err LackedMemory) now after = TakesPart before after
+TakesSome room before bytes (Err (Refused refusal)) now after =
+    after ≡ after_refusal before refusal

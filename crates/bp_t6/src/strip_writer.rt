@@ -1,0 +1,76 @@
+// A strip written a row at a time.
+ghost use Rattle.std.specs.Prelude.{◌≡◌, ◌<◌, ◌≤◌, ◌++◌, ◌∷◌, ℕ, Bool, List, [], IfOk, OnOk, OnErr, length, sum, false, slice_index_or};
+ghost use Rattle.bp_rows.specs.Image.{Image};
+ghost use Rattle.bp_rows.specs.Runs.{painted_runs};
+ghost use Rattle.bp_t6.specs.SoFar.{HasAdded};
+ghost use Rattle.bp_t6.specs.Written.{strip_of};
+
+use crate::line_writer::LineWriter;
+use crate::run_places::push_places;
+use bp_core::{Bytes, OutOfMemory};
+use bp_rows::{MAX_WIDTH, Runs};
+use std::alloc::Global;
+use std::marker::Model;
+
+/// A strip under way, to which rows are added as runs (ITU-T T.6). Beside the strip it keeps one
+/// row of memory.
+#[derive(Drop)]
+pub struct StripWriter {
+    lines: LineWriter,
+    places: Vec<u32>,
+}
+
+// Clauses see the width, the codes so far, and the changing elements of the last row.
+impl Model for StripWriter {
+    ghost use Rattle.bp_t6.specs.SoFar.{AddedSoFar, IsWriter};
+
+    ghost Value = { AddedSoFar };
+
+    ghost view = { λ w.
+        record { width = w.lines.width; bits = w.lines.out; above = w.lines.above.items } };
+
+    ghost invariant = { λ w. IsWriter w.lines.width w.lines.above.items };
+}
+
+impl StripWriter {
+    /// A writer without rows, for rows of that width in pixels.
+    pub fn start(alloc: Global, width: u32) -> Result<StripWriter, OutOfMemory>
+        requires some { 0 < width }
+        requires wide { width ≤ MAX_WIDTH }
+        ensures width { IfOk result (λ writer. writer.width ≡ width) }
+        ensures none { IfOk result (λ writer. HasAdded writer []) }
+    {
+        Ok(StripWriter {
+            lines: LineWriter::new(alloc, width),
+            places: Vec::new(alloc),
+        })
+    }
+
+    /// Adds the row of runs, whose sum is the width: the first may be empty, and no other.
+    /// A refusal leaves the writer.
+    pub fn add(&mut self, runs: &Runs) -> Result<(), OutOfMemory>
+        requires total { sum runs.now ≡ self.old.width }
+        requires least { (k : ℕ) →
+            0 < k → k < length runs.now → 1 ≤ slice_index_or runs.now k 0 }
+        ensures width { self.new.width ≡ self.old.width }
+        ensures added { (lines : List (List Bool)) → HasAdded self.old lines
+            → OnOk result (HasAdded self.new (lines ++ painted_runs false runs.now ∷ [])) }
+        ensures kept { OnErr result (self.new ≡ self.old) }
+    {
+        push_places(&mut self.places, runs.as_slice())?;
+        self.lines.add(&mut self.places)?;
+        Ok(())
+    }
+
+    /// The strip of the rows that were added, with the end of the facsimile block and zero bits to
+    /// the byte. The writer is left without rows; a refusal leaves it as it was.
+    pub fn finish(&mut self, alloc: Global) -> Result<Bytes, OutOfMemory>
+        ensures strip { (p : Image) → p.width ≡ self.old.width → HasAdded self.old p.rows
+            → IfOk result (λ bytes. bytes ≡ strip_of p) }
+        ensures width { self.new.width ≡ self.old.width }
+        ensures none { OnOk result (HasAdded self.new []) }
+        ensures kept { OnErr result (self.new ≡ self.old) }
+    {
+        Ok(Bytes::from_vec(self.lines.finish(alloc)?))
+    }
+}

@@ -1,0 +1,82 @@
+#!/usr/bin/env python3
+"""Tests that want of memory is only handed on. A body that may answer that memory ran out could answer it by what it saw, and no
+contract would refuse that; so the sources are read: each place of the product that makes this answer must hand on one that it was
+given (an error of the allocator, or another call's), or be one of the places below, where a library or a call hides what it was.
+Prints each other place, and ends with status 1 where there is one. Tests, samples and benches are no part of the product."""
+import pathlib
+import re
+import sys
+
+TOP = pathlib.Path(__file__).resolve().parent.parent
+
+# file, function: why the answer is made there
+MADE = {
+    ("bp_cli/src/operands.rt", "read_operands"): "clap's own kind of error says that memory ran out",
+    ("bp_cli/src/arguments.rt", "stop_of"): "the system's kind of error says that memory ran out",
+}
+
+NOT_PRODUCT = re.compile(r"^(bp_tests|bp_samples|bp_bench|bp_days|bp_lines)")
+MAKES = re.compile(r"\b(?:\w+::)?OutOfMemory\b|\bAllocError\b")
+# the word in a type, an import, a clause, a pattern
+NO_MAKING = re.compile(r"^\s*(?://|use |pub use |ghost |ensures|requires|invariant|#|OutOfMemory,|pub struct|impl|fn |pub fn |pub\(crate\) fn |law |\) -> )")
+
+
+def functions(path):
+    """Number, text, name of the function, and whether it stands in a conversion of such an error, of each line of code."""
+    name, converting, in_clause, in_ghost = "", False, 0, False
+    for number, line in enumerate(path.read_text().splitlines(), 1):
+        if line.startswith("impl"):
+            converting = bool(re.search(r"From<(OutOfMemory|AllocError|AllocFailed|\w*Refusal|\w*Fault)", line))
+        elif line and not line[0].isspace() and not line.startswith("}"):
+            converting = False
+        found = re.match(r"\s*(?:pub(?:\(\w+\))? )?(?:const )?fn (\w+)", line)
+        if found:
+            name = found.group(1)
+        # clauses run to the brace that closes them
+        if re.match(r"\s*(ensures|requires|invariant|ghost)\b", line) or in_clause:
+            in_clause += line.count("{") - line.count("}") + line.count("[") - line.count("]")
+            if in_clause < 0:
+                in_clause = 0
+            continue
+        yield number, line, name, converting
+
+
+def makes(line):
+    if not MAKES.search(line) or NO_MAKING.match(line):
+        return False
+    code = line.split("//")[0]
+    if "=>" in code:
+        pattern, answer = code.split("=>", 1)
+        if not MAKES.search(answer):
+            return False
+        # handed on: the pattern names the same want
+        return not MAKES.search(pattern)
+    # a type: Result<T, OutOfMemory>, |_: AllocError|
+    code = re.sub(r"<[^<>]*(?:OutOfMemory|AllocError)[^<>]*>+", "", code)
+    code = re.sub(r"(?:->|(?<!:):\s)\s*(?:\w+::)?(?:OutOfMemory|AllocError)\b", "", code)
+    code = re.sub(r"AllocError::from\b", "", code)
+    return bool(MAKES.search(code))
+
+
+def main():
+    strange, used = [], set()
+    for path in sorted(TOP.glob("crates/*/src/**/*.rt")):
+        below = path.relative_to(TOP / "crates")
+        if NOT_PRODUCT.match(str(below)) or "tests" in below.parts or below.name == "tests.rt":
+            continue
+        for number, line, name, converting in functions(path):
+            if converting or not makes(line):
+                continue
+            key = (str(below), name)
+            if key in MADE:
+                used.add(key)
+            else:
+                strange.append(f"crates/{below}:{number}: {name}: {line.strip()}")
+    for place in strange:
+        print(place)
+    for key in sorted(set(MADE) - used):
+        print(f"no want of memory is made in {key[1]} of crates/{key[0]} any more: take it off the list")
+    sys.exit(1 if strange or set(MADE) - used else 0)
+
+
+main()

@@ -16,7 +16,7 @@ use anyhow::Result;
 use bp_core::Refusal;
 use bp_rows::Page;
 use bp_script::Words;
-use bp_tiff::read_tiff;
+use bp_tiff::{read_tiff, take_tiff};
 use std::alloc::{AllocError, Global};
 use std::fs;
 use std::rt::Files;
@@ -110,7 +110,7 @@ fn change(bytes: &mut [u8], place: &str, words: &mut Words) {
 // The page of a file, by both readers.
 fn read(alloc: Global, file: Vec<u8>) -> Result<String> {
     let lent = page_told(alloc, read_tiff(alloc, &file))?;
-    let taken = page_told(alloc, read_tiff(alloc, &file))?;
+    let taken = page_told(alloc, take_tiff(alloc, file))?;
     if lent == taken {
         Ok(lent)
     } else {

@@ -1,5 +1,5 @@
 // Pages: made, drawn on, burned and written. A unit is `none`, `inch` or `centimetre`, a rectangle LEFT
-// TOP WIDTH HEIGHT. The lines that make a page tell nothing, or why none is made.
+// TOP WIDTH HEIGHT, an ink `black` or `lettered`, a stamp a rectangle and its ground. The lines that make a page tell nothing, or why none is made.
 //
 //     page white WIDTH HEIGHT ACROSS DOWN UNIT         a white page; a resolution is NUMERATOR DENOMINATOR
 //     page strip WIDTH HEIGHT HEX..                    the page that this strip of packed rows is
@@ -7,7 +7,8 @@
 //     page coded WIDTH HEIGHT FILL HEX..               the page of a strip of codes (ITU-T T.6)
 //     page black ROW FROM TO / paint ROW FROM TO / box RECTANGLE / set ROW COLUMN YES_OR_NO
 //     page burn RECTANGLE.. / row ROW RECTANGLE..
-//     page produced LABEL DESIGNATION RECTANGLE..
+//     page produced INK LABEL DESIGNATION STAMP..
+//     page covered INK ROW STAMP..                     the runs of that row with its boxes covered
 //     page slip GROUND LABEL DESIGNATION
 //     page file        the page of the file at hand
 //     page sides       width, height, resolutions across and down, and unit
@@ -20,10 +21,10 @@ use crate::codes::fill_of;
 use crate::files::File;
 use crate::told::{constant, of_numbers, of_refusal, unread, yes_or_no};
 use anyhow::Result;
-use bp_burn::{burn, burn_row, has_glyphs, produced, slip_page};
+use bp_burn::{burn, burn_row, covered_runs, has_glyphs, produced, slip_page};
 use bp_codes::Fill;
-use bp_core::{ListOf, RectList, Refusal};
-use bp_rows::{Page, Res, Runs, Unit, allowed_sides, bytes_of_strip, import_sides};
+use bp_core::{Ink, ListOf, RectList, Refusal, Stamp, StampList};
+use bp_rows::{MAX_WIDTH, Page, Res, Runs, Unit, allowed_sides, bytes_of_strip, import_sides};
 use bp_script::{Words, hex_words};
 use bp_t6::{code_page, read_strip};
 use bp_tiff::{Form, read_tiff, write_tiff};
@@ -38,6 +39,7 @@ pub fn told(alloc: Global, page: &mut Page, file: &File, words: &mut Words) -> R
         "packed" => packed(alloc, page, words),
         "coded" => coded(alloc, page, words),
         "produced" => produce(alloc, page, words),
+        "covered" => covered(alloc, page, words),
         "slip" => slip(alloc, page, words),
         "burn" => burn_boxes(alloc, page, words),
         "written" => written(alloc, page, file, words),
@@ -153,17 +155,57 @@ fn burn_boxes(alloc: Global, page: &mut Page, words: &mut Words) -> Result<Strin
     constant(alloc, "")
 }
 
+fn ink_of(words: &mut Words) -> Ink {
+    match words.word() {
+        "black" => Ink::Black,
+        "lettered" => Ink::Lettered,
+        _ => {
+            words.refuse();
+            Ink::Black
+        }
+    }
+}
+
+// The stamps of all words that are left.
+fn stamps_of(alloc: Global, words: &mut Words) -> Result<StampList> {
+    let mut stamps = Vec::new(alloc);
+    for _ in 0..words.count() / 5 {
+        let rect = words.rect();
+        let basis = words.basis();
+        stamps.push(Stamp { rect, basis })?;
+    }
+    Ok(ListOf::from_vec(stamps))
+}
+
 fn produce(alloc: Global, page: &mut Page, words: &mut Words) -> Result<String> {
+    let ink = ink_of(words);
     let label = words.text();
     let designation = words.text();
-    let boxes = rects_of(alloc, words)?;
+    let stamps = stamps_of(alloc, words)?;
     let drawable = has_glyphs(&label) && has_glyphs(&designation);
     if words.is_read() && drawable && import_sides(page.width(), page.height()) {
-        *page = produced(alloc, page, &boxes, &label, &designation)?;
+        *page = produced(alloc, ink, page, &stamps, &label, &designation)?;
         constant(alloc, "")
     } else {
         unread(alloc)
     }
+}
+
+// The width of a page is that of each row, so it is the sum of its runs.
+fn covered(alloc: Global, page: &Page, words: &mut Words) -> Result<String> {
+    let ink = ink_of(words);
+    let row = words.number();
+    let stamps = stamps_of(alloc, words)?;
+    if !words.is_read() || row >= page.height() {
+        return unread(alloc);
+    }
+    let runs = page.row_runs(alloc, row)?;
+    let width: u32 = runs.as_slice().iter().sum();
+    if width == 0 || width > MAX_WIDTH {
+        return unread(alloc);
+    }
+    let covered = covered_runs(alloc, ink, &runs, row, &stamps)?;
+    of_numbers(alloc, covered.as_slice())
 }
 
 fn slip(alloc: Global, page: &mut Page, words: &mut Words) -> Result<String> {

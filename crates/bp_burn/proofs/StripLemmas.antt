@@ -75,7 +75,7 @@ untouched_row p ink stamps row down wide none =
 
 -- ---- a page that has a row of these runs
 
-abbrev page_with : ℕ → List ℕ → Image
+abbrev pub page_with : ℕ → List ℕ → Image
 page_with row runs = record {
   width = sum runs;
   height = row + 1;
@@ -134,7 +134,7 @@ joined_grid w h k a b first second = record {
       ];
 }
 
-or_false : (b : Bool) → (b || false) ≡ b
+pub or_false : (b : Bool) → (b || false) ≡ b
 or_false true = refl
 or_false false = refl
 

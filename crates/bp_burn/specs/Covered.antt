@@ -27,6 +27,7 @@ has_letter s r c =
 
 -- ---- stamps in turn
 
+-- the rectangles of stamps
 abbrev pub rects_of : List Stamp → List Rect
 rects_of stamps = map (λ (s : Stamp). s.rect) stamps
 

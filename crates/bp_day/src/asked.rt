@@ -15,7 +15,7 @@ use anyhow::Result;
 use bp_core::NumberList;
 use bp_keep::Keeper;
 use bp_matter::Call;
-use bp_rules::{Answer, Asked, Decided, decide, make_room, may, step, step_all};
+use bp_rules::{Answer, Asked, Decided, StepRefusal, decide, make_room, may, step, step_all};
 use bp_script::Words;
 use std::alloc::Global;
 
@@ -124,12 +124,17 @@ fn run(day: &mut Day) -> Result<String> {
         &day.asked,
         &mut answers,
     );
-    let mut text = answers_text(day.alloc, &answers)?;
+    run_text(day.alloc, &answers, ended)
+}
+
+// What each is told, and where the run stopped.
+fn run_text(alloc: Global, answers: &[Answer], ended: Result<(), StepRefusal>) -> Result<String> {
+    let mut text = answers_text(alloc, answers)?;
     match ended {
         Ok(()) => {}
         Err(refusal) => {
             text.push_str(" / ")?;
-            text.push_str(of_step(day.alloc, refusal)?.as_str())?;
+            text.push_str(of_step(alloc, refusal)?.as_str())?;
         }
     }
     Ok(text)

@@ -22,16 +22,20 @@ pub fn told(day: &mut Day, line: &str) -> Result<String> {
 /// written.
 pub fn differing(alloc: Global, script: &str) -> Result<String> {
     let mut day = Day::new(alloc)?;
+    first_differing(&mut day, script)
+}
+
+fn first_differing(day: &mut Day, script: &str) -> Result<String> {
     let mut tally = Tally::new();
     for line in script.lines() {
         if let Some(case) = tally.take(line) {
-            let told = told(&mut day, case.asked)?;
+            let told = told(day, case.asked)?;
             if told.as_str() != case.wanted {
-                return Ok(format!(in alloc; "{line}: {told}")?);
+                return Ok(format!(in day.alloc; "{line}: {told}")?);
             }
         }
     }
-    constant(alloc, "none")
+    constant(day.alloc, "none")
 }
 
 fn once(day: &mut Day, line: &str) -> Result<String> {

@@ -2,6 +2,7 @@
 //
 //     press ID WRITE..       how many files are written, or the refusal; the folder's calls of these
 //                            numbers, from 0, fail
+//     manifest               the digest that was told of the manifest
 //     left                   how many files the folder has
 //     path NUMBER            the path of that file, from 1
 //     text PATH / hex PATH / length PATH      what stands in the file
@@ -30,6 +31,7 @@ use std::alloc::Global;
 pub struct Shelf {
     folder: MemFolder,
     aside: MemFolder,
+    manifest: [u8; 32],
 }
 
 fn empty(alloc: Global, failing: NumberList) -> MemFolder {
@@ -41,6 +43,7 @@ impl Shelf {
         Shelf {
             folder: empty(alloc, NumberList::new(alloc)),
             aside: empty(alloc, NumberList::new(alloc)),
+            manifest: [0; 32],
         }
     }
 }
@@ -48,6 +51,7 @@ impl Shelf {
 pub fn told(day: &mut Day, verb: &str, words: &mut Words) -> Option<Result<String>> {
     match verb {
         "press" => Some(press_volume(day, words)),
+        "manifest" => Some(manifest(day)),
         "left" => Some(left(day)),
         "path" => Some(path(day, words)),
         "text" => Some(text(day, words)),
@@ -83,6 +87,9 @@ fn press_volume(day: &mut Day, words: &mut Words) -> Result<String> {
     match production_in(&day.tables, &id) {
         Some(production) => {
             let told = press(day.alloc, &day.tables, production, &mut day.pressed.folder);
+            if let Ok(pressed) = &told {
+                day.pressed.manifest = pressed.manifest;
+            }
             of_press(day.alloc, told)
         }
         None => constant(day.alloc, "none"),
@@ -98,6 +105,10 @@ fn of_press(alloc: Global, told: Result<Pressed, PressRefusal>) -> Result<String
         Err(PressRefusal::FolderFault) => constant(alloc, "folder fault"),
         Err(PressRefusal::OutOfMemory) => constant(alloc, "out of memory"),
     }
+}
+
+fn manifest(day: &Day) -> Result<String> {
+    Ok(hex::encode(day.alloc, day.pressed.manifest.as_slice())?)
 }
 
 fn left(day: &Day) -> Result<String> {

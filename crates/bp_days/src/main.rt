@@ -10,14 +10,18 @@ use std::rt::Files;
 use std::{env, fs};
 
 fn main(rt: HostRuntime) -> Result<()> {
-    let alloc = rt.alloc();
-    let mut day = Day::new(alloc)?;
+    let words: Vec<String> = env::args(&rt)?.collect(rt.alloc())?;
+    let mut day = Day::new(rt.alloc())?;
+    take_files(&rt, &mut day, &words)
+}
+
+// The first word is the program's name.
+fn take_files<R: Files + Alloc + Print>(rt: &R, day: &mut Day, words: &[String]) -> Result<()> {
     let mut tally = Tally::new();
-    let words: Vec<String> = env::args(&rt)?.collect(alloc)?;
     for file in words.iter().skip(1) {
-        take_file(&rt, &mut day, &mut tally, file.as_str())?;
+        take_file(rt, day, &mut tally, file.as_str())?;
     }
-    tally.print(&rt)
+    tally.print(rt)
 }
 
 // Does what the lines of a file ask for.

@@ -8,6 +8,8 @@
 //     page black ROW FROM TO / paint ROW FROM TO / box RECTANGLE / set ROW COLUMN YES_OR_NO
 //     page burn RECTANGLE.. / row ROW RECTANGLE..
 //     page produced INK LABEL DESIGNATION STAMP..
+//     page strip_produced INK LABEL DESIGNATION STAMP..    whether its strip of codes is the same where it
+//                                                      is made of the page's strip a row at a time
 //     page covered INK ROW STAMP..                     the runs of that row with its boxes covered
 //     page slip GROUND LABEL DESIGNATION
 //     page file        the page of the file at hand
@@ -21,7 +23,7 @@ use crate::codes::fill_of;
 use crate::files::File;
 use crate::told::{constant, of_numbers, of_refusal, unread, yes_or_no};
 use anyhow::Result;
-use bp_burn::{burn, burn_row, covered_runs, has_glyphs, produced, slip_page};
+use bp_burn::{burn, burn_row, covered_runs, has_glyphs, produced, produced_strip, slip_page};
 use bp_codes::Fill;
 use bp_core::{Ink, ListOf, RectList, Refusal, Stamp, StampList};
 use bp_rows::{MAX_WIDTH, Page, Res, Runs, Unit, allowed_sides, bytes_of_strip, import_sides};
@@ -39,6 +41,7 @@ pub fn told(alloc: Global, page: &mut Page, file: &File, words: &mut Words) -> R
         "packed" => packed(alloc, page, words),
         "coded" => coded(alloc, page, words),
         "produced" => produce(alloc, page, words),
+        "strip_produced" => produce_strip(alloc, page, words),
         "covered" => covered(alloc, page, words),
         "slip" => slip(alloc, page, words),
         "burn" => burn_boxes(alloc, page, words),
@@ -189,6 +192,33 @@ fn produce(alloc: Global, page: &mut Page, words: &mut Words) -> Result<String> 
     } else {
         unread(alloc)
     }
+}
+
+fn produce_strip(alloc: Global, page: &Page, words: &mut Words) -> Result<String> {
+    let ink = ink_of(words);
+    let label = words.text();
+    let designation = words.text();
+    let stamps = stamps_of(alloc, words)?;
+    let (width, height) = (page.width(), page.height());
+    let drawable = has_glyphs(&label) && has_glyphs(&designation);
+    if !words.is_read() || !drawable || !import_sides(width, height) {
+        return unread(alloc);
+    }
+    let whole = produced(alloc, ink, page, &stamps, &label, &designation)?;
+    let wanted = code_page(alloc, &whole)?;
+    let strip = code_page(alloc, page)?;
+    let strip = strip.as_slice();
+    let made = produced_strip(
+        alloc,
+        ink,
+        strip,
+        width,
+        height,
+        &stamps,
+        &label,
+        &designation,
+    )?;
+    yes_or_no(alloc, made == wanted)
 }
 
 // The width of a page is that of each row, so it is the sum of its runs.

@@ -242,12 +242,27 @@ impl<'a> Words<'a> {
 
     fn push_hex(&mut self, bytes: &mut Vec<u8>, digits: &str, times: u32) {
         let piece = self.bytes_in(digits);
-        for _ in 0..times {
-            if bytes.extend_from_slice(&piece).is_err() {
-                self.is_bad = true;
-            }
+        if push_pieces(self.alloc, bytes, &piece, times).is_err() {
+            self.is_bad = true;
         }
     }
+}
+
+// Adds a piece so often; a single byte at one go.
+fn push_pieces(
+    alloc: Global,
+    bytes: &mut Vec<u8>,
+    piece: &[u8],
+    times: u32,
+) -> Result<(), AllocError> {
+    if let [byte] = piece {
+        let run = vec![in alloc; *byte; times as usize]?;
+        return bytes.extend_from_slice(&run);
+    }
+    for _ in 0..times {
+        bytes.extend_from_slice(piece)?;
+    }
+    Ok(())
 }
 
 fn push_bytes(bytes: &mut Vec<u8>, word: &[u8]) -> Result<(), AllocError> {

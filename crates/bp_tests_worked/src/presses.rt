@@ -21,6 +21,8 @@ call 1 PutEntry 2 2019-03-04 Ng Ortiz Note = done
 call 2 Confirm 2 = done
 call 1 Freeze R V1 AB- 4 1 2 AUTHOR = produced 1:1-1 2:2-2
 press R = 8 files
+# Each file as it was computed apart: the digest of the list of their digests.
+manifest = 0ccf14e895fc12e8d0090ccc0177afd6fb35c76bc2f267db656faa69c15dd594
 path 1 = V1/IMAGES/0001/AB-0001.TIF
 path 2 = V1/TEXT/0001/AB-0001.TXT
 path 3 = V1/IMAGES/0001/AB-0002.TIF

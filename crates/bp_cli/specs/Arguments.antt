@@ -1,5 +1,6 @@
 -- The words of the command line, as the system gives them: with the program's name, or not at all.
-use Rattle.std.specs.Prelude.{◌≡◌, ℕ, ◌⊎◌, List, Vec, String, drop, Result, Ok, Err}
+use Rattle.std.specs.Prelude.{◌≡◌, ℕ, ◌⊎◌, true, false, List, [], Vec, String, drop, Some, Result}
+use Rattle.std.specs.Prelude.{Ok, Err}
 use Rattle.std.specs.declared.alloc.Global.{Global}
 use Rattle.std.specs.declared.vec.IntoIter.{IntoIter}
 use Rattle.std.specs.declared.io.Error.{Error}
@@ -13,7 +14,8 @@ use Rattle.bp_cli.specs.Words.{word_bytes}
 use Rattle.bp_cli.specs.Endings.{status_of, text_of}
 use Rattle.bp_cli.specs.Commands.{command_of}
 use Rattle.bp_cli.specs.Printing.{Prints}
-use Rattle.bp_cli.specs.Runs.{Outside, Runs}
+use Rattle.bp_outside.specs.Untold.{untold_source, untold_folder, untold_out}
+use Rattle.bp_cli.specs.Runs.{Outside, outside, Runs}
 
 -- the words with the program's name, or the error of the system
 abbrev pub Answer : Type 0
@@ -48,3 +50,18 @@ RunsArguments (Ok arguments) before after status =
     ⊎ StopsAtOnce stops.OutOfMemory before after status
 RunsArguments (Err error) before after status =
     StopsAtOnce (arguments_stop (error_kind error)) before after status
+
+-- ---- the program
+
+-- what is known before the program begins: a keeper in memory without rows, and nothing of what the
+-- system has
+abbrev pub beginning : Outside
+beginning =
+    outside (untold_source (record { faults = 0; absences = 0; overlong = 0 }))
+    (record { rows = Some []; faults = 0; loads = 0; commits = 0; sure = true })
+    (untold_folder false 0) (untold_out 0)
+
+-- a run from there ended with this status
+pub record EndsProgram (answer : Answer) (status : ℕ) : Type 0 where
+  pub after : Outside
+  pub runs : RunsArguments answer beginning after status

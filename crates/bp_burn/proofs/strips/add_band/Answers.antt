@@ -1,4 +1,4 @@
-use Rattle.std.proofs.Common.{ℕ, ◌≡◌, ◌++◌, List, Bool, ap, sym, ◌∙◌, subst}
+use Rattle.std.proofs.Common.{◌≡◌, ◌++◌, List, Bool, ap, sym, ◌∙◌, subst}
 use Rattle.std.specs.Result.{OnOk}
 use Rattle.bp_rows.specs.Image.{Image, IsPage}
 use Rattle.bp_t6.specs.SoFar.{HasAdded}

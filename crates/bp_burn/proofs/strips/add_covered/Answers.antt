@@ -1,9 +1,8 @@
-use Rattle.std.proofs.Common.{ℕ, ◌≡◌, ◌+◌, ◌<◌, ◌++◌, ◌∷◌, [], List, Bool, false, length, ap, sym, ◌∙◌, subst, refl, arith}
+use Rattle.std.proofs.Common.{◌≡◌, ◌+◌, ◌<◌, ◌++◌, ◌∷◌, [], List, Bool, false, length, ap, sym, ◌∙◌, subst, refl, arith}
 use Rattle.std.specs.Result.{OnOk}
 use Rattle.bp_rows.specs.Image.{row_of}
 use Rattle.bp_rows.proofs.RunLemmas.{length-painted}
 use Rattle.bp_t6.specs.SoFar.{HasAdded}
-use Rattle.bp_burn.specs.Covered.{covered}
 use Rattle.bp_burn.specs.Strips.{touches_row}
 use Rattle.bp_burn.proofs.StripLemmas.{covered_total, page_with, row_with, untouched_row}
 use Rattle.bp_burn.proofs.strips.add_covered.Goals as goal

@@ -1,9 +1,7 @@
-use Rattle.std.proofs.Common.{ℕ, ◌≡◌, ◌+◌, ◌<◌, ◌++◌, ◌∷◌, [], List, Bool, take, ap, sym, ◌∙◌, subst, arith}
-use Rattle.bp_rows.specs.Image.{Image, row_of}
+use Rattle.std.proofs.Common.{◌≡◌, ◌<◌, List, Bool, take, sym, ◌∙◌, subst, arith}
 use Rattle.bp_t6.specs.SoFar.{HasAdded}
 use Rattle.bp_burn.specs.Band.{produced_of}
 use Rattle.bp_burn.specs.Covered.{covered, covered_pixel}
-use Rattle.bp_burn.specs.Strips.{HasStrip}
 use Rattle.bp_burn.proofs.ChangeLemmas.{changed_is_grid}
 use Rattle.bp_burn.proofs.MakingLemmas.{one_row_more, row_total, rows_out}
 use Rattle.bp_burn.proofs.strips.produced_strip.Goals as goal

@@ -9,13 +9,15 @@
 use crate::calls::call_of;
 use crate::day::Day;
 use crate::told::{
-    constant, of_call, of_counted, of_refusal, of_reply, of_rule, of_step, unread, yes_or_no,
+    constant, of_call, of_counted, of_matter, of_refusal, of_reply, of_rule, unread, yes_or_no,
 };
 use anyhow::Result;
 use bp_core::NumberList;
 use bp_keep::Keeper;
 use bp_matter::Call;
-use bp_rules::{Answer, Asked, Decided, StepRefusal, decide, make_room, may, step, step_all};
+use bp_rules::{
+    Decided, MatterRefusal, RunAnswer, RunStep, decide, make_room, may, step, step_all,
+};
 use bp_script::Words;
 use std::alloc::Global;
 
@@ -100,7 +102,7 @@ fn ask(day: &mut Day, words: &mut Words) -> Result<String> {
     if !words.is_read() {
         return unread(day.alloc);
     }
-    day.asked.push(Asked::Call { key, call })?;
+    day.asked.push(RunStep::Call { key, call })?;
     constant(day.alloc, "")
 }
 
@@ -110,7 +112,7 @@ fn ask_import(day: &mut Day, words: &mut Words) -> Result<String> {
         return unread(day.alloc);
     }
     if let Ok(batch) = day.files.batch(&name, NumberList::new(day.alloc))? {
-        day.asked.push(Asked::Import { batch })?;
+        day.asked.push(RunStep::Import { batch })?;
     }
     constant(day.alloc, "")
 }
@@ -128,19 +130,23 @@ fn run(day: &mut Day) -> Result<String> {
 }
 
 // What each is told, and where the run stopped.
-fn run_text(alloc: Global, answers: &[Answer], ended: Result<(), StepRefusal>) -> Result<String> {
+fn run_text(
+    alloc: Global,
+    answers: &[RunAnswer],
+    ended: Result<(), MatterRefusal>,
+) -> Result<String> {
     let mut text = answers_text(alloc, answers)?;
     match ended {
         Ok(()) => {}
         Err(refusal) => {
             text.push_str(" / ")?;
-            text.push_str(of_step(alloc, refusal)?.as_str())?;
+            text.push_str(of_matter(alloc, refusal)?.as_str())?;
         }
     }
     Ok(text)
 }
 
-fn answers_text(alloc: Global, answers: &[Answer]) -> Result<String> {
+fn answers_text(alloc: Global, answers: &[RunAnswer]) -> Result<String> {
     let mut text = String::new(alloc);
     for answer in answers {
         if !text.is_empty() {
@@ -151,10 +157,10 @@ fn answers_text(alloc: Global, answers: &[Answer]) -> Result<String> {
     Ok(text)
 }
 
-fn answer_text(alloc: Global, answer: &Answer) -> Result<String> {
+fn answer_text(alloc: Global, answer: &RunAnswer) -> Result<String> {
     match answer {
-        Answer::Replied(reply) => of_reply(alloc, reply),
-        Answer::Counted(counted) => of_counted(alloc, *counted),
-        Answer::Refused(rule) => of_rule(alloc, *rule),
+        RunAnswer::Replied(reply) => of_reply(alloc, reply),
+        RunAnswer::Counted(counted) => of_counted(alloc, *counted),
+        RunAnswer::Refused(rule) => of_rule(alloc, *rule),
     }
 }

@@ -6,7 +6,7 @@ use anyhow::{Result, bail};
 use bp_core::{ListOf, NumberList, Put, RowList};
 use bp_keep::MemKeeper;
 use bp_matter::Tables;
-use bp_rules::{Asked, begin};
+use bp_rules::{RunStep, begin};
 use std::alloc::Global;
 
 /// A matter with its keeper; the rows as they were marked; the rows and files that are given; what
@@ -18,7 +18,7 @@ pub struct Day {
     pub(crate) keeper: MemKeeper,
     pub(crate) marked: RowList,
     pub(crate) puts: Vec<Put>,
-    pub(crate) asked: Vec<Asked>,
+    pub(crate) asked: Vec<RunStep>,
     pub(crate) given: Given,
     pub(crate) files: Files,
     pub(crate) pressed: Shelf,

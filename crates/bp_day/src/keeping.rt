@@ -10,7 +10,7 @@
 //     count / row KIND K1 K2   how many rows the keeper has / the body of this one, or `none`
 //     put KIND K1 K2 HEX / drop KIND K1 K2 / commit    a change that waits / all that wait are committed
 use crate::day::Day;
-use crate::told::{constant, of_load, unread, yes_or_no};
+use crate::told::{constant, of_matter, unread, yes_or_no};
 use anyhow::Result;
 use bp_core::{Bytes, ListOf, NumberList, Put, PutList, RowList, ascends};
 use bp_keep::{Keeper, MemKeeper};
@@ -75,7 +75,7 @@ impl Day {
         }
         match load_tables(self.alloc, &mut self.keeper) {
             Ok(tables) => self.tables = tables,
-            Err(refusal) => return of_load(self.alloc, refusal),
+            Err(refusal) => return of_matter(self.alloc, refusal),
         }
         constant(self.alloc, "loaded")
     }

@@ -4,7 +4,7 @@ use anyhow::Result;
 use bp_core::{Refusal, Rule};
 use bp_import::ImportRefusal;
 use bp_matter::{Reply, Tables};
-use bp_rules::{Counted, LoadRefusal, StepRefusal};
+use bp_rules::{Counted, MatterRefusal};
 use std::alloc::Global;
 
 /// These words.
@@ -21,17 +21,17 @@ pub fn yes_or_no(alloc: Global, is_so: bool) -> Result<String> {
     constant(alloc, if is_so { "yes" } else { "no" })
 }
 
-pub fn of_call(alloc: Global, told: &Result<Reply, StepRefusal>) -> Result<String> {
+pub fn of_call(alloc: Global, told: &Result<Reply, MatterRefusal>) -> Result<String> {
     match told {
         Ok(reply) => of_reply(alloc, reply),
-        Err(refusal) => of_step(alloc, *refusal),
+        Err(refusal) => of_matter(alloc, *refusal),
     }
 }
 
-pub fn of_import(alloc: Global, told: Result<Counted, StepRefusal>) -> Result<String> {
+pub fn of_import(alloc: Global, told: Result<Counted, MatterRefusal>) -> Result<String> {
     match told {
         Ok(counted) => of_counted(alloc, counted),
-        Err(refusal) => of_step(alloc, refusal),
+        Err(refusal) => of_matter(alloc, refusal),
     }
 }
 
@@ -49,19 +49,11 @@ pub fn of_batch(alloc: Global, told: ImportRefusal) -> Result<String> {
     }
 }
 
-pub fn of_load(alloc: Global, told: LoadRefusal) -> Result<String> {
+pub fn of_matter(alloc: Global, told: MatterRefusal) -> Result<String> {
     match told {
-        LoadRefusal::Rule(rule) => of_rule(alloc, rule),
-        LoadRefusal::KeeperFault => constant(alloc, "keeper fault"),
-        LoadRefusal::OutOfMemory => constant(alloc, "out of memory"),
-    }
-}
-
-pub fn of_step(alloc: Global, told: StepRefusal) -> Result<String> {
-    match told {
-        StepRefusal::Rule(rule) => of_rule(alloc, rule),
-        StepRefusal::KeeperFault => constant(alloc, "keeper fault"),
-        StepRefusal::OutOfMemory => constant(alloc, "out of memory"),
+        MatterRefusal::Rule(rule) => of_rule(alloc, rule),
+        MatterRefusal::KeeperFault => constant(alloc, "keeper fault"),
+        MatterRefusal::OutOfMemory => constant(alloc, "out of memory"),
     }
 }
 

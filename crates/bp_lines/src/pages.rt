@@ -19,13 +19,17 @@
 //     page codes       its strip of codes
 //     page again       whether the page of its strip of codes has its rows
 //     page written FORM CHANGES    whether its file is the one at hand with these changes
+ghost use Rattle.std.specs.Prelude.{IsTrue};
+ghost use Rattle.bp_rows.specs.Limits.{sides_are_imported};
+ghost use Rattle.bp_burn.specs.Drawn.{has_glyphs};
+
 use crate::codes::fill_of;
 use crate::files::File;
 use crate::told::{constant, of_numbers, of_refusal, unread, yes_or_no};
 use anyhow::Result;
 use bp_burn::{burn, burn_row, covered_runs, has_glyphs, produced, produced_strip, slip_page};
 use bp_codes::Fill;
-use bp_core::{Ink, ListOf, RectList, Refusal, Stamp, StampList};
+use bp_core::{Bytes, Ink, ListOf, RectList, Refusal, Stamp, StampList, Text};
 use bp_rows::{MAX_WIDTH, Page, Res, Runs, Unit, allowed_sides, bytes_of_strip, import_sides};
 use bp_script::{Words, hex_words};
 use bp_t6::{code_page, read_strip};
@@ -199,26 +203,65 @@ fn produce_strip(alloc: Global, page: &Page, words: &mut Words) -> Result<String
     let label = words.text();
     let designation = words.text();
     let stamps = stamps_of(alloc, words)?;
-    let (width, height) = (page.width(), page.height());
     let drawable = has_glyphs(&label) && has_glyphs(&designation);
-    if !words.is_read() || !drawable || !import_sides(width, height) {
-        return unread(alloc);
+    if words.is_read() && drawable && import_sides(page.width(), page.height()) {
+        strips_agree(alloc, ink, page, &stamps, &label, &designation)
+    } else {
+        unread(alloc)
     }
-    let whole = produced(alloc, ink, page, &stamps, &label, &designation)?;
-    let wanted = code_page(alloc, &whole)?;
-    let strip = code_page(alloc, page)?;
-    let strip = strip.as_slice();
-    let made = produced_strip(
-        alloc,
-        ink,
-        strip,
-        width,
-        height,
-        &stamps,
-        &label,
-        &designation,
-    )?;
+}
+
+fn strips_agree(
+    alloc: Global,
+    ink: Ink,
+    page: &Page,
+    stamps: &StampList,
+    label: &Text,
+    designation: &Text,
+) -> Result<String>
+    requires sides { IsTrue (sides_are_imported page.now.width page.now.height) }
+    requires label { IsTrue (has_glyphs label.now) }
+    requires designation { IsTrue (has_glyphs designation.now) }
+{
+    let wanted = strip_of_whole(alloc, ink, page, stamps, label, designation)?;
+    let made = strip_of_strip(alloc, ink, page, stamps, label, designation)?;
     yes_or_no(alloc, made == wanted)
+}
+
+// The strip of the page that goes out.
+fn strip_of_whole(
+    alloc: Global,
+    ink: Ink,
+    page: &Page,
+    stamps: &StampList,
+    label: &Text,
+    designation: &Text,
+) -> Result<Bytes>
+    requires sides { IsTrue (sides_are_imported page.now.width page.now.height) }
+    requires label { IsTrue (has_glyphs label.now) }
+    requires designation { IsTrue (has_glyphs designation.now) }
+{
+    let whole = produced(alloc, ink, page, stamps, label, designation)?;
+    Ok(code_page(alloc, &whole)?)
+}
+
+// The same, made of the page's strip a row at a time.
+fn strip_of_strip(
+    alloc: Global,
+    ink: Ink,
+    page: &Page,
+    stamps: &StampList,
+    label: &Text,
+    designation: &Text,
+) -> Result<Bytes>
+    requires sides { IsTrue (sides_are_imported page.now.width page.now.height) }
+    requires label { IsTrue (has_glyphs label.now) }
+    requires designation { IsTrue (has_glyphs designation.now) }
+{
+    let strip = code_page(alloc, page)?;
+    let (width, height) = (page.width(), page.height());
+    let strip = strip.as_slice();
+    Ok(produced_strip(alloc, ink, strip, width, height, stamps, label, designation)?)
 }
 
 // The width of a page is that of each row, so it is the sum of its runs.

@@ -1,6 +1,6 @@
 -- Worked examples of requests, each run by the check: the limits, the routes, the order of the
 -- refusals, and what is a number, a member and an object.
-use Rattle.std.proofs.Common.{◌≡◌, ◌+◌, ℕ, Bool, List, [], ◌∷◌, ◌++◌, length, codes, Option, Some, None, Ok, Err, replicate, true, false, refl, arith}
+use Rattle.std.proofs.Common.{◌≡◌, ◌+◌, ℕ, List, [], ◌∷◌, ◌++◌, length, codes, Option, Some, None, Ok, Err, replicate, true, refl, arith}
 use Rattle.std.specs.Option.{option_and_then, option_map}
 use Rattle.std.specs.Str.{chars, is_utf8}
 use Rattle.std.proofs.Math.Utf8.{encode}
@@ -15,11 +15,10 @@ use Rattle.sha2.specs.Sha256.{sha256}
 use Rattle.bp_core.specs.declared.review.Basis.TheVariants.{Wp}
 use Rattle.bp_core.specs.declared.review.Role.TheVariants.{Receiver}
 use Rattle.bp_core.specs.declared.review.Treatment.TheVariants.{Produce, Withhold}
-use Rattle.bp_matter.specs.declared.calls.Call.TheVariants.{Confirm, GetProduction, SeeDoc, SetCall}
+use Rattle.bp_matter.specs.declared.calls.Call.TheVariants.{Confirm, SeeDoc, SetCall}
 use Rattle.bp_web.specs.Calls.{call_of, doc_no, number, prefix_of}
-use Rattle.bp_web.specs.Heads.{BeginsWith, Field, only_value, named, start_of, value_of}
-use Rattle.bp_web.specs.Members.{basis_named, digest_named, object_of, role_named, texts_of, treatment_named}
-use Rattle.bp_web.specs.Numbers as heads
+use Rattle.bp_web.specs.Heads.{BeginsWith, start_of, value_of}
+use Rattle.bp_web.specs.Members.{basis_named, digest_named, object_of, role_named, treatment_named}
 use Rattle.bp_web.specs.Requests.{HttpReads, asked_of, asking_at, asking_of, body_length, of_head}
 use Rattle.bp_web.specs.Routes.{fits, get, next_of, post, route_of}
 use Rattle.bp_web.specs.declared.heads.TheConstants.{HEAD_LIMIT, MAX_FIELDS}

@@ -1,12 +1,12 @@
 -- What httparse answers over the bytes within the limit, as a head of the bytes or none.
-use Rattle.std.proofs.Common.{◌≡◌, ◌≤◌, ℕ, List, ◌++◌, length, take, drop, min, sym, ap, ◌∙◌, subst, arith, Result, Ok, Err}
+use Rattle.std.proofs.Common.{◌≡◌, ◌≤◌, ℕ, List, ◌++◌, length, take, drop, min, sym, ap, ◌∙◌, subst, arith, Result, Ok}
 use Rattle.std.proofs.lemmas.List.{take_min, length-take, length-map}
 use Rattle.httparse.specs.declared.Error.{Error}
 use Rattle.httparse.specs.declared.Status.{Status}
 use Rattle.httparse.specs.declared.Status.TheVariants.{Complete, Partial}
 use Rattle.httparse.specs.declared.spans.HeaderSpan.{HeaderSpan}
 use Rattle.httparse.specs.declared.spans.RequestSpans.{RequestSpans}
-use Rattle.httparse.specs.Grammar.{Field, MayBecomeRequest, RequestHead}
+use Rattle.httparse.specs.Grammar.{Field, MayBecomeRequest}
 use Rattle.httparse.specs.Outcome.{IfComplete, IsCompleteAnd, OnPartial}
 use Rattle.httparse.specs.Spans.{AreFieldsAt, FindsRequest, IsRequestAt, IsRequestOf, IsRequestWithin, RequestOverflows, header_bytes, name_and_value}
 use Rattle.bp_web.specs.Heads.{BeginsWithNone, HasHead}

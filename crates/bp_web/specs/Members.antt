@@ -35,7 +35,7 @@ object_of body = json_of body >>= if_object
 
 -- ---- a member, by its name and its kind
 
--- t: a text, in UTF-8
+-- a member that is a text, in UTF-8
 abbrev pub bytes_of : List ℕ → Data → Option (List ℕ)
 bytes_of name d = get name d >>= as_str
 
@@ -47,11 +47,11 @@ text_of name d = option_map chars (bytes_of name d)
 abbrev pub at_most : ℕ → ℕ → Option ℕ
 at_most most n = if nat_le n most then Some n else None
 
--- n: a whole number up to `most`, written without sign, point or exponent
+-- one that is a whole number up to `most`, written without sign, point or exponent
 abbrev pub number_of : ℕ → List ℕ → Data → Option ℕ
 number_of most name d = get name d >>= as_number >>= as_u64 >>= at_most most
 
--- f: true or false
+-- one that is true or false
 abbrev pub flag_of : List ℕ → Data → Option Bool
 flag_of name d = get name d >>= as_bool
 

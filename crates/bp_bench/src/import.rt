@@ -70,7 +70,7 @@ pub fn parts<R: Files + Alloc + Threads + Sync>(
             let mut hasher = Sha256::new();
             hasher.update(bytes.as_slice());
             sum = sum.wrapping_add(u64::from(hasher.finalize()[0]));
-            let Ok(page) = take_tiff(rt, alloc, bytes) else {
+            let Ok(page) = take_tiff(alloc, bytes) else {
                 bail!("an image isn't read");
             };
             let strip = code_page(alloc, &page)?;

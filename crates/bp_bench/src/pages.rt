@@ -1,7 +1,7 @@
 // A letter page as it goes out: `produced BOXES TIMES`.
 use anyhow::{Result, bail};
 use bp_burn::{has_glyphs, produced};
-use bp_core::{ListOf, Rect, RectList, Text};
+use bp_core::{Basis, Ink, ListOf, Rect, Stamp, StampList, Text};
 use bp_rows::{Page, Res, Unit, import_sides};
 use std::alloc::{AllocError, Global};
 
@@ -30,7 +30,7 @@ pub fn run(alloc: Global, operands: &[String]) -> Result<u64> {
     }
     let mut sum = 0;
     for turn in 0..times {
-        let out = produced(alloc, &page, &boxes, &label, &designation)?;
+        let out = produced(alloc, Ink::Black, &page, &boxes, &label, &designation)?;
         if turn == 0 {
             sum = sum_of(&out);
         }
@@ -47,14 +47,17 @@ fn sum_of(page: &Page) -> u64 {
 }
 
 // Boxes as wide as a line of text.
-fn boxes_of(alloc: Global, count: u32) -> Result<RectList, AllocError> {
+fn boxes_of(alloc: Global, count: u32) -> Result<StampList, AllocError> {
     let mut boxes = Vec::new(alloc);
     for place in 0..count {
-        boxes.push(Rect {
-            left: 320,
-            top: place.wrapping_mul(600),
-            width: 1910,
-            height: 370,
+        boxes.push(Stamp {
+            rect: Rect {
+                left: 320,
+                top: place.wrapping_mul(600),
+                width: 1910,
+                height: 370,
+            },
+            basis: Basis::Ac,
         })?;
     }
     Ok(ListOf::from_vec(boxes))

@@ -9,7 +9,7 @@ use crate::office::{ID, Office, confirmed, rect_on};
 use crate::volume::write_volume;
 use anyhow::{Result, bail};
 use bp_burn::{has_glyphs, produced};
-use bp_core::{Bytes, DocNo, ListOf, NumberList, RectList, Text};
+use bp_core::{Basis, Bytes, DocNo, Ink, ListOf, NumberList, Stamp, StampList, Text};
 use bp_matter::PageRow;
 use bp_outside::{FileFolder, FileList, Folder, MemFolder, put_file};
 use bp_rows::{Page, import_sides};
@@ -104,8 +104,11 @@ fn parts_once<R: Files + Alloc>(rt: &R, task: &Task<'_>, turn: u32) -> Result<u6
 
 fn parts_to<F: Folder>(task: &Task<'_>, folder: &mut F) -> Result<u64> {
     let alloc = task.office.alloc;
-    let rect = rect_on(&task.image, 1);
-    let boxes: RectList = ListOf::from_vec(vec![in alloc; rect]?);
+    let stamp = Stamp {
+        rect: rect_on(&task.image, 1),
+        basis: Basis::Ac,
+    };
+    let boxes: StampList = ListOf::from_vec(vec![in alloc; stamp]?);
     let designation = task.office.text("CONFIDENTIAL")?;
     let mut sum = 0u64;
     for row in &task.office.tables.pages {
@@ -133,7 +136,7 @@ fn digest_and_put<F: Folder>(
 }
 
 // The page file of a page with these boxes, under its label and the designation.
-fn file_of(alloc: Global, row: &PageRow, boxes: &RectList, designation: &Text) -> Result<Bytes> {
+fn file_of(alloc: Global, row: &PageRow, boxes: &StampList, designation: &Text) -> Result<Bytes> {
     let label = Text::from_string(format!(in alloc; "ABC{:08}", row.doc.0)?);
     let page = row.image.page();
     if !import_sides(page.width(), page.height()) {
@@ -142,7 +145,7 @@ fn file_of(alloc: Global, row: &PageRow, boxes: &RectList, designation: &Text) -
     if !has_glyphs(&label) || !has_glyphs(designation) {
         bail!("a text can't be drawn");
     }
-    let image = produced(alloc, page, boxes, &label, designation)?;
+    let image = produced(alloc, Ink::Black, page, boxes, &label, designation)?;
     Ok(write_tiff(alloc, Form::G4, &image)?)
 }
 

@@ -107,7 +107,7 @@ produced_made ink p stamps label designation grid =
     ∙ ap (λ n. covered_pixel ink stamps n c was) (zero-add r))
     (λ r c was past across. ap (λ b. if b then covered_pixel ink stamps (0 + r) c was else was) (le-ltb r p.height past))
 
-five : (a b c d e : Bool) → (a && b && c && d && e) ≡ true → (a ≡ true) × (b ≡ true) × (c ≡ true) × (d ≡ true) × (e ≡ true)
+pub five : (a b c d e : Bool) → (a && b && c && d && e) ≡ true → (a ≡ true) × (b ≡ true) × (c ≡ true) × (d ≡ true) × (e ≡ true)
 five a b c d e all =
     let four = and_parts (a && b && c && d) e all in
     let three = and_parts (a && b && c) d four.0 in

@@ -12,7 +12,7 @@ use Rattle.bp_core.specs.declared.stamps.Ink.{Ink}
 use Rattle.bp_core.specs.declared.stamps.Ink.TheVariants.{Black, Lettered}
 use Rattle.bp_core.specs.declared.stamps.Stamp.{Stamp}
 use Rattle.bp_burn.specs.Band.{band_texts, produced_of, slip_text}
-use Rattle.bp_burn.specs.Covered.{covered, covered_pixel}
+use Rattle.bp_burn.specs.Covered.{covered_pixel}
 use Rattle.bp_burn.specs.Drawn.{columns_of, has_glyphs, is_drawn}
 use Rattle.bp_burn.specs.Ink.{in_row, inked}
 use Rattle.bp_burn.specs.declared.band.TheConstants.{BAND_ROWS, MARGIN, TEXT_TOP}

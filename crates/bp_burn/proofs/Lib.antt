@@ -8,6 +8,7 @@ mod Examples
 mod FigureLemmas
 pub mod InkLemmas
 mod LetterLemmas
+mod MakingLemmas
 mod RowLemmas
 mod SlipLemmas
 mod StripLemmas

@@ -1,5 +1,5 @@
 -- One row of a page, painted and covered alone, against the row of the covered page.
-use Rattle.std.proofs.Common.{ℕ, ◌≡◌, ◌+◌, ◌<◌, Bool, false, List, [], map, get_or, Result, Ok, Err, refl, sym, ap, subst, ◌∙◌, arith, add-zero, zero-add}
+use Rattle.std.proofs.Common.{ℕ, ◌≡◌, ◌<◌, Bool, false, List, [], map, get_or, Result, Ok, Err, refl, sym, ap, subst, ◌∙◌, arith, add-zero, zero-add}
 use Rattle.std.specs.List.{range_with_len, sum}
 use Rattle.std.specs.Result.{IfOk}
 use Rattle.std.proofs.lemmas.List.FromFn.{get_or-map-range_with_len}

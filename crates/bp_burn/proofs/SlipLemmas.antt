@@ -1,5 +1,5 @@
 -- The slip sheet drawn on a page of the final size, against its definition.
-use Rattle.std.proofs.Common.{ℕ, ◌≡◌, ◌+◌, false, List, replicate, refl, sym, ap, ◌∙◌, arith}
+use Rattle.std.proofs.Common.{ℕ, ◌≡◌, false, List, replicate, refl, sym, ap, ◌∙◌, arith}
 use Rattle.std.proofs.lemmas.List.{replicate-append-replicate}
 use Rattle.bp_core.specs.declared.review.Basis.{Basis}
 use Rattle.bp_rows.proofs.GridLemmas.{white_is_grid}

@@ -1,10 +1,9 @@
 -- The rows of a page that goes out, one behind another: those of the covered page, and the band's.
-use Rattle.std.proofs.Common.{ℕ, ◌≡◌, ◌+◌, ◌-◌, ◌*◌, ◌/◌, ◌<◌, ◌≤◌, ◌&&◌, ◌||◌, Bool, true, false, nat_le, nat_lt, Option, Some, None, List, [], ◌∷◌, ◌++◌, length, map, get_or, replicate, take, refl, sym, ap, subst, ◌∙◌, arith, inl, inr, length-append, zero-add, if◌then◌else◌}
-use Rattle.std.specs.Prelude.{slice_index_or}
-use Rattle.std.specs.List.{list_any, range_with_len, sum}
+use Rattle.std.proofs.Common.{ℕ, ◌≡◌, ◌+◌, ◌-◌, ◌<◌, ◌≤◌, ◌&&◌, ◌||◌, Bool, true, false, nat_le, nat_lt, Option, Some, None, List, [], ◌∷◌, ◌++◌, length, get_or, replicate, refl, sym, ap, ◌∙◌, arith, inl, inr, length-append, zero-add, if◌then◌else◌}
+use Rattle.std.specs.List.{sum}
 use Rattle.std.proofs.lemmas.Bool.{cases_lt}
 use Rattle.std.proofs.lemmas.Bool.Decides.{nat_tests}
-use Rattle.std.proofs.lemmas.List.{ext_get_or, get_or-append_right, get_or-replicate, get_or_append_left, get_or_past, length-replicate}
+use Rattle.std.proofs.lemmas.List.{ext_get_or, get_or-append_right, get_or-replicate, get_or_append_left, get_or_past}
 use Rattle.std.proofs.lemmas.List.FromFn.{get_or-map-range_with_len, length-map-range_with_len}
 use Rattle.bp_core.specs.Rectangle.{has_pixel}
 use Rattle.bp_core.specs.declared.rectangle.Rect.{Rect}
@@ -15,7 +14,7 @@ use Rattle.bp_rows.specs.declared.resolution.Unit.TheVariants.{Inch}
 use Rattle.bp_rows.specs.Burned.{covers}
 use Rattle.bp_rows.specs.Image.{Image, IsGrid, grid_of, pixel, row_of}
 use Rattle.bp_rows.specs.Runs.{IsRuns, painted_runs}
-use Rattle.bp_rows.proofs.GridLemmas.{cell, cell-grid_of, grid_of_is_grid, same_grids}
+use Rattle.bp_rows.proofs.GridLemmas.{cell-grid_of, grid_of_is_grid, same_grids}
 use Rattle.bp_rows.proofs.RunLemmas.{length-painted}
 use Rattle.bp_burn.specs.Band.{band_texts, produced_of, slip_resolution}
 use Rattle.bp_burn.specs.Covered.{covered, covered_pixel, last_with, rects_of}
@@ -75,7 +74,7 @@ untouched_row p ink stamps row down wide none =
 
 -- ---- a page that has a row of these runs
 
-abbrev page_with : ℕ → List ℕ → Image
+abbrev pub page_with : ℕ → List ℕ → Image
 page_with row runs = record {
   width = sum runs;
   height = row + 1;
@@ -134,7 +133,7 @@ joined_grid w h k a b first second = record {
       ];
 }
 
-or_false : (b : Bool) → (b || false) ≡ b
+pub or_false : (b : Bool) → (b || false) ≡ b
 or_false true = refl
 or_false false = refl
 

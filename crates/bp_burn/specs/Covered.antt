@@ -1,6 +1,6 @@
 -- Boxes covered: all black, or with the code of its ground in white where a box has room for it.
 -- The look comes from no public standard: it is this product's own.
-use Rattle.std.specs.Prelude.{ℕ, ◌+◌, ◌&&◌, ◌||◌, Bool, true, false, not, Option, Some, None, List, [], ◌∷◌, map, nat_le, nat_lt, if◌then◌else◌}
+use Rattle.std.specs.Prelude.{ℕ, ◌+◌, ◌&&◌, ◌||◌, Bool, false, not, Option, Some, None, List, [], ◌∷◌, map, nat_le, nat_lt, if◌then◌else◌}
 use Rattle.bp_core.specs.Rectangle.{has_pixel}
 use Rattle.bp_core.specs.Review.{basis_code}
 use Rattle.bp_core.specs.declared.rectangle.Rect.{Rect}
@@ -27,6 +27,7 @@ has_letter s r c =
 
 -- ---- stamps in turn
 
+-- the rectangles of stamps
 abbrev pub rects_of : List Stamp → List Rect
 rects_of stamps = map (λ (s : Stamp). s.rect) stamps
 

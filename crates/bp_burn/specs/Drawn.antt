@@ -11,6 +11,7 @@ use Rattle.bp_burn.specs.declared.drawing.TheConstants.{COLUMNS, SCALE, PITCH}
 abbrev pub has_glyph : ℕ → Bool
 has_glyph c = is_some (rows_at glyph_rows c)
 
+-- each character of a text has a glyph
 abbrev pub has_glyphs : List ℕ → Bool
 has_glyphs text = list_all has_glyph text
 

@@ -3,9 +3,22 @@ use Rattle.std.specs.Prelude.{ℕ, ◌≡◌, ◌+◌, ◌&&◌, Bool, List, nat
 use Rattle.std.specs.List.{list_any}
 use Rattle.bp_core.specs.declared.rectangle.Rect.{Rect}
 use Rattle.bp_core.specs.declared.stamps.Stamp.{Stamp}
-use Rattle.bp_rows.specs.Image.{grid_of}
+use Rattle.bp_rows.specs.Image.{Image, IsPage, grid_of}
+use Rattle.bp_t6.specs.Written.{strip_of}
 use Rattle.bp_burn.specs.Band.{band_texts}
 use Rattle.bp_burn.specs.declared.band.TheConstants.{BAND_ROWS}
+
+-- a page of these sides whose strip this is
+pub record HasStrip (width height : ℕ) (strip : List ℕ) (p : Image) : Type 0 where
+  pub page : IsPage p
+  pub wide : p.width ≡ width
+  pub high : p.height ≡ height
+  pub codes : strip ≡ strip_of p
+
+-- the strip of some page of these sides
+pub record IsPageStrip (width height : ℕ) (strip : List ℕ) : Type 0 where
+  pub page : Image
+  pub has : HasStrip width height strip page
 
 -- ---- the steps of making one
 

@@ -1,8 +1,10 @@
 //! Pages as they go out: burned, with their number below, and slip sheets.
 //!
-//! `burn` blackens boxes, and `burn_in_place` does so in the page that it is lent; `produced` adds the
-//! band with designation and label; `slip_page` makes the sheet that stands for a withheld document.
-//! Their contracts cite `burned`, `produced_of` and `slip_of`.
+//! `burn` blackens boxes, and `burn_in_place` does so in the page that it is lent; `produced` covers
+//! boxes, all black or with the code of their ground in white, and adds the band with designation and
+//! label; `covered_runs` covers one row, as runs, and `produced_strip` makes the strip of the page that
+//! goes out of the page's strip, a row at a time; `slip_page` makes the sheet that stands for a withheld
+//! document. Their contracts cite `burned`, `covered`, `produced_of` and `slip_of`.
 #![tactic(auto)]
 
 mod band;
@@ -13,9 +15,11 @@ mod letters;
 mod paper;
 mod slips;
 mod stamps;
+mod strips;
 
 pub use band::produced;
 pub use burning::{burn, burn_in_place, burn_row};
 pub use glyph_rows::{glyph, has_glyphs};
 pub use slips::slip_page;
 pub use stamps::covered_runs;
+pub use strips::produced_strip;

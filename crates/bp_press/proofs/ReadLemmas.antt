@@ -3,14 +3,15 @@ use Rattle.std.proofs.Common.{◌≡◌, ℕ, zero, suc, ◌+◌, ◌-◌, ◌�
 use Rattle.std.specs.Prelude.{◌↔◌, IsTrue}
 use Rattle.std.specs.List.{range_with_len}
 use Rattle.bp_core.specs.Characters.{solidus}
-use Rattle.bp_core.specs.declared.rectangle.Rect.{Rect}
+use Rattle.bp_core.specs.declared.stamps.Ink.TheVariants.{Black}
+use Rattle.bp_core.specs.declared.stamps.Stamp.{Stamp}
 use Rattle.bp_core.specs.declared.review.Basis.{Basis}
 use Rattle.bp_rows.specs.Image.{FitsRes, Image, IsPage, pixel, white_image}
 use Rattle.bp_rows.proofs.GridLemmas.{grid_of_is_grid}
 use Rattle.bp_burn.specs.Band.{band_texts, banded, produced_of, slip_of, slip_resolution, slip_text}
 use Rattle.bp_burn.specs.Drawn.{is_drawn}
 use Rattle.bp_burn.specs.Ink.{inked}
-use Rattle.bp_rows.specs.Burned.{burned}
+use Rattle.bp_burn.specs.Covered.{covered}
 use Rattle.bp_rows.specs.Limits.{sides_are_allowed}
 use Rattle.bp_rows.specs.declared.resolution.Unit.TheVariants.{Inch}
 use Rattle.bp_burn.proofs.BandLemmas.{band_fits}
@@ -27,9 +28,8 @@ use Rattle.bp_matter.specs.declared.rows.Production.{Production}
 use Rattle.bp_matter.specs.declared.rows.Request.{Request}
 use Rattle.bp_freeze.specs.Keeping.{Keeps}
 use Rattle.bp_freeze.specs.Log.{label_in}
-use Rattle.bp_freeze.specs.Agree.{rects_on}
 use Rattle.bp_freeze.specs.Seeing.{page_count}
-use Rattle.bp_press.specs.Contents.{Content, content_by, ground_of, image_in, pages_of, part_of, produced_page, slip_sheet}
+use Rattle.bp_press.specs.Contents.{Content, content_by, ground_of, image_in, pages_of, part_of, produced_page, slip_sheet, stamps_on}
 use Rattle.bp_press.specs.Files.{Placed, image_files, item_files, placed, text_file}
 use Rattle.bp_press.specs.Paths.{image_path, manifest_path}
 use Rattle.bp_press.specs.Manifest.{manifest_of}
@@ -58,8 +58,8 @@ banded_is_page p label designation sides xres yres = record {
   grid = grid_of_is_grid p.width (p.height + 32) (λ r c. band_texts p.width p.height label designation r c || pixel p r c);
 }
 
-produced_is_page : (p : Image) (rects : List Rect) (label designation : List ℕ) → IsScan p → IsPage (produced_of p rects label designation)
-produced_is_page p rects label designation scan = banded_is_page (burned p rects) label designation (band_fits p.width p.height scan.sides) scan.page.xres scan.page.yres
+produced_is_page : (p : Image) (stamps : List Stamp) (label designation : List ℕ) → IsScan p → IsPage (produced_of Black p stamps label designation)
+produced_is_page p stamps label designation scan = banded_is_page (covered Black p stamps) label designation (band_fits p.width p.height scan.sides) scan.page.xres scan.page.yres
 
 slip_is_page : (basis : Basis) (label designation : List ℕ) → IsPage (slip_of basis label designation)
 slip_is_page basis label designation =
@@ -69,7 +69,7 @@ page_is_read : ReadLaw → (q : Request) (m : Matter) (i : Item) (page : ℕ) �
 unfolding produced_page
 page_is_read law q m i page scan p =
     law G4 (produced_page q m i page) p
-    (produced_is_page (image_in m i.doc.0 page) (rects_on i.boxes page) (label_in q.prefix (i.span.first + page - 1)) i.designation scan)
+    (produced_is_page (image_in m i.doc.0 page) (stamps_on i.boxes page) (label_in q.prefix (i.span.first + page - 1)) i.designation scan)
 
 slip_is_read : ReadLaw → (q : Request) (i : Item) (basis : Basis) → CanBeRead (slip_sheet q i basis)
 unfolding slip_sheet

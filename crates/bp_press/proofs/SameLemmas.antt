@@ -1,5 +1,5 @@
 -- What a volume shows of each item is the same in two matters that show the same of the production.
-use Rattle.std.proofs.Common.{◌≡◌, ℕ, zero, suc, ◌+◌, ◌-◌, ◌≤◌, ◌<◌, false, List, [], ◌∷◌, ◌++◌, map, flat_map, get_or, All, Option, Some, None, unwrap_or, refl, ap, ap₂, ◌∙◌, arith}
+use Rattle.std.proofs.Common.{◌≡◌, ℕ, zero, suc, ◌+◌, ◌-◌, ◌≤◌, ◌<◌, ◌==◌, filter, false, sym, subst, List, [], ◌∷◌, ◌++◌, map, flat_map, get_or, All, Option, Some, None, unwrap_or, refl, ap, ap₂, ◌∙◌, arith}
 use Rattle.std.specs.List.{range_with_len}
 use Rattle.bp_core.specs.declared.rectangle.Rect.{Rect}
 use Rattle.bp_core.specs.declared.review.Basis.{Basis}
@@ -9,11 +9,13 @@ use Rattle.bp_rows.specs.Burned.{burned}
 use Rattle.bp_rows.specs.Image.{Image}
 use Rattle.bp_rows.proofs.BurnedLemmas.{burned-AgreeOutside}
 use Rattle.bp_burn.specs.Band.{banded}
+use Rattle.bp_burn.specs.Covered.{rects_of}
 use Rattle.bp_text.specs.PageText.{page_text_of}
 use Rattle.bp_text.specs.declared.words.Word.{Word}
 use Rattle.bp_matter.specs.LookUps.{of_row, page_with}
 use Rattle.bp_matter.specs.Matter.{Matter}
 use Rattle.bp_matter.specs.Treatments.{is_withheld}
+use Rattle.bp_matter.specs.declared.rows.BoxRow.{BoxRow}
 use Rattle.bp_matter.specs.declared.rows.HeldRow.{HeldRow}
 use Rattle.bp_matter.specs.declared.rows.Item.{Item}
 use Rattle.bp_matter.specs.declared.rows.Production.{Production}
@@ -22,7 +24,7 @@ use Rattle.bp_freeze.specs.Agree.{Agree, ItemAgrees, PagesAgree, ValueAgrees, fi
 use Rattle.bp_freeze.specs.Log.{label_in}
 use Rattle.bp_freeze.specs.Seeing.{page_count}
 use Rattle.bp_freeze.proofs.AlikeLemmas.{map_over_range}
-use Rattle.bp_press.specs.Contents.{Content, content_by, ground_of, kept_text, pages_of, part_of, produced_content, produced_page, value_by, value_shown, value_unless}
+use Rattle.bp_press.specs.Contents.{Content, content_by, ground_of, kept_text, pages_of, part_of, produced_content, produced_page, stamp_of, stamps_on, value_by, value_shown, value_unless}
 use Rattle.bp_press.specs.Volume.{files_of, volume_of}
 
 -- over the members of a list
@@ -47,11 +49,21 @@ same_burned rects none (Some p) (Some q) agree = burned-AgreeOutside rects p q a
 abbrev image_of : Matter → Item → ℕ → Option Image
 image_of m i page = of_row (λ row. row.image) (page_with i.doc.0 page m)
 
+same_rects : (boxes : List BoxRow) → rects_of (map stamp_of boxes) ≡ map (λ box. box.rect) boxes
+same_rects [] = refl
+same_rects (box ∷ boxes) = ap (λ rects. box.rect ∷ rects) (same_rects boxes)
+
+-- the rectangles of the stamps are those of the boxes
+stamped : (boxes : List BoxRow) (page : ℕ) → rects_of (stamps_on boxes page) ≡ rects_on boxes page
+stamped boxes page = same_rects (filter (λ box. box.page.0 == page) boxes)
+
 same_page : (q : Request) (m n : Matter) (i : Item) (page : ℕ) → PagesAgree (rects_on i.boxes page) (image_of m i page) (image_of n i page) → produced_page q m i page ≡ produced_page q n i page
 unfolding produced_page
 same_page q m n i page agree =
+    let rects = stamped i.boxes page in
+    let agrees = subst (λ rs. PagesAgree rs (image_of m i page) (image_of n i page)) (sym rects) agree in
     ap (λ (p : Image). banded p (label_in q.prefix (i.span.first + page - 1)) i.designation)
-    (same_burned (rects_on i.boxes page) _ (image_of m i page) (image_of n i page) agree)
+    (same_burned (rects_of (stamps_on i.boxes page)) _ (image_of m i page) (image_of n i page) agrees)
 
 same_images : (f : Production) (m n : Matter) (i : Item) → ItemAgrees f m n i → map (produced_page f.request m i) (pages_of m i.doc.0) ≡ map (produced_page f.request n i) (pages_of n i.doc.0)
 same_images f m n i agree =

@@ -1,9 +1,11 @@
 -- What a volume shows of an item. A withheld item shows nothing of the matter: its content is a
 -- function of the production alone.
-use Rattle.std.specs.Prelude.{ℕ, ◌+◌, ◌-◌, List, [], ◌∷◌, ◌++◌, map, codes, Option, Some, None, unwrap_or}
+use Rattle.std.specs.Prelude.{ℕ, ◌+◌, ◌-◌, ◌==◌, filter, List, [], ◌∷◌, ◌++◌, map, codes, Option, Some, None, unwrap_or}
 use Rattle.std.specs.List.{flat_map, range_with_len}
 use Rattle.bp_core.specs.Characters.{form_feed, line_end}
 use Rattle.bp_core.specs.Review.{basis_code}
+use Rattle.bp_core.specs.declared.stamps.Ink.TheVariants.{Black}
+use Rattle.bp_core.specs.declared.stamps.Stamp.{Stamp}
 use Rattle.bp_core.specs.declared.review.Basis.{Basis}
 use Rattle.bp_core.specs.declared.review.Treatment.{Treatment}
 use Rattle.bp_core.specs.declared.review.Treatment.TheVariants.{Withhold}
@@ -13,6 +15,7 @@ use Rattle.bp_rows.specs.declared.resolution.Unit.TheVariants.{Inch}
 use Rattle.bp_text.specs.PageText.{page_text_of}
 use Rattle.bp_matter.specs.LookUps.{of_row, page_with}
 use Rattle.bp_matter.specs.Matter.{Matter}
+use Rattle.bp_matter.specs.declared.rows.BoxRow.{BoxRow}
 use Rattle.bp_matter.specs.declared.rows.HeldRow.{HeldRow}
 use Rattle.bp_matter.specs.declared.rows.Item.{Item}
 use Rattle.bp_matter.specs.declared.rows.Request.{Request}
@@ -57,11 +60,19 @@ image_in m doc page =
     unwrap_or (of_row (λ row. row.image) (page_with doc page m))
     (white_image 0 0 slip_resolution slip_resolution Inch)
 
--- its page of that number, burned, with its label and its designation
+-- a box with its ground
+abbrev pub stamp_of : BoxRow → Stamp
+stamp_of box = record { rect = box.rect; basis = box.basis }
+
+-- those of an item on a page
+abbrev pub stamps_on : List BoxRow → ℕ → List Stamp
+stamps_on boxes page = map stamp_of (filter (λ box. box.page.0 == page) boxes)
+
+-- its page of that number, its boxes black, with its label and its designation
 -- by FRCP 26(b)(5)(A)
 unfoldable pub produced_page : Request → Matter → Item → ℕ → Image
 produced_page q m i page =
-    produced_of (image_in m i.doc.0 page) (rects_on i.boxes page)
+    produced_of Black (image_in m i.doc.0 page) (stamps_on i.boxes page)
     (label_in q.prefix (i.span.first + page - 1)) i.designation
 
 -- the words of that page which no box touches

@@ -6,12 +6,12 @@ ghost use Rattle.bp_bates.specs.Prefixes.{is_good_prefix};
 ghost use Rattle.bp_bates.specs.Spans.{largest_of};
 ghost use Rattle.bp_freeze.specs.Agree.{rects_on};
 ghost use Rattle.bp_freeze.specs.Log.{label_in};
-ghost use Rattle.bp_press.specs.Contents.{image_in, produced_page, slip_sheet};
+ghost use Rattle.bp_press.specs.Contents.{image_in, produced_page, slip_sheet, stamps_on};
 ghost use Rattle.bp_tiff.specs.Tiff.{tiff_of};
 
 use crate::names::label_text;
 use bp_burn::{produced, slip_page};
-use bp_core::{Basis, Bytes, ListOf, OutOfMemory, PageNo, RectList, Text};
+use bp_core::{Basis, Bytes, Ink, ListOf, OutOfMemory, PageNo, RectList, Stamp, StampList, Text};
 use bp_matter::{BoxList, Item, Request, Tables};
 use bp_tiff::{Form, write_tiff};
 use std::alloc::Global;
@@ -31,6 +31,22 @@ pub(crate) fn rects_on(
         }
     }
     Ok(ListOf::from_vec(rects))
+}
+
+// The boxes on a page, each with its ground.
+fn stamps_on(alloc: Global, boxes: &BoxList, page: PageNo) -> Result<StampList, OutOfMemory>
+    ensures { IfOk result (λ stamps. stamps ≡ stamps_on boxes.now page.0) }
+{
+    let mut stamps = Vec::new(alloc);
+    for row in boxes.as_slice() {
+        if row.page.0 == page.0 {
+            stamps.push(Stamp {
+                rect: row.rect,
+                basis: row.basis,
+            })?;
+        }
+    }
+    Ok(ListOf::from_vec(stamps))
 }
 
 #[tactic(auto, unfolding(crate::specs::Contents::produced_page))]
@@ -56,8 +72,15 @@ pub(crate) fn page_file(
     let Some(row) = tables.page_with(item.doc, page) else {
         unreachable!()
     };
-    let rects = rects_on(alloc, &item.boxes, page)?;
-    let image = produced(alloc, row.image.page(), &rects, label, &item.designation)?;
+    let stamps = stamps_on(alloc, &item.boxes, page)?;
+    let image = produced(
+        alloc,
+        Ink::Black,
+        row.image.page(),
+        &stamps,
+        label,
+        &item.designation,
+    )?;
     write_tiff(alloc, Form::G4, &image)
 }
 

@@ -1,4 +1,4 @@
-use Rattle.std.proofs.Common.{ℕ, ◌≡◌, ◌+◌, ◌≢◌, ◌<◌, ap, sym, ◌∙◌, arith}
+use Rattle.std.proofs.Common.{ℕ, ◌≡◌, ◌+◌, ap, sym, ◌∙◌, arith}
 use Rattle.bp_burn.specs.Covered.{letters_in}
 use Rattle.bp_burn.specs.Figures.{text_row}
 use Rattle.bp_burn.specs.Ink.{erased}

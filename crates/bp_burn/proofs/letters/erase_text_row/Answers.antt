@@ -1,5 +1,5 @@
-use Rattle.std.proofs.Common.{ℕ, ◌≡◌, ◌+◌, ◌-◌, ◌*◌, ◌<◌, ◌==◌, ◌&&◌, false, min, length, ap, sym, ◌∙◌, arith}
-use Rattle.bp_rows.specs.Image.{Image, with_pixel}
+use Rattle.std.proofs.Common.{ℕ, ◌≡◌, ◌+◌, ◌-◌, ◌*◌, ◌==◌, ◌&&◌, false, min, length, ap, sym, ◌∙◌, arith}
+use Rattle.bp_rows.specs.Image.{with_pixel}
 use Rattle.bp_burn.specs.Figures.{text_row}
 use Rattle.bp_burn.specs.Ink.{erased}
 use Rattle.bp_burn.proofs.ChangeLemmas.{all_parts_erased, erased_is_grid, no_part_erased, part_erased, part_kept, pixel_erased}

@@ -1,4 +1,4 @@
-use Rattle.std.proofs.Common.{◌/◌, ◌≤◌, length, sym, ◌∙◌, arith}
+use Rattle.std.proofs.Common.{◌/◌, ◌≤◌, length, sym, arith}
 use Rattle.bp_burn.proofs.TextLemmas.{no_rows, no_rows_pixel, past_text}
 use Rattle.bp_burn.proofs.letters.has_text_pixel.Goals as goal
 

@@ -1,6 +1,5 @@
-use Rattle.std.proofs.Common.{◌≡◌, [], ◌∷◌, take, ap, ◌∙◌, arith, refl, sym, subst}
-use Rattle.std.proofs.lemmas.List.{take_all}
-use Rattle.bp_rows.specs.Burned.{burned, covers}
+use Rattle.std.proofs.Common.{[], ◌∷◌, take, ap, ◌∙◌, refl, sym, subst}
+use Rattle.bp_rows.specs.Burned.{burned}
 use Rattle.bp_rows.specs.Image.{Image, IsPage}
 use Rattle.bp_burn.specs.Covered.{covered_rows}
 use Rattle.bp_burn.specs.Ink.{changed}

@@ -1,4 +1,3 @@
-use Rattle.std.proofs.Common.{List, ℕ}
 use Rattle.bp_rows.specs.Image.{row_of}
 use Rattle.bp_rows.specs.Runs.{IsRuns}
 use Rattle.bp_burn.specs.Covered.{covered}

@@ -1,0 +1,136 @@
+// The strip of a page that goes out, made of the page's strip a row at a time.
+ghost use Rattle.std.specs.Prelude.{◌≡◌, ◌++◌, ◌∷◌, ◌<◌, ◌≤◌, ℕ, Bool, List, [], IfOk, IsTrue, OnOk, false, length, slice_index_or, sum};
+ghost use Rattle.bp_rows.specs.Image.{Image, row_of};
+ghost use Rattle.bp_rows.specs.Limits.{sides_are_imported};
+ghost use Rattle.bp_rows.specs.Runs.{painted_runs};
+ghost use Rattle.bp_t6.specs.SoFar.{HasAdded};
+ghost use Rattle.bp_t6.specs.Written.{strip_of};
+ghost use Rattle.bp_burn.specs.Band.{produced_of};
+ghost use Rattle.bp_burn.specs.Covered.{covered};
+ghost use Rattle.bp_burn.specs.Drawn.{has_glyphs};
+ghost use Rattle.bp_burn.specs.Strips.{HasStrip, IsPageStrip, band_rows, has_row, touches_row};
+
+use crate::band::{BAND_ROWS, draw_band};
+use crate::paper::white_page;
+use crate::stamps::covered_runs;
+use bp_codes::Fill;
+use bp_core::{Bytes, Ink, OutOfMemory, Rect, Refusal, Stamp, StampList, Text};
+use bp_rows::{MAX_WIDTH, Page, Runs};
+use bp_t6::laws::{rows_law, strip_size};
+use bp_t6::{StripRows, StripWriter};
+use std::alloc::Global;
+
+/// The strip of the page that goes out, as `produced` makes it, of the strip of a page of these
+/// sides in pixels (ITU-T T.6). Beside both strips it keeps some rows of the page and the band's.
+pub fn produced_strip(
+    alloc: Global,
+    ink: Ink,
+    strip: &[u8],
+    width: u32,
+    height: u32,
+    stamps: &StampList,
+    label: &Text,
+    designation: &Text,
+) -> Result<Bytes, OutOfMemory>
+    requires sides { IsTrue (sides_are_imported width height) }
+    requires strip { IsPageStrip width height strip.now }
+    requires label { IsTrue (has_glyphs label.now) }
+    requires designation { IsTrue (has_glyphs designation.now) }
+    ensures { (p : Image) → HasStrip width height strip.now p
+        → IfOk result (λ out.
+        out ≡ strip_of (produced_of ink p stamps.now label.now designation.now)) }
+{
+    rows_law();
+    strip_size();
+    let mut rows = StripRows::over(alloc, strip, Fill::High, width)?;
+    let mut writer = StripWriter::start(alloc, width)?;
+    for row in 0..height {
+        let runs = match rows.next_runs(alloc) {
+            Ok(runs) => runs,
+            Err(Refusal::OutOfMemory) => return Err(OutOfMemory),
+            // The strip of a page breaks no rule.
+            Err(Refusal::Rule(_)) => unreachable!(),
+        };
+        add_covered(alloc, &mut writer, ink, &runs, row, stamps)?;
+    }
+    add_band(alloc, &mut writer, width, label, designation)?;
+    writer.finish(alloc)
+}
+
+// Adds the row of a page, covered.
+fn add_covered(
+    alloc: Global,
+    writer: &mut StripWriter,
+    ink: Ink,
+    runs: &Runs,
+    row: u32,
+    stamps: &StampList,
+) -> Result<(), OutOfMemory>
+    requires some { 0 < writer.old.width }
+    requires wide { writer.old.width ≤ MAX_WIDTH }
+    requires total { sum runs.now ≡ writer.old.width }
+    requires least { (k : ℕ) → 0 < k → k < length runs.now → 1 ≤ slice_index_or runs.now k 0 }
+    ensures width { writer.new.width ≡ writer.old.width }
+    ensures added { (p : Image) (lines : List (List Bool)) → row < p.height
+        → p.width ≡ writer.old.width
+        → row_of p row ≡ painted_runs false runs.now
+        → HasAdded writer.old lines
+        → OnOk result (HasAdded writer.new
+        (lines ++ row_of (covered ink p stamps.now) row ∷ [])) }
+{
+    if !touches_row(stamps.as_slice(), row) {
+        return writer.add(runs);
+    }
+    let covered = covered_runs(alloc, ink, runs, row, stamps)?;
+    writer.add(&covered)
+}
+
+// Whether some stamp lies in a row.
+fn touches_row(stamps: &[Stamp], row: u32) -> bool
+    ensures { result ≡ touches_row stamps.now row }
+{
+    stamps.iter().any(|stamp| has_row(&stamp.rect, row))
+}
+
+fn has_row(area: &Rect, row: u32) -> bool
+    ensures { result ≡ has_row area.now row }
+{
+    area.top <= row && row - area.top < area.height
+}
+
+// Adds the rows of the band.
+fn add_band(
+    alloc: Global,
+    writer: &mut StripWriter,
+    width: u32,
+    label: &Text,
+    designation: &Text,
+) -> Result<(), OutOfMemory>
+    requires some { 0 < width }
+    requires wide { width ≤ MAX_WIDTH }
+    requires width { writer.old.width ≡ width }
+    requires label { IsTrue (has_glyphs label.now) }
+    requires designation { IsTrue (has_glyphs designation.now) }
+    ensures width { writer.new.width ≡ writer.old.width }
+    ensures added { (lines : List (List Bool)) → HasAdded writer.old lines
+        → OnOk result (HasAdded writer.new
+        (lines ++ band_rows width label.now designation.now)) }
+{
+    let mut band = white_page(alloc, width, BAND_ROWS)?;
+    draw_band(&mut band, 0, label, designation);
+    add_rows(alloc, writer, &band)
+}
+
+// Adds the rows of a page.
+fn add_rows(alloc: Global, writer: &mut StripWriter, page: &Page) -> Result<(), OutOfMemory>
+    requires { writer.old.width ≡ page.now.width }
+    ensures width { writer.new.width ≡ writer.old.width }
+    ensures added { (lines : List (List Bool)) → HasAdded writer.old lines
+        → OnOk result (HasAdded writer.new (lines ++ page.now.rows)) }
+{
+    for row in 0..page.height() {
+        let runs = page.row_runs(alloc, row)?;
+        writer.add(&runs)?;
+    }
+    Ok(())
+}

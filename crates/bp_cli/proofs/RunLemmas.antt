@@ -15,7 +15,7 @@ use Rattle.bp_press.specs.Writing.{AddsPart, with_files}
 use Rattle.bp_cli.specs.Endings.{Outcome, Ending, World, LacksMemory, untouched, kept, partly, wholly, with_rows, status_of, text_of, refused_line, failed_folder}
 use Rattle.bp_cli.specs.Commands.{CommandLine, Inputs, uses_of, IsOutcome, ComesTo, AreKnown, AlikeFor, ShowAlike, Works, ReadsAndWorks, uses_by}
 use Rattle.bp_cli.specs.Printing.{Prints, whole, cut, lacking, instead}
-use Rattle.bp_cli.specs.Runs.{Outside, Tells, Asks, Completes, SourceFailed, FolderFailed, KeeperFailed, InputsServed, NoneFailed, AreSure, Ended, RanShort, WasCut, Gives, GivesAlike, IsAmong, outcome_status, outcome_files, AddsFirst, none, some, all, GivesFirst, Promises, Runs}
+use Rattle.bp_cli.specs.Runs.{Outside, Tells, Asks, Completes, SourceFailed, FolderFailed, KeeperFailed, InputsServed, NoneFailed, AreSure, Ended, RanShort, WasCut, Gives, GivesAlike, IsAmong, outcome_status, outcome_files, AddsFirst, nothing_added, part_added, all_added, GivesFirst, Promises, Runs}
 use Rattle.bp_cli.proofs.StatusLemmas.{rose_at, whole_of, out_rose, out_sure, among_three, among_two, status_known, is_done, is_words_refused, is_broken, is_source_fault, is_folder_fault, is_keeper_fault, lacking_part, cut_part}
 
 -- ---- what an ending says
@@ -176,30 +176,30 @@ shown_files c (outcomes.done line files rows) (outcomes.refused rule) same = abs
 shown_files c (outcomes.refused rule) (outcomes.done line files rows) same = absurd same
 
 none_given : (files : List FileRow) (before after : FolderView) → after ≡ before → GivesFirst files before after
-none_given files before after is = record { folder = before; failed = inl refl; adds = none is }
+none_given files before after is = record { folder = before; failed = inl refl; adds = nothing_added is }
 
 -- a folder that got a first part of the files of the outcome of the inputs
 module _ (one : OneOutcome) (told : ToldOutcome) (c : CommandLine) (before after : World) (inputs : Inputs) (outcome : Outcome) (files : Tells (uses_of c).files before.source.files inputs.files) (rows : Tells (uses_of c).rows before.keeper.rows inputs.rows) (comes : ComesTo c inputs outcome) where
   -- the files that the work had are those of the outcome
-  its_files : (line : List ℕ) (had : List FileRow) (kept : Option (List Row)) → IsOutcome c before (outcomes.done line had kept) → had ≡ outcome_files outcome
-  its_files line had kept is = ap outcome_files (same_outcome one told c before after inputs files rows (outcomes.done line had kept) outcome comes is)
+  its_files : (line : List ℕ) (had : List FileRow) (stands : Option (List Row)) → IsOutcome c before (outcomes.done line had stands) → had ≡ outcome_files outcome
+  its_files line had stands is = ap outcome_files (same_outcome one told c before after inputs files rows (outcomes.done line had stands) outcome comes is)
 
-  given : (line : List ℕ) (had : List FileRow) (kept : Option (List Row)) → IsOutcome c before (outcomes.done line had kept) → GivesFirst had before.folder after.folder → GivesFirst (outcome_files outcome) before.folder after.folder
-  given line had kept is gives = subst (λ (fs : List FileRow). GivesFirst fs before.folder after.folder) (its_files line had kept is) gives
+  given : (line : List ℕ) (had : List FileRow) (stands : Option (List Row)) → IsOutcome c before (outcomes.done line had stands) → GivesFirst had before.folder after.folder → GivesFirst (outcome_files outcome) before.folder after.folder
+  given line had stands is gives = subst (λ (fs : List FileRow). GivesFirst fs before.folder after.folder) (its_files line had stands is) gives
 
   lacking_given : LacksMemory (IsOutcome c before) before after → GivesFirst (outcome_files outcome) before.folder after.folder
   lacking_given (untouched source keeper folder) = none_given (outcome_files outcome) before.folder after.folder folder
   lacking_given (kept line had left is source keeper folder) = none_given (outcome_files outcome) before.folder after.folder folder
-  lacking_given (partly line had left is source keeper folder) = given line had left is (record { folder = before.folder; failed = inl refl; adds = some folder })
-  lacking_given (wholly line had left is source keeper folder) = given line had left is (record { folder = before.folder; failed = inl refl; adds = all folder })
+  lacking_given (partly line had left is source keeper folder) = given line had left is (record { folder = before.folder; failed = inl refl; adds = part_added folder })
+  lacking_given (wholly line had left is source keeper folder) = given line had left is (record { folder = before.folder; failed = inl refl; adds = all_added folder })
 
   first_given : (e : Ending) → Works (Some c) before e after → GivesFirst (outcome_files outcome) before.folder after.folder
-  first_given (Ok line) worked = given line worked.files worked.rows worked.outcome (record { folder = before.folder; failed = inl refl; adds = all worked.folder })
+  first_given (Ok line) worked = given line worked.files worked.rows worked.outcome (record { folder = before.folder; failed = inl refl; adds = all_added worked.folder })
   first_given (Err stops.WordsRefused) worked = absurd worked
   first_given (Err (stops.Broken rule)) worked = none_given (outcome_files outcome) before.folder after.folder worked.folder
   first_given (Err stops.SourceFault) worked = none_given (outcome_files outcome) before.folder after.folder worked.folder
   first_given (Err stops.KeeperFault) worked = none_given (outcome_files outcome) before.folder after.folder worked.folder
-  first_given (Err stops.FolderFault) worked = given worked.line worked.files worked.rows worked.outcome (record { folder = failed_folder before.folder; failed = inr refl; adds = some worked.folder })
+  first_given (Err stops.FolderFault) worked = given worked.line worked.files worked.rows worked.outcome (record { folder = failed_folder before.folder; failed = inr refl; adds = part_added worked.folder })
   first_given (Err stops.OutOfMemory) worked = lacking_given worked
 
 -- ---- objects that can't fail

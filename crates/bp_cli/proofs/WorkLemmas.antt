@@ -1,12 +1,13 @@
 -- Lemmas of the work of a run that ends before a command begins: nothing was read or asked.
-use Rattle.std.proofs.Common.{◌≡◌, Option, Some, None, Err, refl, sym, subst, inl, inr}
+use Rattle.std.proofs.Common.{ℕ, ◌≡◌, Option, Some, None, Err, refl, sym, subst, inl, inr}
 use Rattle.std.specs.Result.{IsErr, IsErrAnd}
 use Rattle.bp_outside.specs.Source.{SourceView}
 use Rattle.bp_outside.specs.Folder.{FolderView}
 use Rattle.bp_keep.specs.Keeper.{KeeperView}
 use Rattle.bp_cli.specs.declared.stops.Stop.{Stop}
 use Rattle.bp_cli.specs.declared.stops.Stop.TheVariants as stops
-use Rattle.bp_cli.specs.Commands.{CommandLine, ReadsAndWorks, Works, uses_by}
+use Rattle.bp_rules.specs.Steps.{never}
+use Rattle.bp_cli.specs.Commands.{CommandLine, burn, init, import, produce, press, log, ReadsAndWorks, ReadsAsOften, Works, uses_by}
 use Rattle.bp_cli.specs.Endings.{CallsKeeper, Ending, Uses, untouched, world}
 use Rattle.bp_cli.proofs.BurnLemmas.{unused}
 use Rattle.bp_cli.proofs.KeptLemmas.{by_stop, never_rose, rows_itself, told_itself}
@@ -42,3 +43,13 @@ pub words_refused : (command : Option CommandLine) (s : SourceView) (k : KeeperV
 words_refused command s k f is =
     subst (λ (o : Option CommandLine). ReadsAndWorks o (world s k f) (Err stops.WordsRefused) (world s k f)) is
     (nothing_read None s k f (Err stops.WordsRefused) (refused_works s k f))
+
+-- nothing was read from the source
+pub never_read : (command : Option CommandLine) (n : ℕ) → ReadsAsOften command n n
+never_read None n = refl
+never_read (Some (burn b)) n = never refl
+never_read (Some (init digest)) n = refl
+never_read (Some (import name)) n = tt
+never_read (Some (produce q)) n = refl
+never_read (Some (press id)) n = refl
+never_read (Some (log id)) n = refl

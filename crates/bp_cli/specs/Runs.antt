@@ -137,9 +137,9 @@ outcome_files (outcomes.refused rule) = []
 -- a folder got none of these files; or some, and a part of the next; or all
 pub data AddsFirst (before : FolderView) (files : List FileRow)
     (after : FolderView) : Type 0 where
-  none : after ≡ before → AddsFirst before files after
-  some : AddsPart before files after → AddsFirst before files after
-  all : after ≡ with_files before files → AddsFirst before files after
+  nothing_added : after ≡ before → AddsFirst before files after
+  part_added : AddsPart before files after → AddsFirst before files after
+  all_added : after ≡ with_files before files → AddsFirst before files after
 
 -- the folder got a first part of these files, whether or not it failed, and nothing else
 pub record GivesFirst (files : List FileRow) (before after : FolderView) : Type 0 where

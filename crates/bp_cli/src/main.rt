@@ -1,5 +1,6 @@
 //! The program: one command of the production press. It reads files below the current folder,
-//! keeps the rows of a matter, writes files below the folder `out`, and prints its line. Begin at
+//! keeps the rows of a matter in the database `matter.db`, writes files below the folder `out`, and
+//! prints its line. Begin at
 //! `run`, whose contract promises `Runs`, and `program`, which carries it out over the system.
 #![tactic(auto)]
 
@@ -21,9 +22,21 @@ mod tests;
 mod volumes;
 mod words;
 
+use program::{MATTER, program};
+use sqlite::{Connection, File, FileStore};
 use std::env;
 use std::process::ExitCode;
 
 fn main(rt: HostRuntime) -> ExitCode {
-    ExitCode::from(program::program(&rt, &rt, rt.alloc(), env::args(&rt)))
+    let opener = || Connection::open(&rt, MATTER);
+    let ran = program(&rt, &rt, rt.alloc(), opener, env::args(&rt));
+    close(ran.connection);
+    ExitCode::from(ran.status)
+}
+
+// Copies the log of the database into its file. What was committed stands also where that fails.
+fn close(connection: Option<Connection<FileStore<File>>>) {
+    if let Some(connection) = connection {
+        let _closed = connection.close();
+    }
 }

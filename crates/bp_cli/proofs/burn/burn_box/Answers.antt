@@ -23,8 +23,8 @@ returns-in-Ok-clause-ends g c = λ keeper.
     (g.F.Folder.shows c.put_page.new.folder) c.in_ok-page.page c.in-Ok.burned c.put_page.result
     c.in_ok-paths.ensures c.in_ok-page.ensures.page c.in-Ok.ensures c.put_page.ensures
 
-pub returns-in-Err-clause-ends : goal.returns-in-Err-clause-ends
-returns-in-Err-clause-ends g c = λ keeper.
+pub returns-clause-ends : goal.returns-clause-ends
+returns-clause-ends g c = λ keeper.
     box_refused (burn_seen c.args.asked.now) (paths_seen c.in_ok-paths.paths)
     (world (g.S.Source.shows c.args.source.now) keeper (g.F.Folder.shows c.args.folder.now)) (g.S.Source.shows c.page_at.new.source)
     c.in_ok-page.page c.in-Err.rule c.in_ok-paths.ensures c.in_ok-page.ensures.page c.in-Err.ensures

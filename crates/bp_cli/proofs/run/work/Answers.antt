@@ -6,9 +6,9 @@ use Rattle.bp_cli.specs.Burn.{burn_seen}
 use Rattle.bp_cli.specs.Words.{word_bytes}
 use Rattle.bp_cli.specs.Endings.{world}
 use Rattle.std.specs.Str.{chars}
-use Rattle.bp_cli.specs.Commands.{CommandLine, burn, init, import, produce, press, log, command_seen, command_of, ReadsAndWorks}
+use Rattle.bp_cli.specs.Commands.{CommandLine, burn, init, import, produce, press, log, command_seen, command_of, ReadsAndWorks, ReadsAsOften}
 use Rattle.bp_cli.proofs.BurnLemmas.{burn_reads}
-use Rattle.bp_cli.proofs.WorkLemmas.{words_lacked, words_refused}
+use Rattle.bp_cli.proofs.WorkLemmas.{never_read, words_lacked, words_refused}
 use Rattle.bp_cli.proofs.run.work.Goals as goal
 
 pub returns-in_err-command_in-clause-works : goal.returns-in_err-command_in-clause-works
@@ -80,3 +80,35 @@ returns-in-Some-Log-clause-works g c =
     let found : c.in_ok-command_in.field-0 ≡ Some (commands.Log c.in-Some-Log.id) = c.in-Some-Log.is ∙ ap (λ (x : Command). Some x) c.in-Some-Log.field-0-is in
     let is : Some (log (chars c.in-Some-Log.id.now)) ≡ command_of (word_bytes c.args.words.now) = ap (option_map command_seen) (sym found) ∙ c.in_ok-command_in.ensures in
     subst (λ (o : Option CommandLine). ReadsAndWorks o before c.log_kept.result after) is (c.log_kept.ensures source folder)
+
+-- ---- how often it read
+
+pub returns-in_err-command_in-clause-reads : goal.returns-in_err-command_in-clause-reads
+returns-in_err-command_in-clause-reads g c = never_read (command_of (word_bytes c.args.words.now)) (g.S.Source.reads c.args.source.now)
+
+pub returns-in-None-clause-reads : goal.returns-in-None-clause-reads
+returns-in-None-clause-reads g c = never_read (command_of (word_bytes c.args.words.now)) (g.S.Source.reads c.args.source.now)
+
+pub returns-in-Some-Burn-clause-reads : goal.returns-in-Some-Burn-clause-reads
+returns-in-Some-Burn-clause-reads g c =
+    let found : c.in_ok-command_in.field-0 ≡ Some (commands.Burn c.in-Some-Burn.asked) = c.in-Some-Burn.is ∙ ap (λ (x : Command). Some x) c.in-Some-Burn.field-0-is in
+    let is : Some (burn (burn_seen c.in-Some-Burn.asked)) ≡ command_of (word_bytes c.args.words.now) = ap (option_map command_seen) (sym found) ∙ c.in_ok-command_in.ensures in
+    subst (λ (o : Option CommandLine). ReadsAsOften o (g.S.Source.reads c.args.source.now) (g.S.Source.reads c.burn_box.new.source)) is c.burn_box.ensures.reads
+
+pub returns-in-Some-Import-clause-reads : goal.returns-in-Some-Import-clause-reads
+returns-in-Some-Import-clause-reads g c =
+    let found : c.in_ok-command_in.field-0 ≡ Some (commands.Import c.in-Some-Import.name) = c.in-Some-Import.is ∙ ap (λ (x : Command). Some x) c.in-Some-Import.field-0-is in
+    let is : Some (import c.in-Some-Import.name.now) ≡ command_of (word_bytes c.args.words.now) = ap (option_map command_seen) (sym found) ∙ c.in_ok-command_in.ensures in
+    subst (λ (o : Option CommandLine). ReadsAsOften o (g.S.Source.reads c.args.source.now) (g.S.Source.reads c.import_batch.new.source)) is tt
+
+pub returns-in-Some-Init-clause-reads : goal.returns-in-Some-Init-clause-reads
+returns-in-Some-Init-clause-reads g c = never_read (command_of (word_bytes c.args.words.now)) (g.S.Source.reads c.args.source.now)
+
+pub returns-in-Some-Produce-clause-reads : goal.returns-in-Some-Produce-clause-reads
+returns-in-Some-Produce-clause-reads g c = never_read (command_of (word_bytes c.args.words.now)) (g.S.Source.reads c.args.source.now)
+
+pub returns-in-Some-Press-clause-reads : goal.returns-in-Some-Press-clause-reads
+returns-in-Some-Press-clause-reads g c = never_read (command_of (word_bytes c.args.words.now)) (g.S.Source.reads c.args.source.now)
+
+pub returns-in-Some-Log-clause-reads : goal.returns-in-Some-Log-clause-reads
+returns-in-Some-Log-clause-reads g c = never_read (command_of (word_bytes c.args.words.now)) (g.S.Source.reads c.args.source.now)

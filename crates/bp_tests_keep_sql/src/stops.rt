@@ -101,10 +101,10 @@ fn stands(
     Ok(made)
 }
 
-// Stops each call in turn, until one import comes in.
-fn stops(rt: &impl Abort, alloc: Global, of_log: bool) -> Result<bool, Fail> {
+// Stops each call from the first of these on, until one import comes in.
+fn stops(rt: &impl Abort, alloc: Global, of_log: bool, first: u64, end: u64) -> Result<bool, Fail> {
     let from = begun(alloc)?;
-    for calls in 0..MOST_CALLS {
+    for calls in first..end {
         let log = if of_log { calls } else { u64::MAX };
         let db = if of_log { u64::MAX } else { calls };
         if stands(rt, alloc, &from, log, db)? {
@@ -118,13 +118,25 @@ fn stops(rt: &impl Abort, alloc: Global, of_log: bool) -> Result<bool, Fail> {
 const MOST_CALLS: u64 = 100;
 
 #[test]
-fn each_call_of_the_log_stops(rt: HostRuntime) -> Result<(), Fail> {
-    assert!(rt; stops(&rt, rt.alloc(), true)?);
+fn each_of_the_first_calls_of_the_log_stops(rt: HostRuntime) -> Result<(), Fail> {
+    assert!(rt; !stops(&rt, rt.alloc(), true, 0, 15)?);
+    Ok(())
+}
+
+#[test]
+fn each_of_the_next_calls_of_the_log_stops(rt: HostRuntime) -> Result<(), Fail> {
+    assert!(rt; !stops(&rt, rt.alloc(), true, 15, 30)?);
+    Ok(())
+}
+
+#[test]
+fn each_later_call_of_the_log_stops(rt: HostRuntime) -> Result<(), Fail> {
+    assert!(rt; stops(&rt, rt.alloc(), true, 30, MOST_CALLS)?);
     Ok(())
 }
 
 #[test]
 fn each_call_of_the_file_stops(rt: HostRuntime) -> Result<(), Fail> {
-    assert!(rt; stops(&rt, rt.alloc(), false)?);
+    assert!(rt; stops(&rt, rt.alloc(), false, 0, MOST_CALLS)?);
     Ok(())
 }

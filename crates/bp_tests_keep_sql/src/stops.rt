@@ -40,15 +40,25 @@ fn close(conn: Database) -> Files<Fused> {
     }
 }
 
-// The files of a new matter.
-fn begun(alloc: Global) -> Result<Files<Fused>, Fail> {
+fn new_database(alloc: Global) -> Result<Database, AllocError> {
     let log = fused(alloc, &[], u64::MAX)?;
     let db = fused(alloc, &[], u64::MAX)?;
-    let conn = open(alloc, Files { log, db }).map_err(|_| AllocError)?;
-    let mut keeper = SqlKeeper::over(conn);
+    open(alloc, Files { log, db }).map_err(|_| AllocError)
+}
+
+fn begin_in<K: Keeper>(alloc: Global, keeper: &mut K) -> Result<(), Fail> {
     let _none = keeper.load(alloc)?;
     keeper.commit(alloc, &beginning(alloc)?)?;
-    Ok(close(keeper.into_connection()))
+    Ok(())
+}
+
+// The files of a new matter.
+fn begun(alloc: Global) -> Result<Files<Fused>, Fail> {
+    let mut keeper = SqlKeeper::over(new_database(alloc)?);
+    let begins = begin_in(alloc, &mut keeper);
+    let files = close(keeper.into_connection());
+    begins?;
+    Ok(files)
 }
 
 // Whether the batch came in, and the files after it.

@@ -3,7 +3,7 @@
 use super::page_files::WHITE;
 use super::stage::Stage;
 use super::{file_of, words_of};
-use crate::program::program;
+use crate::program::{hold_descriptors, program};
 use sqlite::{Connection, Error, ErrorCode, MemStore};
 use std::alloc::Global;
 use std::env::Args;
@@ -24,11 +24,9 @@ fn check<R: Abort + Threads + Sync>(
     written: &[u8],
 ) -> Result<(), Fail> {
     let stage = Stage::new(alloc, &WHITE)?;
-    let opener = || match Connection::open_in_memory(alloc) {
-        Ok(connection) => Ok(connection),
-        Err(_) => Err(Error::SqliteFailure(ErrorCode::OutOfMemory)),
-    };
-    let ended = program(&stage, rt, alloc, opener, answer);
+    let _held = hold_descriptors(&stage);
+    let opened = Ok(Connection::open_in_memory(alloc)?);
+    let ended = program(&stage, rt, alloc, opened, answer);
     assert!(rt; ended.status == status, "{lines}");
     let told = stage.lines();
     assert!(rt; told.as_str().strip_prefix(HELD) == Some(lines), "{told}");
@@ -94,8 +92,9 @@ fn check_unopened<R: Abort + Threads + Sync>(
 ) -> Result<(), Fail> {
     let stage = Stage::new(alloc, &WHITE)?;
     let words = words_of(alloc, "tivrenan log R-1")?;
-    let opener = || -> Result<Connection<MemStore>, Error> { Err(error) };
-    let ended = program(&stage, rt, alloc, opener, Ok(words.into_iter()));
+    let _held = hold_descriptors(&stage);
+    let opened: Result<Connection<MemStore>, Error> = Err(error);
+    let ended = program(&stage, rt, alloc, opened, Ok(words.into_iter()));
     assert!(rt; ended.status == status, "{lines}");
     let told = stage.lines();
     assert!(rt; told.as_str().strip_prefix(HELD) == Some(lines), "{told}");

@@ -28,6 +28,7 @@ fn check<R: Abort + Threads + Sync>(
     let opened = Ok(Connection::open_in_memory(alloc)?);
     let ended = program(&stage, rt, alloc, opened, answer);
     assert!(rt; ended.status == status, "{lines}");
+    assert!(rt; ended.connection.is_some(), "{lines}");
     let told = stage.lines();
     assert!(rt; told.as_str().strip_prefix(HELD) == Some(lines), "{told}");
     assert!(rt; stage.written().as_slice() == written, "{lines}");

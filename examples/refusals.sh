@@ -217,8 +217,8 @@ check "nothing to explain" plainly 0 'burned 187' "$burned" burn white.tif 0 0 8
 
 program=$built
 check "no words" plainly 1 'words refused' $same
-check "room for 512 bytes" with_room_for_512_bytes 4 'folder fault' 'head -c 512 ../pixel.tif > out/old.tif' \
-    burn letter.tif 0 0 1 1 old.tif plain
+# the database that each command opens first needs more
+check "room for 512 bytes" with_room_for_512_bytes 5 'keeper fault' $same burn letter.tif 0 0 1 1 old.tif plain
 if strace -qq -o /dev/null true 2> /dev/null; then
     check "a failing disk" on_a_failing_disk 4 'folder fault' ': > out/b.tif' burn white.tif 0 0 8 1 b.tif plain
     # the line must not get into the page's file, which is opened in place of the closed output

@@ -24,7 +24,7 @@ use Rattle.std.specs.Str.{chars}
 use Rattle.bp_import.specs.Batch.{BatchAnswers}
 use Rattle.bp_matter.specs.Batches.{BatchShown}
 use Rattle.bp_matter.specs.KeptRows.{rows_of}
-use Rattle.bp_matter.specs.Matter.{Matter as Kept}
+use Rattle.bp_matter.specs.Matter.{Matter}
 use Rattle.bp_matter.specs.Valid.{IsValid}
 use Rattle.bp_cli.specs.Import.{ImportOutcome, import_gives}
 use Rattle.bp_cli.specs.Kept.{MatterAnswers, OfTwo, RowsOutcome}
@@ -35,7 +35,7 @@ use Rattle.bp_cli.proofs.ImportLemmas.{SomeBatch}
 use Rattle.bp_cli.specs.Runs.{Tells}
 use Rattle.bp_cli.specs.Words.{◌>>=◌}
 use Rattle.bp_cli.specs.Burn.{BurnLine, BurnPaths, HasPage, BurnAlike, lacks_a_side, burn_page, burn_read, burn_gives, paths_of, path_refused, FileAnswers, PathAnswers, BurnsAt, BurnComes}
-use Rattle.bp_cli.specs.Commands.{CommandLine, Matter, burn, init, import, produce, press, log, uses_of, AreKnown, AlikeFor, ComesTo, IsOutcome, RowsAlike, ShowAlike}
+use Rattle.bp_cli.specs.Commands.{CommandLine, Inputs, burn, init, import, produce, press, log, uses_of, AreKnown, AlikeFor, ComesTo, IsOutcome, RowsAlike, ShowAlike}
 use Rattle.bp_cli.proofs.KeptLemmas.{answers_loaded}
 use Rattle.bp_cli.proofs.ProduceLemmas.{same_frozen, same_logged, same_pressed, some_rows}
 use Rattle.bp_cli.proofs.RunLemmas.{AlikeOutcome}
@@ -70,11 +70,11 @@ comes_one one b (Some paths) files o o' x y = burns_one one b paths files o o' x
 
 -- kept rows are of one matter, or break one rule
 abbrev pub RowsLaw : Type 0
-RowsLaw = (m n : Kept) → IsValid m → IsValid n → rows_of m ≡ rows_of n → m ≡ n
+RowsLaw = (m n : Matter) → IsValid m → IsValid n → rows_of m ≡ rows_of n → m ≡ n
 
-matter_one : RowsLaw → (rows : List Row) (a b : Result Kept Rule) → MatterAnswers rows a → MatterAnswers rows b → a ≡ b
+matter_one : RowsLaw → (rows : List Row) (a b : Result Matter Rule) → MatterAnswers rows a → MatterAnswers rows b → a ≡ b
 matter_one law [] a b x y = x ∙ sym y
-matter_one law (row ∷ rows) (Ok m) (Ok n) x y = ap (λ (k : Kept). Ok k) (law m n x.0 y.0 (sym x.1 ∙ y.1))
+matter_one law (row ∷ rows) (Ok m) (Ok n) x y = ap (λ (k : Matter). Ok k) (law m n x.0 y.0 (sym x.1 ∙ y.1))
 matter_one law (row ∷ rows) (Ok m) (Err r) x y = absurd (y.1 m x.0 x.1)
 matter_one law (row ∷ rows) (Err r) (Ok n) x y = absurd (x.1 n y.0 y.1)
 matter_one law (row ∷ rows) (Err r) (Err t) x y = ap (λ (k : Rule). Err k) (x.0 ∙ sym y.0)
@@ -91,22 +91,22 @@ pub record Laws : Type 0 where
   pub one_batch : OneBatch
   pub some_batch : SomeBatch
 
-import_one : Laws → (name : List ℕ) (matter : Matter) (o o' : Outcome) → ImportOutcome name (Some matter.files) (Some matter.rows) o → ImportOutcome name (Some matter.files) (Some matter.rows) o' → o ≡ o'
-import_one laws name matter o o' x y =
-    sym x.gives ∙ ap (λ (t : Result Kept Rule). import_gives name t x.batch) (matter_one laws.rows matter.rows x.tables y.tables x.kept y.kept)
-    ∙ ap (import_gives name y.tables) (laws.one_batch matter.files (chars name) x.batch y.batch x.found y.found) ∙ y.gives
+import_one : Laws → (name : List ℕ) (inputs : Inputs) (o o' : Outcome) → ImportOutcome name (Some inputs.files) (Some inputs.rows) o → ImportOutcome name (Some inputs.files) (Some inputs.rows) o' → o ≡ o'
+import_one laws name inputs o o' x y =
+    sym x.gives ∙ ap (λ (t : Result Matter Rule). import_gives name t x.batch) (matter_one laws.rows inputs.rows x.tables y.tables x.kept y.kept)
+    ∙ ap (import_gives name y.tables) (laws.one_batch inputs.files (chars name) x.batch y.batch x.found y.found) ∙ y.gives
 
 -- kept rows give one outcome
-rows_one : RowsLaw → (gives : Result Kept Rule → Outcome) (rows : List Row) (o o' : Outcome) → RowsOutcome gives (Some rows) o → RowsOutcome gives (Some rows) o' → o ≡ o'
+rows_one : RowsLaw → (gives : Result Matter Rule → Outcome) (rows : List Row) (o o' : Outcome) → RowsOutcome gives (Some rows) o → RowsOutcome gives (Some rows) o' → o ≡ o'
 rows_one law gives rows o o' x y = sym x.given ∙ ap gives (matter_one law rows x.tables y.tables x.kept y.kept) ∙ y.given
 
-pub one_outcome : Laws → (c : CommandLine) (matter : Matter) (o o' : Outcome) → ComesTo c matter o → ComesTo c matter o' → o ≡ o'
-one_outcome laws (burn b) matter o o' x y = comes_one laws.one b (paths_of b) matter.files o o' x y
-one_outcome laws (init digest) matter o o' x y = sym x ∙ y
-one_outcome laws (import name) matter o o' x y = import_one laws name matter o o' x y
-one_outcome laws (produce q) matter o o' x y = rows_one laws.rows (produce_gives q) matter.rows o o' x y
-one_outcome laws (press id) matter o o' x y = rows_one laws.rows (press_gives id) matter.rows o o' x y
-one_outcome laws (log id) matter o o' x y = rows_one laws.rows (log_gives id) matter.rows o o' x y
+pub one_outcome : Laws → (c : CommandLine) (inputs : Inputs) (o o' : Outcome) → ComesTo c inputs o → ComesTo c inputs o' → o ≡ o'
+one_outcome laws (burn b) inputs o o' x y = comes_one laws.one b (paths_of b) inputs.files o o' x y
+one_outcome laws (init digest) inputs o o' x y = sym x ∙ y
+one_outcome laws (import name) inputs o o' x y = import_one laws name inputs o o' x y
+one_outcome laws (produce q) inputs o o' x y = rows_one laws.rows (produce_gives q) inputs.rows o o' x y
+one_outcome laws (press id) inputs o o' x y = rows_one laws.rows (press_gives id) inputs.rows o o' x y
+one_outcome laws (log id) inputs o o' x y = rows_one laws.rows (log_gives id) inputs.rows o o' x y
 
 -- ---- and there is one
 
@@ -124,18 +124,18 @@ some_comes some b (Some paths) files =
     let found = some_path some (map.get files paths.from) in
     (burn_gives b.form paths.to (burn_read b.area found.0), record { answer = found.0; found = found.1; gives = refl })
 
-rows_known : (gives : Result Kept Rule → Outcome) (rows : List Row) (answer : Result Kept Rule) → MatterAnswers rows answer → RowsOutcome gives (Some rows) (gives answer)
+rows_known : (gives : Result Matter Rule → Outcome) (rows : List Row) (answer : Result Matter Rule) → MatterAnswers rows answer → RowsOutcome gives (Some rows) (gives answer)
 rows_known gives rows answer is = record { tables = answer; loaded = answers_loaded rows answer is; kept = is; given = refl }
 
-pub some_outcome : Laws → (c : CommandLine) (matter : Matter) → AreKnown c matter → (o : Outcome) × ComesTo c matter o
-some_outcome laws (burn b) matter known = some_comes laws.some b (paths_of b) matter.files
-some_outcome laws (init digest) matter known = (init_gives digest matter.rows, refl)
-some_outcome laws (import name) matter known =
-    let found = laws.some_batch matter.files (chars name) in
-    (import_gives name known.0 found.0, record { tables = known.0; loaded = answers_loaded matter.rows known.0 known.1; kept = known.1; batch = found.0; found = found.1; gives = refl })
-some_outcome laws (produce q) matter known = (produce_gives q known.0, rows_known (produce_gives q) matter.rows known.0 known.1)
-some_outcome laws (press id) matter known = (press_gives id known.0, rows_known (press_gives id) matter.rows known.0 known.1)
-some_outcome laws (log id) matter known = (log_gives id known.0, rows_known (log_gives id) matter.rows known.0 known.1)
+pub some_outcome : Laws → (c : CommandLine) (inputs : Inputs) → AreKnown c inputs → (o : Outcome) × ComesTo c inputs o
+some_outcome laws (burn b) inputs known = some_comes laws.some b (paths_of b) inputs.files
+some_outcome laws (init digest) inputs known = (init_gives digest inputs.rows, refl)
+some_outcome laws (import name) inputs known =
+    let found = laws.some_batch inputs.files (chars name) in
+    (import_gives name known.0 found.0, record { tables = known.0; loaded = answers_loaded inputs.rows known.0 known.1; kept = known.1; batch = found.0; found = found.1; gives = refl })
+some_outcome laws (produce q) inputs known = (produce_gives q known.0, rows_known (produce_gives q) inputs.rows known.0 known.1)
+some_outcome laws (press id) inputs known = (press_gives id known.0, rows_known (press_gives id) inputs.rows known.0 known.1)
+some_outcome laws (log id) inputs known = (log_gives id known.0, rows_known (log_gives id) inputs.rows known.0 known.1)
 
 -- ---- two matters
 
@@ -192,55 +192,55 @@ shows_itself : (c : CommandLine) (o : Outcome) → ((rows : Option (List Row)) �
 shows_itself c (done line files rows) same = (refl, refl, same rows)
 shows_itself c (refused rule) same = refl
 
-same_comes : (c : CommandLine) (matter : Matter) (other : Outcome) → ((rows : Option (List Row)) → RowsAlike c rows rows) → ComesTo c matter other → AlikeOutcome c matter other
-same_comes c matter other same comes = record { outcome = other; comes = comes; same = shows_itself c other same }
+same_comes : (c : CommandLine) (inputs : Inputs) (other : Outcome) → ((rows : Option (List Row)) → RowsAlike c rows rows) → ComesTo c inputs other → AlikeOutcome c inputs other
+same_comes c inputs other same comes = record { outcome = other; comes = comes; same = shows_itself c other same }
 
 -- rows of a valid matter are known to be its
-rows_answer : (rows : List Row) (m : Kept) → IsValid m → rows ≡ rows_of m → MatterAnswers rows (Ok m)
+rows_answer : (rows : List Row) (m : Matter) → IsValid m → rows ≡ rows_of m → MatterAnswers rows (Ok m)
 rows_answer [] m valid is = absurd (some_rows m valid is)
 rows_answer (row ∷ rows) m valid is = (valid, is)
 
 -- rows of two matters, which show the same, give outcomes that show the same
-rows_alike : RowsLaw → (c : CommandLine) (P : Kept → Kept → Type 0) (gives : Result Kept Rule → Outcome) (rows rows' : List Row) (other : Outcome) (both : OfTwo P rows rows') → RowsOutcome gives (Some rows') other
+rows_alike : RowsLaw → (c : CommandLine) (P : Matter → Matter → Type 0) (gives : Result Matter Rule → Outcome) (rows rows' : List Row) (other : Outcome) (both : OfTwo P rows rows') → RowsOutcome gives (Some rows') other
     → ShowAlike c (gives (Ok both.one)) (gives (Ok both.two)) → (o : Outcome) × (RowsOutcome gives (Some rows) o × ShowAlike c o other)
 rows_alike law c P gives rows rows' other both comes shows =
     let is : gives (Ok both.two) ≡ other = rows_one law gives rows' (gives (Ok both.two)) other (rows_known gives rows' (Ok both.two) (rows_answer rows' both.two both.valid' both.kept')) comes in
     (gives (Ok both.one), (rows_known gives rows (Ok both.one) (rows_answer rows both.one both.valid both.kept), subst (λ (o : Outcome). ShowAlike c (gives (Ok both.one)) o) is shows))
 
-pub outcome_alike : Laws → (c : CommandLine) (matter matter' : Matter) (other : Outcome) → AlikeFor c matter matter' → ComesTo c matter' other → AlikeOutcome c matter other
-outcome_alike laws (burn b) matter matter' other alike comes =
-    same_comes (burn b) matter other (λ rows. refl) (comes_alike laws.one b (path_in b.from) (path_in b.to) matter.files matter'.files other refl alike comes)
-outcome_alike laws (init digest) matter matter' other alike comes =
-    same_comes (init digest) matter other (λ rows. refl) (ap (init_gives digest) alike ∙ comes)
-outcome_alike laws (import name) matter matter' other alike comes =
-    same_comes (import name) matter other (λ rows. refl)
-    (subst (λ (files : FileMap). ImportOutcome name (Some files) (Some matter.rows) other) (sym alike.0)
-    (subst (λ (rows : List Row). ImportOutcome name (Some matter'.files) (Some rows) other) (sym alike.1) comes))
-outcome_alike laws (produce q) matter matter' other both comes =
-    let there = rows_alike laws.rows (produce q) (FrozenAlike q) (produce_gives q) matter.rows matter'.rows other both comes (same_frozen q both.one both.two both.valid both.valid' both.holds) in
+pub outcome_alike : Laws → (c : CommandLine) (inputs inputs' : Inputs) (other : Outcome) → AlikeFor c inputs inputs' → ComesTo c inputs' other → AlikeOutcome c inputs other
+outcome_alike laws (burn b) inputs inputs' other alike comes =
+    same_comes (burn b) inputs other (λ rows. refl) (comes_alike laws.one b (path_in b.from) (path_in b.to) inputs.files inputs'.files other refl alike comes)
+outcome_alike laws (init digest) inputs inputs' other alike comes =
+    same_comes (init digest) inputs other (λ rows. refl) (ap (init_gives digest) alike ∙ comes)
+outcome_alike laws (import name) inputs inputs' other alike comes =
+    same_comes (import name) inputs other (λ rows. refl)
+    (subst (λ (files : FileMap). ImportOutcome name (Some files) (Some inputs.rows) other) (sym alike.0)
+    (subst (λ (rows : List Row). ImportOutcome name (Some inputs'.files) (Some rows) other) (sym alike.1) comes))
+outcome_alike laws (produce q) inputs inputs' other both comes =
+    let there = rows_alike laws.rows (produce q) (FrozenAlike q) (produce_gives q) inputs.rows inputs'.rows other both comes (same_frozen q both.one both.two both.valid both.valid' both.holds) in
     record { outcome = there.0; comes = there.1.0; same = there.1.1 }
-outcome_alike laws (press id) matter matter' other both comes =
-    let there = rows_alike laws.rows (press id) (ShowSame id) (press_gives id) matter.rows matter'.rows other both comes (same_pressed (press id) id both.one both.two both.holds refl) in
+outcome_alike laws (press id) inputs inputs' other both comes =
+    let there = rows_alike laws.rows (press id) (ShowSame id) (press_gives id) inputs.rows inputs'.rows other both comes (same_pressed (press id) id both.one both.two both.holds refl) in
     record { outcome = there.0; comes = there.1.0; same = there.1.1 }
-outcome_alike laws (log id) matter matter' other both comes =
-    let there = rows_alike laws.rows (log id) (KeepSame id) (log_gives id) matter.rows matter'.rows other both comes (same_logged (log id) id both.one both.two both.holds refl) in
+outcome_alike laws (log id) inputs inputs' other both comes =
+    let there = rows_alike laws.rows (log id) (KeepSame id) (log_gives id) inputs.rows inputs'.rows other both comes (same_logged (log id) id both.one both.two both.holds refl) in
     record { outcome = there.0; comes = there.1.0; same = there.1.1 }
 
 -- ---- what is told
 
 -- the outcome over a told matter
-pub told_outcome : (c : CommandLine) (before : World) (matter : Matter) (outcome : Outcome) → Tells (uses_of c).files before.source.files matter.files → Tells (uses_of c).rows before.keeper.rows matter.rows → IsOutcome c before outcome → ComesTo c matter outcome
-told_outcome (burn b) before matter outcome files rows is =
+pub told_outcome : (c : CommandLine) (before : World) (inputs : Inputs) (outcome : Outcome) → Tells (uses_of c).files before.source.files inputs.files → Tells (uses_of c).rows before.keeper.rows inputs.rows → IsOutcome c before outcome → ComesTo c inputs outcome
+told_outcome (burn b) before inputs outcome files rows is =
     let P : Option FileMap → Type 0 = λ o. IfSome o (λ t. t ≡ is.files) in
-    let same : matter.files ≡ is.files = subst P files is.same in
+    let same : inputs.files ≡ is.files = subst P files is.same in
     subst (λ (fs : FileMap). BurnComes b fs outcome) (sym same) is.comes
-told_outcome (init digest) before matter outcome files rows is =
+told_outcome (init digest) before inputs outcome files rows is =
     let P : Option (List Row) → Type 0 = λ o. IfSome o (λ t. is.rows ≡ t) in
-    let same : is.rows ≡ matter.rows = subst P rows is.same in
+    let same : is.rows ≡ inputs.rows = subst P rows is.same in
     ap (init_gives digest) (sym same) ∙ is.gives
-told_outcome (import name) before matter outcome files rows is =
-    subst (λ (o : Option FileMap). ImportOutcome name o (Some matter.rows) outcome) files
+told_outcome (import name) before inputs outcome files rows is =
+    subst (λ (o : Option FileMap). ImportOutcome name o (Some inputs.rows) outcome) files
     (subst (λ (o : Option (List Row)). ImportOutcome name before.source.files o outcome) rows is)
-told_outcome (produce q) before matter outcome files rows is = subst (λ (o : Option (List Row)). RowsOutcome (produce_gives q) o outcome) rows is
-told_outcome (press id) before matter outcome files rows is = subst (λ (o : Option (List Row)). RowsOutcome (press_gives id) o outcome) rows is
-told_outcome (log id) before matter outcome files rows is = subst (λ (o : Option (List Row)). RowsOutcome (log_gives id) o outcome) rows is
+told_outcome (produce q) before inputs outcome files rows is = subst (λ (o : Option (List Row)). RowsOutcome (produce_gives q) o outcome) rows is
+told_outcome (press id) before inputs outcome files rows is = subst (λ (o : Option (List Row)). RowsOutcome (press_gives id) o outcome) rows is
+told_outcome (log id) before inputs outcome files rows is = subst (λ (o : Option (List Row)). RowsOutcome (log_gives id) o outcome) rows is

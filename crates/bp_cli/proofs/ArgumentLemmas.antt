@@ -1,11 +1,15 @@
 -- Lemmas of arguments: from the stop that the system's answer became to what the run promises over
--- that answer.
+-- that answer, and from there to what the program promises.
 use Rattle.std.proofs.Common.{ℕ, ◌≡◌, ◌↔◌, ◌<◌, List, [], ◌∷◌, ◌++◌, length, drop, Option, Some, None, Ok, Err, ap, subst, inr, arith}
 use Rattle.std.specs.Prelude.{IsSome, option_to_list}
 use Rattle.std.proofs.lemmas.Bool.{false≢true}
 use Rattle.bp_cli.specs.declared.stops.Stop.{Stop}
-use Rattle.bp_cli.specs.Arguments.{Answer, TakesWords, StopsAtOnce, RunsArguments}
-use Rattle.bp_cli.specs.Runs.{Outside}
+use Rattle.bp_outside.specs.Source.{SourceView}
+use Rattle.bp_outside.specs.Folder.{FolderView}
+use Rattle.bp_outside.specs.Out.{OutView}
+use Rattle.bp_keep.specs.Keeper.{KeeperView}
+use Rattle.bp_cli.specs.Arguments.{Answer, TakesWords, StopsAtOnce, RunsArguments, EndsProgram, beginning}
+use Rattle.bp_cli.specs.Runs.{Outside, outside}
 
 pub stopped_at_once : (before after : Outside) (stop : Stop) (status : ℕ) (answer : Answer) → TakesWords answer (Err stop) → StopsAtOnce stop before after status → RunsArguments answer before after status
 stopped_at_once before after stop status (Ok arguments) is stopped = inr (subst (λ (s : Stop). StopsAtOnce s before after status) is stopped)
@@ -16,3 +20,14 @@ pub left_after_first : {X : Type 0} (old new : List X) (n : ℕ) (first : Option
 left_after_first old new n (Some x) long e some = ap (drop 1) e
 left_after_first [] new n None long e some = e
 left_after_first (x ∷ xs) new n None long e some = absurd (false≢true (some.1 (omega (arith, long))))
+
+-- a run from the beginning of the program
+pub program_ends : (answer : Answer) (s : SourceView) (k : KeeperView) (f : FolderView) (o : OutView) (after : Outside) (status : ℕ) → s ≡ beginning.world.source → k ≡ beginning.world.keeper → f ≡ beginning.world.folder → o ≡ beginning.out → RunsArguments answer (outside s k f o) after status
+    → EndsProgram answer status
+program_ends answer s k f o after status same_s same_k same_f same_o runs = record {
+  after = after;
+  runs = subst (λ (x : SourceView). RunsArguments answer (outside x beginning.world.keeper beginning.world.folder beginning.out) after status) same_s
+      (subst (λ (x : KeeperView). RunsArguments answer (outside s x beginning.world.folder beginning.out) after status) same_k
+      (subst (λ (x : FolderView). RunsArguments answer (outside s k x beginning.out) after status) same_f
+      (subst (λ (x : OutView). RunsArguments answer (outside s k f x) after status) same_o runs)));
+}

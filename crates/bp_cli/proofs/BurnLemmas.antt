@@ -17,7 +17,8 @@ use Rattle.bp_rows.specs.Image.{Image}
 use Rattle.bp_rows.specs.Burned.{burned}
 use Rattle.bp_tiff.specs.PageRules.{IsPageRule}
 use Rattle.bp_tiff.specs.PageRules as page
-use Rattle.bp_tiff.specs.Read.{TiffReads, TiffFault, TiffAnswers}
+use Rattle.bp_tiff.specs.Read.{TiffFault, TiffAnswers}
+use Rattle.bp_tiff.specs.Tiff.{tiff_of}
 use Rattle.std.specs.Option.{ok_or}
 use Rattle.bp_core.specs.Answers.{Answers, IfRule}
 use Rattle.bp_outside.specs.Source.{FileMap, SourceView, ReadOver, after_read}
@@ -30,19 +31,19 @@ use Rattle.bp_import.specs.Importing.{after_kind}
 use Rattle.bp_cli.specs.declared.stops.Stop.{Stop}
 use Rattle.bp_cli.specs.declared.stops.Stop.TheVariants as stops
 use Rattle.bp_cli.specs.declared.burn.TheConstants.{FILE_LIMIT}
-use Rattle.bp_core.specs.declared.kept.Row.{Row}
-use Rattle.bp_keep.specs.Keeper.{KeeperView, SameRows}
+use Rattle.bp_keep.specs.Keeper.{KeeperView}
 use Rattle.bp_press.specs.Writing.{AddsPart}
-use Rattle.bp_cli.specs.Endings.{Outcome, done, refused, Ending, World, world, failed_folder, KeeperLeft, Makes, Ends, partly, untouched}
+use Rattle.bp_cli.specs.Endings.{Outcome, done, refused, Ending, World, world, failed_folder, KeeperLeft, Ends, partly, untouched}
 use Rattle.bp_core.specs.declared.rectangle.Rect.{Rect}
 use Rattle.bp_core.specs.declared.rules.RuleKind.{RuleKind}
 use Rattle.bp_core.specs.declared.refusals.Refusal.{Refusal}
 use Rattle.bp_core.specs.declared.refusals.Refusal.TheVariants as refusals
 use Rattle.bp_rows.specs.Limits.{sides_are_imported}
 use Rattle.bp_cli.specs.Burn.{BurnLine, BurnPaths, paths_of, path_refused, lacks_a_side, burn_page, burn_read, FileAnswers, PathAnswers, BurnsAt, BurnComes, BurnOutcome, burn_done, burn_gives, counted_line}
-use Rattle.bp_cli.specs.Burning.{page_put, NamesPath, NamesPaths, MeetsPageRule, BurnsBytes, PutsPage}
-use Rattle.bp_cli.specs.Commands.{burn, uses_of, IsOutcome}
+use Rattle.bp_cli.specs.Burning.{AnswersAt, ReadsPage, HoldsPage, NamesPath, NamesPaths, PutsPage}
+use Rattle.bp_cli.specs.Commands.{burn, uses_of, IsOutcome, ReadsAndWorks}
 use Rattle.bp_cli.specs.Stops.{StopsFor, StopsForFolder, read_stop}
+use Rattle.bp_cli.proofs.KeptLemmas.{rows_itself, told_itself}
 
 -- ---- files that a source doesn't tell
 
@@ -126,25 +127,13 @@ box_rule source false true t limit x rule calm broken = same_kind source (bare_r
 box_rule source false false true limit x rule calm broken = cc
 box_rule source false false false limit x rule calm broken = same_kind source (bare_rule kinds.BoxOutside) rule (same_rule (bare_rule kinds.BoxOutside) rule broken) refl
 
--- a page was read, and a rule met
-pub page_met : (area : Rect) (bytes : List ℕ) (p : Image) (rule : Rule) → TiffReads bytes p → Err rule ≡ burn_page area p → MeetsPageRule area bytes rule
-page_met area bytes p rule reads met = record {
-  comes = record { answer = Ok p; found = reads; gives = sym met };
-  calm = λ source. box_rule source (not (sides_are_imported p.width p.height)) (lacks_a_side area) (lies_inside area p.width p.height)
-      (page_limit_rule p.width p.height) (burned p (area ∷ [])) rule refl (sym met);
-}
-
--- or the box burned
-pub page_burned : (area : Rect) (bytes : List ℕ) (p q : Image) → TiffReads bytes p → Ok q ≡ burn_page area p → BurnsBytes area bytes (Ok q)
-page_burned area bytes p q reads is = record { answer = Ok p; found = reads; gives = sym is }
-
 -- a file was refused
-pub file_refused : (area : Rect) (bytes : List ℕ) (refusal : Refusal) (stop : Stop) → IfRule (TiffFault bytes) refusal → IfRule (λ rule. IsPageRule rule.kind) refusal → StopsFor refusal stop → BurnsBytes area bytes (Err stop)
-file_refused area bytes (refusals.Rule rule) stop fault kind is =
-    subst (λ (s : Stop). BurnsBytes area bytes (Err s)) (sym is)
-    (record { comes = record { answer = Err rule; found = fault; gives = refl }; calm = λ source. page_rule_calm source rule.kind kind })
-file_refused area bytes refusals.OutOfMemory stop fault kind is =
-    subst (λ (s : Stop). BurnsBytes area bytes (Err s)) (sym is) tt
+pub file_refused : (bytes : List ℕ) (refusal : Refusal) (stop : Stop) → IfRule (TiffFault bytes) refusal → IfRule (λ rule. IsPageRule rule.kind) refusal → StopsFor refusal stop → HoldsPage bytes (Err stop)
+file_refused bytes (refusals.Rule rule) stop fault kind is =
+    subst (λ (s : Stop). HoldsPage bytes (Err s)) (sym is)
+    (record { answers = fault; calm = λ source. page_rule_calm source rule.kind kind })
+file_refused bytes refusals.OutOfMemory stop fault kind is =
+    subst (λ (s : Stop). HoldsPage bytes (Err s)) (sym is) tt
 
 -- a file answers by its length and its bytes
 abbrev too_long_rule : Rule
@@ -161,38 +150,40 @@ long_answers : (bytes : List ℕ) (answer : Result Image Rule) → FILE_LIMIT < 
 long_answers bytes answer long is =
     subst (λ (b : Bool). FileAnswersIf b bytes answer) (sym (lt-ltb FILE_LIMIT (length bytes) long)) is
 
-pub made_page : (b : BurnLine) (paths : BurnPaths) (before after : SourceView) (bytes : List ℕ) (r : Result Image Stop) → paths_of b ≡ Some paths → length bytes ≤ FILE_LIMIT → IfSome before.files (λ files. map.get files paths.from ≡ Some bytes) → after ≡ before → BurnsBytes b.area bytes r → Makes (BurnOutcome b before.files) (page_put b.form paths.to) before r after
-made_page b paths before after bytes (Ok p) named short there stays it =
-    (outcome_is b paths before.files (Some bytes) it.answer (page_put b.form paths.to p) named (short_answers bytes it.answer short it.found) there (ap (burn_gives b.form paths.to) it.gives), stays)
-made_page b paths before after bytes (Err (stops.Broken rule)) named short there stays it = (
-  outcome_is b paths before.files (Some bytes) it.comes.answer (refused rule) named (short_answers bytes it.comes.answer short it.comes.found) there (ap (burn_gives b.form paths.to) it.comes.gives),
-  stays ∙ sym (it.calm before),
-)
-made_page b paths before after bytes (Err stops.OutOfMemory) named short there stays it = stays
-made_page b paths before after bytes (Err stops.WordsRefused) named short there stays it = it
-made_page b paths before after bytes (Err stops.SourceFault) named short there stays it = absurd it
-made_page b paths before after bytes (Err stops.FolderFault) named short there stays it = it
-made_page b paths before after bytes (Err stops.KeeperFault) named short there stays it = it
+-- the page was read, or the rule met, where a file was read
+pub page_read : (from : List ℕ) (before after : SourceView) (bytes : List ℕ) (r : Result Image Stop) → length bytes ≤ FILE_LIMIT → IfSome before.files (λ files. map.get files from ≡ Some bytes) → after ≡ before → HoldsPage bytes r → ReadsPage from before r after
+page_read from before after bytes (Ok p) short there stays it =
+    (record { found = Some bytes; there = there; answers = short_answers bytes (Ok p) short it }, stays)
+page_read from before after bytes (Err (stops.Broken rule)) short there stays it =
+    (record { found = Some bytes; there = there; answers = short_answers bytes (Err rule) short it.answers }, stays ∙ sym (it.calm before))
+page_read from before after bytes (Err stops.OutOfMemory) short there stays it = stays
+page_read from before after bytes (Err stops.WordsRefused) short there stays it = it
+page_read from before after bytes (Err stops.SourceFault) short there stays it = absurd it
+page_read from before after bytes (Err stops.FolderFault) short there stays it = it
+page_read from before after bytes (Err stops.KeeperFault) short there stays it = it
 
 -- a list longer than a number
 longer : (n : ℕ) → (bytes : List ℕ) × (n < length bytes)
 longer n = let zero_byte : ℕ = 0 in (replicate (n + 1) zero_byte, omega (arith, length-replicate (n + 1) zero_byte))
 
-too_long_there : (b : BurnLine) (paths : BurnPaths) (files : FileMap) (found : Option (List ℕ)) → paths_of b ≡ Some paths → map.get files paths.from ≡ found → IsSomeAnd found (λ bytes. FILE_LIMIT < length bytes) → BurnOutcome b (Some files) (refused too_long_rule)
-too_long_there b paths files None named get long = elim long [ ]
-too_long_there b paths files (Some bytes) named get long =
-    outcome_is b paths (Some files) (Some bytes) (Err too_long_rule) (refused too_long_rule) named (long_answers bytes (Err too_long_rule) long refl) get refl
+long_path : (found : Option (List ℕ)) → IsSomeAnd found (λ bytes. FILE_LIMIT < length bytes) → PathAnswers found (Err too_long_rule)
+long_path None long = elim long [ ]
+long_path (Some bytes) long = long_answers bytes (Err too_long_rule) long refl
 
-too_long : (b : BurnLine) (paths : BurnPaths) (told : Option FileMap) → paths_of b ≡ Some paths → IfSome told (λ files. IsSomeAnd (map.get files paths.from) (λ bytes. FILE_LIMIT < length bytes)) → BurnOutcome b told (refused too_long_rule)
-too_long b paths (Some files) named long = too_long_there b paths files (map.get files paths.from) named refl long
-too_long b paths None named long =
-    outcome_is b paths None (Some (longer FILE_LIMIT).0) (Err too_long_rule) (refused too_long_rule) named (long_answers (longer FILE_LIMIT).0 (Err too_long_rule) (longer FILE_LIMIT).1 refl) tt refl
+too_long : (from : List ℕ) (told : Option FileMap) → IfSome told (λ files. IsSomeAnd (map.get files from) (λ bytes. FILE_LIMIT < length bytes)) → AnswersAt from told (Err too_long_rule)
+too_long from (Some files) long = record { found = map.get files from; there = refl; answers = long_path (map.get files from) long }
+too_long from None long = record {
+  found = Some (longer FILE_LIMIT).0;
+  there = tt;
+  answers = long_answers (longer FILE_LIMIT).0 (Err too_long_rule) (longer FILE_LIMIT).1 refl;
+}
 
-pub refused_read : (b : BurnLine) (paths : BurnPaths) (before after : SourceView) (refusal : ReadRefusal) → paths_of b ≡ Some paths → IfSome before.files (ReadOver paths.from FILE_LIMIT (Err refusal)) → after ≡ after_read before (Err refusal) → Makes (BurnOutcome b before.files) (page_put b.form paths.to) before (Err (read_stop refusal)) after
-refused_read b paths before after reads.Absent named there is = (outcome_is b paths before.files None (Err (bare_rule kinds.FileAbsent)) (refused (bare_rule kinds.FileAbsent)) named refl there refl, is)
-refused_read b paths before after reads.TooLong named there is = (too_long b paths before.files named there, is)
-refused_read b paths before after reads.Failed named there is = is
-refused_read b paths before after reads.OutOfMemory named there is = is
+-- the read was refused
+pub read_refused : (from : List ℕ) (before after : SourceView) (refusal : ReadRefusal) → IfSome before.files (ReadOver from FILE_LIMIT (Err refusal)) → after ≡ after_read before (Err refusal) → ReadsPage from before (Err (read_stop refusal)) after
+read_refused from before after reads.Absent there is = (record { found = None; there = there; answers = refl }, is)
+read_refused from before after reads.TooLong there is = (too_long from before.files there, is)
+read_refused from before after reads.Failed there is = is
+read_refused from before after reads.OutOfMemory there is = is
 
 -- ---- what the putting of the file leaves
 
@@ -200,12 +191,8 @@ refused_read b paths before after reads.OutOfMemory named there is = is
 abbrev pub BurnEnds : BurnLine → World → Ending → World → Type 0
 BurnEnds b before r after = Ends (uses_of (burn b)) (IsOutcome (burn b) before) before r after
 
-same_rows : (rows : Option (List Row)) → SameRows rows rows
-same_rows None = tt
-same_rows (Some rows) = refl
-
 pub unused : (keeper : KeeperView) → KeeperLeft None keeper.faults keeper keeper
-unused keeper = record { rows = same_rows keeper.rows; faults = refl; sure = refl }
+unused keeper = record { rows = rows_itself keeper.rows; faults = refl; sure = refl }
 
 only_part : (to : List ℕ) (folder folder' : FolderView) (bytes : List ℕ) → PutsPart folder to bytes folder' → AddsPart folder (file to bytes ∷ []) folder'
 only_part to folder folder' bytes part = record { before = []; next = file to bytes; rest = []; files_are = refl; part = part }
@@ -243,19 +230,47 @@ put_refused to bytes folder folder' folders.OutOfMemory stop is part = subst (λ
 
 -- ---- where the steps before the file stopped
 
-made_stop : (b : BurnLine) (gives : Image → Outcome) (before : World) (source' : SourceView) (stop : Stop) → Makes (BurnOutcome b before.source.files) gives before.source (Err stop) source' → BurnEnds b before (Err stop) (world source' before.keeper before.folder)
-made_stop b gives before source' stops.WordsRefused made = absurd made
-made_stop b gives before source' (stops.Broken rule) made = record { outcome = made.0; source = made.1; keeper = unused before.keeper; folder = refl }
-made_stop b gives before source' stops.SourceFault made = record { used = refl; source = made; keeper = unused before.keeper; folder = refl }
-made_stop b gives before source' stops.FolderFault made = absurd made
-made_stop b gives before source' stops.KeeperFault made = absurd made
-made_stop b gives before source' stops.OutOfMemory made = untouched made (unused before.keeper) refl
+-- what stands at IN gives this outcome
+answered : (b : BurnLine) (paths : BurnPaths) (told : Option FileMap) (answer : Result Image Rule) (outcome : Outcome) → paths_of b ≡ Some paths → AnswersAt paths.from told answer → burn_gives b.form paths.to (burn_read b.area answer) ≡ outcome → BurnOutcome b told outcome
+answered b paths told answer outcome named at is = outcome_is b paths told at.found answer outcome named at.answers at.there is
+
+read_stop_ends : (b : BurnLine) (paths : BurnPaths) (before : World) (source' : SourceView) (stop : Stop) → paths_of b ≡ Some paths → ReadsPage paths.from before.source (Err stop) source' → BurnEnds b before (Err stop) (world source' before.keeper before.folder)
+read_stop_ends b paths before source' stops.WordsRefused named read = absurd read
+read_stop_ends b paths before source' (stops.Broken rule) named read = record {
+  outcome = answered b paths before.source.files (Err rule) (refused rule) named read.0 refl;
+  source = read.1;
+  keeper = unused before.keeper;
+  quiet = refl;
+  folder = refl;
+}
+read_stop_ends b paths before source' stops.SourceFault named read = record { used = refl; source = read; keeper = unused before.keeper; folder = refl }
+read_stop_ends b paths before source' stops.FolderFault named read = absurd read
+read_stop_ends b paths before source' stops.KeeperFault named read = absurd read
+read_stop_ends b paths before source' stops.OutOfMemory named read = untouched read (unused before.keeper) refl
 
 -- the same, by the result that a `?` hands on
-pub made_stops : (b : BurnLine) (gives : Image → Outcome) (before : World) (source' : SourceView) (stop : Stop) (r : Ending) → IsErr r → IsErrAnd r (λ s. s ≡ stop) → Makes (BurnOutcome b before.source.files) gives before.source (Err stop) source' → BurnEnds b before r (world source' before.keeper before.folder)
-made_stops b gives before source' stop (Ok line) is same made = absurd same
-made_stops b gives before source' stop (Err s) is same made =
-    subst (λ (t : Stop). BurnEnds b before (Err t) (world source' before.keeper before.folder)) (sym same) (made_stop b gives before source' stop made)
+pub read_stops : (b : BurnLine) (paths : BurnPaths) (before : World) (source' : SourceView) (stop : Stop) (r : Ending) → IsErr r → IsErrAnd r (λ s. s ≡ stop) → paths_of b ≡ Some paths → ReadsPage paths.from before.source (Err stop) source' → BurnEnds b before r (world source' before.keeper before.folder)
+read_stops b paths before source' stop (Ok line) is same named read = absurd same
+read_stops b paths before source' stop (Err s) is same named read =
+    subst (λ (t : Stop). BurnEnds b before (Err t) (world source' before.keeper before.folder)) (sym same) (read_stop_ends b paths before source' stop named read)
+
+-- a page was read, and a rule met by it or by the box
+pub box_refused : (b : BurnLine) (paths : BurnPaths) (before : World) (source' : SourceView) (p : Image) (rule : Rule) → paths_of b ≡ Some paths → ReadsPage paths.from before.source (Ok p) source' → Err rule ≡ burn_page b.area p → BurnEnds b before (Err (stops.Broken rule)) (world source' before.keeper before.folder)
+box_refused b paths before source' p rule named read met = record {
+  outcome = answered b paths before.source.files (Ok p) (refused rule) named read.0 (ap (burn_gives b.form paths.to) (sym met));
+  source = read.1
+      ∙ sym (box_rule before.source (not (sides_are_imported p.width p.height)) (lacks_a_side b.area) (lies_inside b.area p.width p.height)
+      (page_limit_rule p.width p.height) (burned p (b.area ∷ [])) rule refl (sym met));
+  keeper = unused before.keeper;
+  quiet = refl;
+  folder = refl;
+}
+
+-- or the box burned, and the file of the burned page put
+pub burned_ends : (b : BurnLine) (paths : BurnPaths) (before : World) (source' : SourceView) (folder' : FolderView) (p q : Image) (e : Ending) → paths_of b ≡ Some paths → ReadsPage paths.from before.source (Ok p) source' → Ok q ≡ burn_page b.area p → PutsPage paths.to (tiff_of b.form q) before.folder e folder' → BurnEnds b before e (world source' before.keeper folder')
+burned_ends b paths before source' folder' p q e named read is put =
+    put_ends b paths.to before source' folder' (tiff_of b.form q) e
+    (answered b paths before.source.files (Ok p) (burn_done paths.to (tiff_of b.form q)) named read.0 (ap (burn_gives b.form paths.to) (sym is))) read.1 put
 
 -- ---- a word that names a path, or none
 
@@ -278,6 +293,7 @@ path_stop b before (stops.Broken rule) named = record {
   outcome = subst (λ (r : Rule). BurnOutcome b before.source.files (refused r)) (sym named.1) (no_path_outcome b before.source.files named.0);
   source = sym (same_kind before.source path_refused rule (sym named.1) refl);
   keeper = unused before.keeper;
+  quiet = refl;
   folder = refl;
 }
 path_stop b before stops.SourceFault named = absurd named
@@ -289,3 +305,13 @@ pub path_stops : (b : BurnLine) (before : World) (stop : Stop) (r : Ending) → 
 path_stops b before stop (Ok line) is same named = absurd same
 path_stops b before stop (Err s) is same named =
     subst (λ (t : Stop). BurnEnds b before (Err t) before) (sym same) (path_stop b before stop named)
+
+-- ---- the keeper that burn leaves
+
+pub burn_reads : (b : BurnLine) (s s' : SourceView) (k : KeeperView) (f f' : FolderView) (r : Ending) → BurnEnds b (world s k f) r (world s' k f') → ReadsAndWorks (Some (burn b)) (world s k f) r (world s' k f')
+burn_reads b s s' k f f' r ends = record {
+  read = k.rows;
+  rows = record { same = rows_itself k.rows; told = told_itself k.rows };
+  left = ends;
+  calls = record { loads = refl; commits = refl };
+}

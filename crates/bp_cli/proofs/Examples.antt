@@ -29,7 +29,11 @@ use Rattle.bp_cli.specs.Commands.{burn, init, import, command_of}
 use Rattle.bp_cli.specs.Endings.{done, refused, status_of, text_of}
 use Rattle.bp_cli.specs.Runs.{all_statuses}
 use Rattle.bp_cli.specs.declared.burn.TheConstants.{FILE_LIMIT}
-use Rattle.bp_cli.specs.declared.statuses.TheConstants.{OUT_FAULT}
+use Rattle.bp_cli.specs.declared.init.TheConstants.{DIGEST_BYTES}
+use Rattle.bp_cli.specs.declared.produce.TheConstants.{MAX_WIDTH_WORD, REQUEST_WORDS}
+use Rattle.bp_cli.specs.declared.statuses.TheConstants.{DONE, WORDS_REFUSED, RULE_BROKEN, SOURCE_FAULT, FOLDER_FAULT, KEEPER_FAULT, OUT_OF_MEMORY, OUT_FAULT}
+use Rattle.bp_cli.specs.declared.words.TheConstants.{MAX_DIGITS}
+use Rattle.bp_cli.specs.Produce.{width_of}
 
 -- ---- words
 
@@ -67,6 +71,11 @@ line left = line_of_form left (codes "plain")
 worked_line : command_of (line (codes "0")) ≡ Some (burn (box 0 0 8 1))
 unfolding box line line_of_form chars
 worked_line = refl
+
+-- left, top, width and height in this order
+worked_places : command_of (codes "burn" ∷ codes "a.tif" ∷ codes "1" ∷ codes "2" ∷ codes "3" ∷ codes "4" ∷ codes "b.tif" ∷ codes "plain" ∷ []) ≡ Some (burn (box 1 2 3 4))
+unfolding box chars
+worked_places = refl
 
 g4_line : command_of (line_of_form (codes "0") (codes "g4")) ≡ Some (burn (record (box 0 0 8 1) { form = G4 }))
 unfolding box line_of_form chars
@@ -257,8 +266,26 @@ done_status = refl
 other_statuses : (status_of (Err stops.WordsRefused) ≡ 1) × (status_of (Err (stops.Broken (bare_rule kinds.BoxShape))) ≡ 2)
 other_statuses = (refl, refl)
 
-last_statuses : (status_of (Err stops.FolderFault) ≡ 4) × (status_of (Err stops.OutOfMemory) ≡ 6) × (OUT_FAULT ≡ 7)
-last_statuses = (refl, refl, refl)
+last_statuses : (status_of (Err stops.FolderFault) ≡ 4) × (status_of (Err stops.OutOfMemory) ≡ 6)
+last_statuses = (refl, refl)
+
+statuses_of_work : (DONE ≡ 0) × (WORDS_REFUSED ≡ 1) × (RULE_BROKEN ≡ 2) × (SOURCE_FAULT ≡ 3) × (FOLDER_FAULT ≡ 4) × (KEEPER_FAULT ≡ 5) × (OUT_OF_MEMORY ≡ 6) × (OUT_FAULT ≡ 7)
+statuses_of_work = (refl, refl, refl, refl, refl, refl, refl, refl)
 
 longest_file : FILE_LIMIT ≡ 134217728
 longest_file = refl
+
+digest_bytes : DIGEST_BYTES ≡ 32
+digest_bytes = refl
+
+most_digits : MAX_DIGITS ≡ 9
+most_digits = refl
+
+words_before_fields : REQUEST_WORDS ≡ 6
+words_before_fields = refl
+
+greatest_width : MAX_WIDTH_WORD ≡ 255
+greatest_width = refl
+
+widths : (width_of (codes "255") ≡ Some 255) × (width_of (codes "256") ≡ None)
+widths = (refl, refl)

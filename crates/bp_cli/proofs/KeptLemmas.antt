@@ -1,7 +1,8 @@
 -- Lemmas of kept rows: what loading the tables, and a step behind it, leave of a keeper, and what was
 -- told of its rows.
-use Rattle.std.proofs.Common.{ℕ, ◌≡◌, List, [], ◌∷◌, Option, Some, None, Result, Ok, Err, refl, sym, ap, subst, ◌∙◌}
-use Rattle.std.specs.Prelude.{IfSome}
+use Rattle.std.proofs.Common.{ℕ, ◌≡◌, Bool, true, false, List, [], ◌∷◌, Option, Some, None, Result, Ok, Err, refl, sym, ap, subst, ◌∙◌}
+use Rattle.std.specs.Prelude.{is_some, IfSome, IsTrue}
+use Rattle.std.specs.Option.{option_map}
 use Rattle.std.specs.Result.{IsErr, IsErrAnd}
 use Rattle.bp_core.specs.Rules.{bare_rule}
 use Rattle.bp_core.specs.declared.kept.Row.{Row}
@@ -16,11 +17,11 @@ use Rattle.bp_matter.specs.Matter.{Matter, Shown}
 use Rattle.bp_matter.specs.ReadTables.{bad_rule, least_bad}
 use Rattle.bp_matter.specs.Valid.{IsValid}
 use Rattle.bp_rules.specs.Loading.{IsLoadRule, LoadedFrom, LoadsTables}
-use Rattle.bp_rules.specs.Steps.{Stays}
-use Rattle.bp_rules.specs.declared.loading.LoadRefusal.{LoadRefusal}
-use Rattle.bp_rules.specs.declared.loading.LoadRefusal.TheVariants as loads
+use Rattle.bp_rules.specs.Steps.{AtMostOnce, never, once, Stays}
+use Rattle.bp_rules.specs.declared.refusals.MatterRefusal.{MatterRefusal}
+use Rattle.bp_rules.specs.declared.refusals.MatterRefusal.TheVariants as loads
 use Rattle.bp_cli.specs.declared.stops.Stop.{Stop}
-use Rattle.bp_cli.specs.Endings.{Ending, KeeperLeft}
+use Rattle.bp_cli.specs.Endings.{Ending, CallsKeeper, KeeperLeft, RisesIf, RowsRead, Uses}
 use Rattle.bp_cli.specs.Kept.{CanBeLoaded, MatterAnswers}
 
 -- what a `?` hands on, by what the refusal became
@@ -75,19 +76,83 @@ keeps_matter None tables loaded = tt
 keeps_matter (Some []) tables loaded = absurd loaded
 keeps_matter (Some (row ∷ rows)) tables loaded = loaded.0
 
--- rows that one step left and the next kept
-pub rows_same : (was mid now : Option (List Row)) → SameRows was mid → IfSome now (λ rows. mid ≡ Some rows) → SameRows was now
-rows_same None mid now same left = tt
-rows_same (Some rows) mid None same left = tt
-rows_same (Some rows) None (Some here) same left = let no : None ≡ Some here = left in cc
-rows_same (Some rows) (Some there) (Some here) same left = let is : Some there ≡ Some here = left in let e : there ≡ here = cc in sym e ∙ same
+-- ---- how often the keeper was asked
 
-pub load_left : (before mid : KeeperView) (r : Result Shown LoadRefusal) (count : ℕ) → LoadsTables before r mid → mid.faults ≡ count → KeeperLeft None count before mid
-load_left before mid r count loads faults = record { rows = loads.same; faults = faults; sure = loads.sure }
+-- nothing was committed
+pub never_rose : (may : Bool) (before now : ℕ) → now ≡ before → RisesIf may before now
+never_rose true before now same = never same
+never_rose false before now same = same
 
-pub stays_left : (before mid k' : KeeperView) (tables : Shown) (m m' : Matter) (count : ℕ) → LoadsTables before (Ok tables) mid → Stays m mid count m' k' → KeeperLeft None count before k'
+-- what was loaded once, and then kept at most once
+pub called_then : (before mid now : ℕ) → mid ≡ before → AtMostOnce mid now → AtMostOnce before now
+called_then before mid now same rose = subst (λ (n : ℕ). AtMostOnce n now) same rose
+
+-- the keeper was asked for its rows alone
+pub load_calls : (uses : Uses) (before mid : KeeperView) (r : Result Shown MatterRefusal) → uses.rows ≡ true → LoadsTables before r mid → CallsKeeper uses before mid
+load_calls uses before mid r used loads = record {
+  loads = subst (λ (b : Bool). RisesIf b before.loads mid.loads) (sym used) (once loads.loads);
+  commits = never_rose uses.commits before.commits mid.commits loads.commits;
+}
+
+-- and then for nothing, or to commit
+pub step_calls : (uses : Uses) (before mid now : KeeperView) (tables : Shown) → uses.rows ≡ true → uses.commits ≡ true → LoadsTables before (Ok tables) mid → now.loads ≡ mid.loads → AtMostOnce mid.commits now.commits → CallsKeeper uses before now
+step_calls uses before mid now tables used may loads same rose = record {
+  loads = subst (λ (b : Bool). RisesIf b before.loads now.loads) (sym used) (once (same ∙ loads.loads));
+  commits = subst (λ (b : Bool). RisesIf b before.commits now.commits) (sym may) (called_then before.commits mid.commits now.commits loads.commits rose);
+}
+
+pub quiet_calls : (uses : Uses) (before mid now : KeeperView) (tables : Shown) → uses.rows ≡ true → uses.commits ≡ true → LoadsTables before (Ok tables) mid → now ≡ mid → CallsKeeper uses before now
+quiet_calls uses before mid now tables used may loads same =
+    subst (λ (k : KeeperView). CallsKeeper uses before k) (sym same) (load_calls uses before mid (Ok tables) used loads)
+
+-- ---- the rows as they were read
+
+-- the keeper from before, with the rows as they were loaded
+abbrev pub as_loaded : KeeperView → KeeperView → KeeperView
+as_loaded before mid = record before { rows = mid.rows }
+
+pub rows_itself : (rows : Option (List Row)) → SameRows rows rows
+rows_itself None = tt
+rows_itself (Some rows) = refl
+
+pub rows_left : (mid now : Option (List Row)) → IfSome now (λ rows. mid ≡ Some rows) → SameRows mid now
+rows_left None now left = tt
+rows_left (Some rows) None left = tt
+rows_left (Some rows) (Some here) left = let is : Some rows ≡ Some here = left in let e : rows ≡ here = cc in sym e
+
+pub told_itself : (rows : Option (List Row)) → IfSome rows (λ _. IsTrue (is_some rows))
+told_itself None = tt
+told_itself (Some rows) = refl
+
+-- a step begins to tell no rows
+pub told_then : (f : List Row → List Row) (mid now : Option (List Row)) → IfSome now (λ rows. option_map f mid ≡ Some rows) → IfSome now (λ _. IsTrue (is_some mid))
+told_then f mid None left = tt
+told_then f None (Some here) left = let no : None ≡ Some here = left in cc
+told_then f (Some rows) (Some here) left = refl
+
+told_left : (mid now : Option (List Row)) → IfSome now (λ rows. mid ≡ Some rows) → IfSome now (λ _. IsTrue (is_some mid))
+told_left mid None left = tt
+told_left None (Some here) left = let no : None ≡ Some here = left in cc
+told_left (Some rows) (Some here) left = refl
+
+-- what was loaded last was read
+pub read_itself : (before mid : KeeperView) → SameRows before.rows mid.rows → RowsRead before.rows mid.rows mid.rows
+read_itself before mid same = record { same = same; told = told_itself mid.rows }
+
+-- and where what followed left the rows
+pub read_left : (before mid now : KeeperView) → SameRows before.rows mid.rows → IfSome now.rows (λ rows. mid.rows ≡ Some rows) → RowsRead before.rows mid.rows now.rows
+read_left before mid now same left = record { same = same; told = told_left mid.rows now.rows left }
+
+-- and where nothing followed
+pub read_same : (before mid now : KeeperView) → SameRows before.rows mid.rows → now ≡ mid → RowsRead before.rows mid.rows now.rows
+read_same before mid now same is = subst (λ (k : KeeperView). RowsRead before.rows mid.rows k.rows) (sym is) (read_itself before mid same)
+
+pub load_left : (before mid : KeeperView) (r : Result Shown MatterRefusal) (count : ℕ) → LoadsTables before r mid → mid.faults ≡ count → KeeperLeft None count (as_loaded before mid) mid
+load_left before mid r count loads faults = record { rows = rows_itself mid.rows; faults = faults; sure = loads.sure }
+
+pub stays_left : (before mid k' : KeeperView) (tables : Shown) (m m' : Matter) (count : ℕ) → LoadsTables before (Ok tables) mid → Stays m mid count m' k' → KeeperLeft None count (as_loaded before mid) k'
 stays_left before mid k' tables m m' count loaded stays =
-    record { rows = rows_same before.rows mid.rows k'.rows loaded.same stays.rows; faults = stays.faults; sure = stays.sure ∙ loaded.sure }
+    record { rows = rows_left mid.rows k'.rows stays.rows; faults = stays.faults; sure = stays.sure ∙ loaded.sure }
 
 pub count_left : (before after : KeeperView) (count count' : ℕ) → count ≡ count' → KeeperLeft None count before after → KeeperLeft None count' before after
 count_left before after count count' same left = record { rows = left.rows; faults = left.faults ∙ same; sure = left.sure }

@@ -9,6 +9,7 @@ use Rattle.bp_core.specs.declared.review.Role.{Role}
 use Rattle.bp_core.specs.declared.review.Role.TheVariants.{Lead}
 use Rattle.bp_core.specs.declared.rules.Rule.{Rule}
 use Rattle.bp_keep.specs.Keeper.{KeeperView}
+use Rattle.bp_keep.specs.Puts.{put_all}
 use Rattle.bp_matter.specs.LookUps.{lead_digest_in, staff_with}
 use Rattle.bp_matter.specs.Matter.{Matter}
 use Rattle.bp_matter.specs.Valid.{IsValid}
@@ -22,16 +23,17 @@ use Rattle.bp_matter.specs.declared.rows.StaffRow.{StaffRow}
 use Rattle.bp_freeze.specs.Freezing.{freeze_of}
 use Rattle.bp_freeze.specs.Keeping.{frozen_matter}
 use Rattle.bp_freeze.proofs.PutRowLemmas.{text-same}
-use Rattle.bp_rules.specs.Changes.{after}
+use Rattle.bp_rules.specs.Changes.{after, puts_of}
 use Rattle.bp_rules.specs.Roles.{is_clerk}
 use Rattle.bp_rules.specs.Stepping.{Stepped, freeze, step_for, step_of}
 use Rattle.bp_rules.specs.Steps.{CallMade, Stays, StepsCall}
-use Rattle.bp_rules.specs.declared.stepping.StepRefusal.{StepRefusal}
-use Rattle.bp_rules.specs.declared.stepping.StepRefusal.TheVariants as steps
+use Rattle.bp_rules.specs.declared.refusals.MatterRefusal.{MatterRefusal}
+use Rattle.bp_rules.specs.declared.refusals.MatterRefusal.TheVariants as refusals
 use Rattle.bp_cli.specs.declared.stops.Stop.{Stop}
 use Rattle.bp_cli.specs.declared.stops.Stop.TheVariants as stops
 use Rattle.bp_cli.specs.Producing.{Freezes, Froze, IsProduced}
-use Rattle.bp_cli.specs.Stops.{StopsForStep}
+use Rattle.bp_cli.specs.Stops.{StopsForMatter}
+use Rattle.bp_cli.proofs.KeptLemmas.{told_then}
 
 -- ---- the lead
 
@@ -89,7 +91,10 @@ froze m q key keeper reply f m' keeper' valid lead made is =
       answer = told.is ∙ ap (λ (g : Production). Ok g) same;
       matter = made.made.matter ∙ told.left ∙ ap (λ (g : Production). frozen_matter g m) same;
       kept = made.made.kept;
+      told = told_then (put_all (puts_of made.edit)) keeper.rows keeper'.rows made.made.puts;
       faults = made.made.faults;
+      loads = made.made.loads;
+      commits = made.made.commits;
       sure = made.made.sure;
     }
 
@@ -101,12 +106,12 @@ has_production m q key keeper reply m' keeper' valid lead made =
 
 -- ---- and where it is refused
 
-pub freeze_stops : (m : Matter) (q : Request) (key : List ℕ) (keeper : KeeperView) (m' : Matter) (keeper' : KeeperView) (refusal : StepRefusal) (stop : Stop) → IsValid m → key ≡ lead_digest_in m.staff
-    → StepsCall m key (Freeze q) keeper (Err refusal) m' keeper' → StopsForStep refusal stop → Freezes m q keeper (Err stop) m' keeper'
-freeze_stops m q key keeper m' keeper' (steps.Rule rule) stop valid lead step is =
+pub freeze_stops : (m : Matter) (q : Request) (key : List ℕ) (keeper : KeeperView) (m' : Matter) (keeper' : KeeperView) (refusal : MatterRefusal) (stop : Stop) → IsValid m → key ≡ lead_digest_in m.staff
+    → StepsCall m key (Freeze q) keeper (Err refusal) m' keeper' → StopsForMatter refusal stop → Freezes m q keeper (Err stop) m' keeper'
+freeze_stops m q key keeper m' keeper' (refusals.Rule rule) stop valid lead step is =
     subst (λ (s : Stop). Freezes m q keeper (Err s) m' keeper') (sym is)
     (refused_by m (freeze_of m q) rule (sym (lead_step m valid q) ∙ ap (λ (k : List ℕ). step_of m k (Freeze q)) (sym lead) ∙ step.0), step.2)
-freeze_stops m q key keeper m' keeper' steps.KeeperFault stop valid lead step is =
+freeze_stops m q key keeper m' keeper' refusals.KeeperFault stop valid lead step is =
     subst (λ (s : Stop). Freezes m q keeper (Err s) m' keeper') (sym is) step.1
-freeze_stops m q key keeper m' keeper' steps.OutOfMemory stop valid lead step is =
+freeze_stops m q key keeper m' keeper' refusals.OutOfMemory stop valid lead step is =
     subst (λ (s : Stop). Freezes m q keeper (Err s) m' keeper') (sym is) step

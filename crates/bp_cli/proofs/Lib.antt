@@ -15,3 +15,4 @@ mod RowsLemmas
 mod RunLemmas
 mod StatusLemmas
 mod WordLemmas
+mod WorkLemmas

@@ -12,10 +12,10 @@ use Rattle.bp_outside.specs.declared.files.FileRow.{FileRow}
 use Rattle.bp_cli.specs.declared.stops.Stop.TheVariants as stops
 use Rattle.bp_cli.specs.Endings as outcomes
 use Rattle.bp_press.specs.Writing.{AddsPart, with_files}
-use Rattle.bp_cli.specs.Endings.{Outcome, Ending, World, status_of, text_of, refused_line, failed_folder}
-use Rattle.bp_cli.specs.Commands.{CommandLine, Matter, uses_of, IsOutcome, ComesTo, AreKnown, AlikeFor, ShowAlike, Works}
+use Rattle.bp_cli.specs.Endings.{Outcome, Ending, World, LacksMemory, untouched, kept, partly, wholly, with_rows, status_of, text_of, refused_line, failed_folder}
+use Rattle.bp_cli.specs.Commands.{CommandLine, Inputs, uses_of, IsOutcome, ComesTo, AreKnown, AlikeFor, ShowAlike, Works, ReadsAndWorks, uses_by}
 use Rattle.bp_cli.specs.Printing.{Prints, whole, cut, lacking, instead}
-use Rattle.bp_cli.specs.Runs.{Outside, Tells, Asks, Completes, SourceFailed, FolderFailed, KeeperFailed, InputsServed, NoneFailed, uses_by, AreSure, Ended, RanShort, WasCut, Gives, GivesAlike, IsAmong, outcome_status, Runs}
+use Rattle.bp_cli.specs.Runs.{Outside, Tells, Asks, Completes, SourceFailed, FolderFailed, KeeperFailed, InputsServed, NoneFailed, AreSure, Ended, RanShort, WasCut, Gives, GivesAlike, IsAmong, outcome_status, outcome_files, AddsFirst, nothing_added, part_added, all_added, GivesFirst, Promises, Runs}
 use Rattle.bp_cli.proofs.StatusLemmas.{rose_at, whole_of, out_rose, out_sure, among_three, among_two, status_known, is_done, is_words_refused, is_broken, is_source_fault, is_folder_fault, is_keeper_fault, lacking_part, cut_part}
 
 -- ---- what an ending says
@@ -101,19 +101,19 @@ keeper_used : (command : Option CommandLine) (before after : World) → Works co
 keeper_used None before after worked = absurd (not_keeper worked.stop)
 keeper_used (Some c) before after worked = worked.used
 
--- what bp_tiff says of files makes one outcome of each command and matter
+-- what bp_tiff says of files makes one outcome of each command and its inputs
 abbrev pub OneOutcome : Type 0
-OneOutcome = (c : CommandLine) (matter : Matter) (o o' : Outcome) → ComesTo c matter o → ComesTo c matter o' → o ≡ o'
+OneOutcome = (c : CommandLine) (inputs : Inputs) (o o' : Outcome) → ComesTo c inputs o → ComesTo c inputs o' → o ≡ o'
 
 -- and each comes to one
 abbrev pub SomeOutcome : Type 0
-SomeOutcome = (c : CommandLine) (matter : Matter) → AreKnown c matter → (o : Outcome) × ComesTo c matter o
+SomeOutcome = (c : CommandLine) (inputs : Inputs) → AreKnown c inputs → (o : Outcome) × ComesTo c inputs o
 
--- the outcome over a told matter
+-- the outcome over told inputs
 abbrev pub ToldOutcome : Type 0
-ToldOutcome = (c : CommandLine) (before : World) (matter : Matter) (outcome : Outcome)
-    → Tells (uses_of c).files before.source.files matter.files → Tells (uses_of c).rows before.keeper.rows matter.rows
-    → IsOutcome c before outcome → ComesTo c matter outcome
+ToldOutcome = (c : CommandLine) (before : World) (inputs : Inputs) (outcome : Outcome)
+    → Tells (uses_of c).files before.source.files inputs.files → Tells (uses_of c).rows before.keeper.rows inputs.rows
+    → IsOutcome c before outcome → ComesTo c inputs outcome
 
 not_both : (line : List ℕ) (files : List FileRow) (rows : Option (List Row)) (rule : Rule) → outcomes.done line files rows ≡ outcomes.refused rule → ⊥
 not_both line files rows rule same = cc
@@ -125,13 +125,13 @@ Served c before after =
     × (IsTrue (uses_of c).rows → Rose before.keeper.faults after.keeper.faults → ⊥)
 
 -- what the words ask, the command being one
-module _ (one : OneOutcome) (told : ToldOutcome) (c : CommandLine) (before after : World) (matter : Matter) (files : Tells (uses_of c).files before.source.files matter.files) (rows : Tells (uses_of c).rows before.keeper.rows matter.rows) where
-  -- the outcome of the work is the one of the matter
-  same_outcome : (o outcome : Outcome) → ComesTo c matter outcome → IsOutcome c before o → o ≡ outcome
-  same_outcome o outcome comes is = one c matter o outcome (told c before matter o files rows is) comes
+module _ (one : OneOutcome) (told : ToldOutcome) (c : CommandLine) (before after : World) (inputs : Inputs) (files : Tells (uses_of c).files before.source.files inputs.files) (rows : Tells (uses_of c).rows before.keeper.rows inputs.rows) where
+  -- the outcome of the work is the one of the inputs
+  same_outcome : (o outcome : Outcome) → ComesTo c inputs outcome → IsOutcome c before o → o ≡ outcome
+  same_outcome o outcome comes is = one c inputs o outcome (told c before inputs o files rows is) comes
 
   -- where a rule is met and the inputs didn't fail, the work ends by a rule or for want of memory
-  met_ending : (rule : Rule) (e : Ending) → ComesTo c matter (outcomes.refused rule) → Served c before after → Works (Some c) before e after → (status_of e ≡ 2) ⊎ (status_of e ≡ 6)
+  met_ending : (rule : Rule) (e : Ending) → ComesTo c inputs (outcomes.refused rule) → Served c before after → Works (Some c) before e after → (status_of e ≡ 2) ⊎ (status_of e ≡ 6)
   met_ending rule (Ok line) met served worked =
       absurd (not_both line worked.files worked.rows rule (same_outcome _ _ met worked.outcome))
   met_ending rule (Err stops.WordsRefused) met served worked = absurd worked
@@ -143,7 +143,7 @@ module _ (one : OneOutcome) (told : ToldOutcome) (c : CommandLine) (before after
   met_ending rule (Err stops.OutOfMemory) met served worked = inr refl
 
   -- where nothing failed, the work ends as the outcome says, or for want of memory
-  full_ending : (outcome : Outcome) (e : Ending) → ComesTo c matter outcome → Served c before after → (Rose before.folder.faults after.folder.faults → ⊥) → Works (Some c) before e after → (status_of e ≡ outcome_status outcome) ⊎ (status_of e ≡ 6)
+  full_ending : (outcome : Outcome) (e : Ending) → ComesTo c inputs outcome → Served c before after → (Rose before.folder.faults after.folder.faults → ⊥) → Works (Some c) before e after → (status_of e ≡ outcome_status outcome) ⊎ (status_of e ≡ 6)
   full_ending outcome (Ok line) comes served quiet worked = inl (ap outcome_status (same_outcome _ _ comes worked.outcome))
   full_ending outcome (Err stops.WordsRefused) comes served quiet worked = absurd worked
   full_ending outcome (Err (stops.Broken r)) comes served quiet worked = inl (ap outcome_status (same_outcome _ _ comes worked.outcome))
@@ -153,18 +153,54 @@ module _ (one : OneOutcome) (told : ToldOutcome) (c : CommandLine) (before after
   full_ending outcome (Err stops.OutOfMemory) comes served quiet worked = inr refl
 
 -- what came out of a command that ended by its outcome
-module _ (one : OneOutcome) (told : ToldOutcome) (c : CommandLine) (before after : Outside) (matter : Matter) (outcome : Outcome) (files : Tells (uses_of c).files before.world.source.files matter.files) (rows : Tells (uses_of c).rows before.world.keeper.rows matter.rows) (comes : ComesTo c matter outcome) where
+module _ (one : OneOutcome) (told : ToldOutcome) (c : CommandLine) (before after : Outside) (inputs : Inputs) (outcome : Outcome) (files : Tells (uses_of c).files before.world.source.files inputs.files) (rows : Tells (uses_of c).rows before.world.keeper.rows inputs.rows) (comes : ComesTo c inputs outcome) where
   done_gives : (line : List ℕ) → Works (Some c) before.world (Ok line) after.world → after.out ≡ with_written before.out line → Gives outcome before after
   done_gives line worked written =
       subst (λ (o : Outcome). Gives o before after)
-      (same_outcome one told c before.world after.world matter files rows (outcomes.done line worked.files worked.rows) outcome comes worked.outcome)
+      (same_outcome one told c before.world after.world inputs files rows (outcomes.done line worked.files worked.rows) outcome comes worked.outcome)
       (record { files = worked.folder; rows = worked.keeper.rows; printed = written })
 
   refused_gives : (rule : Rule) → Works (Some c) before.world (Err (stops.Broken rule)) after.world → after.out ≡ with_written before.out (refused_line rule) → Gives outcome before after
   refused_gives rule worked written =
       subst (λ (o : Outcome). Gives o before after)
-      (same_outcome one told c before.world after.world matter files rows (outcomes.refused rule) outcome comes worked.outcome)
+      (same_outcome one told c before.world after.world inputs files rows (outcomes.refused rule) outcome comes worked.outcome)
       (record { files = worked.folder; rows = worked.keeper.rows; printed = written })
+
+-- ---- what a folder got, however the work ended
+
+-- outcomes that show the same have the same files
+shown_files : (c : CommandLine) (o other : Outcome) → ShowAlike c o other → outcome_files o ≡ outcome_files other
+shown_files c (outcomes.done line files rows) (outcomes.done line' files' rows') same = same.1
+shown_files c (outcomes.refused rule) (outcomes.refused rule') same = refl
+shown_files c (outcomes.done line files rows) (outcomes.refused rule) same = absurd same
+shown_files c (outcomes.refused rule) (outcomes.done line files rows) same = absurd same
+
+none_given : (files : List FileRow) (before after : FolderView) → after ≡ before → GivesFirst files before after
+none_given files before after is = record { folder = before; failed = inl refl; adds = nothing_added is }
+
+-- a folder that got a first part of the files of the outcome of the inputs
+module _ (one : OneOutcome) (told : ToldOutcome) (c : CommandLine) (before after : World) (inputs : Inputs) (outcome : Outcome) (files : Tells (uses_of c).files before.source.files inputs.files) (rows : Tells (uses_of c).rows before.keeper.rows inputs.rows) (comes : ComesTo c inputs outcome) where
+  -- the files that the work had are those of the outcome
+  its_files : (line : List ℕ) (had : List FileRow) (stands : Option (List Row)) → IsOutcome c before (outcomes.done line had stands) → had ≡ outcome_files outcome
+  its_files line had stands is = ap outcome_files (same_outcome one told c before after inputs files rows (outcomes.done line had stands) outcome comes is)
+
+  given : (line : List ℕ) (had : List FileRow) (stands : Option (List Row)) → IsOutcome c before (outcomes.done line had stands) → GivesFirst had before.folder after.folder → GivesFirst (outcome_files outcome) before.folder after.folder
+  given line had stands is gives = subst (λ (fs : List FileRow). GivesFirst fs before.folder after.folder) (its_files line had stands is) gives
+
+  lacking_given : LacksMemory (IsOutcome c before) before after → GivesFirst (outcome_files outcome) before.folder after.folder
+  lacking_given (untouched source keeper folder) = none_given (outcome_files outcome) before.folder after.folder folder
+  lacking_given (kept line had left is source keeper folder) = none_given (outcome_files outcome) before.folder after.folder folder
+  lacking_given (partly line had left is source keeper folder) = given line had left is (record { folder = before.folder; failed = inl refl; adds = part_added folder })
+  lacking_given (wholly line had left is source keeper folder) = given line had left is (record { folder = before.folder; failed = inl refl; adds = all_added folder })
+
+  first_given : (e : Ending) → Works (Some c) before e after → GivesFirst (outcome_files outcome) before.folder after.folder
+  first_given (Ok line) worked = given line worked.files worked.rows worked.outcome (record { folder = before.folder; failed = inl refl; adds = all_added worked.folder })
+  first_given (Err stops.WordsRefused) worked = absurd worked
+  first_given (Err (stops.Broken rule)) worked = none_given (outcome_files outcome) before.folder after.folder worked.folder
+  first_given (Err stops.SourceFault) worked = none_given (outcome_files outcome) before.folder after.folder worked.folder
+  first_given (Err stops.KeeperFault) worked = none_given (outcome_files outcome) before.folder after.folder worked.folder
+  first_given (Err stops.FolderFault) worked = given worked.line worked.files worked.rows worked.outcome (record { folder = failed_folder before.folder; failed = inr refl; adds = part_added worked.folder })
+  first_given (Err stops.OutOfMemory) worked = lacking_given worked
 
 -- ---- objects that can't fail
 
@@ -283,39 +319,39 @@ module _ (command : Option CommandLine) (before after : Outside) (status : ℕ) 
   worked_for : (c : CommandLine) → command ≡ Some c → Works (Some c) before.world e after.world
   worked_for c is = subst (λ (o : Option CommandLine). Works o before.world e after.world) is worked
 
-  run_rule_met : OneOutcome → ToldOutcome → (c : CommandLine) (matter : Matter) (rule : Rule) → Asks command before c matter → ComesTo c matter (outcomes.refused rule) → InputsServed (uses_of c) before after → IsAmong status (2 ∷ 6 ∷ 7 ∷ [])
-  run_rule_met one told c matter rule asks met served =
+  run_rule_met : OneOutcome → ToldOutcome → (c : CommandLine) (inputs : Inputs) (rule : Rule) → Asks command before c inputs → ComesTo c inputs (outcomes.refused rule) → InputsServed (uses_of c) before after → IsAmong status (2 ∷ 6 ∷ 7 ∷ [])
+  run_rule_met one told c inputs rule asks met served =
       among_three (text_of e) (status_of e) before.out after.out status 2
-      (met_ending one told c before.world after.world matter asks.files asks.rows rule e met (served.source, served.keeper) (worked_for c asks.words)) printed
+      (met_ending one told c before.world after.world inputs asks.files asks.rows rule e met (served.source, served.keeper) (worked_for c asks.words)) printed
 
-  run_complete : OneOutcome → SomeOutcome → ToldOutcome → (c : CommandLine) (matter : Matter) → Asks command before c matter → AreKnown c matter → NoneFailed (uses_of c) before after → Completes c matter status
-  run_complete one some told c matter asks known none =
-      let there = some c matter known in
+  run_complete : OneOutcome → SomeOutcome → ToldOutcome → (c : CommandLine) (inputs : Inputs) → Asks command before c inputs → AreKnown c inputs → NoneFailed (uses_of c) before after → Completes c inputs status
+  run_complete one some told c inputs asks known none =
+      let there = some c inputs known in
       record {
         outcome = there.0;
         comes = there.1;
         among = among_two (text_of e) (status_of e) before.out after.out status (outcome_status there.0) none.out
-            (full_ending one told c before.world after.world matter asks.files asks.rows there.0 e there.1 (none.inputs.source, none.inputs.keeper) none.folder (worked_for c asks.words)) printed;
+            (full_ending one told c before.world after.world inputs asks.files asks.rows there.0 e there.1 (none.inputs.source, none.inputs.keeper) none.folder (worked_for c asks.words)) printed;
       }
 
-  run_gives : OneOutcome → ToldOutcome → (c : CommandLine) (matter : Matter) (outcome : Outcome) → Asks command before c matter → ComesTo c matter outcome → (status ≡ 0) ⊎ (status ≡ 2) → Gives outcome before after
-  run_gives one told c matter outcome asks comes (inl done) =
+  run_gives : OneOutcome → ToldOutcome → (c : CommandLine) (inputs : Inputs) (outcome : Outcome) → Asks command before c inputs → ComesTo c inputs outcome → (status ≡ 0) ⊎ (status ≡ 2) → Gives outcome before after
+  run_gives one told c inputs outcome asks comes (inl done) =
       let d = run_done done in
-      done_gives one told c before after matter outcome asks.files asks.rows comes d.0 (subst (λ (o : Option CommandLine). Works o before.world (Ok d.0) after.world) asks.words d.1.worked) d.1.printed
-  run_gives one told c matter outcome asks comes (inr refused) =
+      done_gives one told c before after inputs outcome asks.files asks.rows comes d.0 (subst (λ (o : Option CommandLine). Works o before.world (Ok d.0) after.world) asks.words d.1.worked) d.1.printed
+  run_gives one told c inputs outcome asks comes (inr refused) =
       let r = run_refused refused in
-      refused_gives one told c before after matter outcome asks.files asks.rows comes r.0 (subst (λ (o : Option CommandLine). Works o before.world (Err (stops.Broken r.0)) after.world) asks.words r.1.worked) r.1.printed
+      refused_gives one told c before after inputs outcome asks.files asks.rows comes r.0 (subst (λ (o : Option CommandLine). Works o before.world (Err (stops.Broken r.0)) after.world) asks.words r.1.worked) r.1.printed
 
--- an outcome of this matter that shows the same as that one of another
-pub record AlikeOutcome (c : CommandLine) (matter : Matter) (other : Outcome) : Type 0 where
+-- an outcome of these inputs that shows the same as that one of others
+pub record AlikeOutcome (c : CommandLine) (inputs : Inputs) (other : Outcome) : Type 0 where
   pub outcome : Outcome
-  pub comes : ComesTo c matter outcome
+  pub comes : ComesTo c inputs outcome
   pub same : ShowAlike c outcome other
 
--- where two matters differ only in what the command withholds, the outcome of one shows the same as
--- that of the other
+-- where inputs differ only in what the command withholds, the outcome of one shows the same as that
+-- of the other
 abbrev pub TwoMatters : Type 0
-TwoMatters = (c : CommandLine) (matter matter' : Matter) (other : Outcome) → AlikeFor c matter matter' → ComesTo c matter' other → AlikeOutcome c matter other
+TwoMatters = (c : CommandLine) (inputs inputs' : Inputs) (other : Outcome) → AlikeFor c inputs inputs' → ComesTo c inputs' other → AlikeOutcome c inputs other
 
 -- what the commands say of their outcomes
 pub record Outcomes : Type 0 where
@@ -341,8 +377,8 @@ sure_world command before after sure laws = record {
   folder_law = laws.folder;
 }
 
-pub runs : Outcomes → (command : Option CommandLine) (before after : Outside) (status : ℕ) (e : Ending) → Works command before.world e after.world → Prints (text_of e) (status_of e) before.out after.out status → SureLaws after → Runs command before after status
-runs all command before after status e worked printed laws = record {
+promises : Outcomes → (command : Option CommandLine) (before after : Outside) (status : ℕ) (e : Ending) → Works command before.world e after.world → Prints (text_of e) (status_of e) before.out after.out status → SureLaws after → Promises command before after status
+promises known command before after status e worked printed laws = record {
   known = status_known (text_of e) e before.out after.out status printed;
   done = run_done command before after status e worked printed;
   words_refused = run_words_refused command before after status e worked printed;
@@ -353,16 +389,29 @@ runs all command before after status e worked printed laws = record {
   lacking = run_lacking command before after status e worked printed;
   cut = run_cut command before after status e worked printed;
   no_command = run_no_command command before after status e worked printed;
-  rule_met = run_rule_met command before after status e worked printed all.one all.told;
-  complete = run_complete command before after status e worked printed all.one all.some all.told;
+  rule_met = run_rule_met command before after status e worked printed known.one known.told;
+  complete = run_complete command before after status e worked printed known.one known.some known.told;
   unfailing = λ sure. sure_printing (text_of e) (status_of e) before.out after.out status sure.out laws.out
       (sure_ending command before.world after.world e (sure_world command before after sure laws) worked) printed;
-  alike = λ c matter matter' other asks alike comes ended_so.
-      let there = all.two c matter matter' other alike comes in
+  alike = λ c inputs inputs' other asks alike comes ended_so.
+      let there = known.two c inputs inputs' other alike comes in
       record {
         outcome = there.outcome;
         comes = there.comes;
         same = there.same;
-        gives = run_gives command before after status e worked printed all.one all.told c matter there.outcome asks there.comes ended_so;
+        gives = run_gives command before after status e worked printed known.one known.told c inputs there.outcome asks there.comes ended_so;
       };
+  alike_part = λ c inputs inputs' other asks alike comes.
+      let there = known.two c inputs inputs' other alike comes in
+      subst (λ (files : List FileRow). GivesFirst files before.world.folder after.world.folder) (shown_files c there.outcome other there.same)
+      (first_given known.one known.told c before.world after.world inputs there.outcome asks.files asks.rows there.comes e (worked_for command before after status e worked printed c asks.words));
+}
+
+-- over the rows as they were read
+pub runs : Outcomes → (command : Option CommandLine) (before after : Outside) (status : ℕ) (e : Ending) → ReadsAndWorks command before.world e after.world → Prints (text_of e) (status_of e) before.out after.out status → SureLaws after → Runs command before after status
+runs known command before after status e worked printed laws = record {
+  read = worked.read;
+  rows = worked.rows;
+  left = promises known command (record before { world = with_rows worked.read before.world }) after status e worked.left printed laws;
+  calls = worked.calls;
 }

@@ -1,5 +1,6 @@
 -- The words of the command line, as the system gives them: with the program's name, or not at all.
-use Rattle.std.specs.Prelude.{◌≡◌, ℕ, ◌⊎◌, List, Vec, String, drop, Result, Ok, Err}
+use Rattle.std.specs.Prelude.{◌≡◌, ℕ, ◌⊎◌, false, List, Vec, String, drop, Result}
+use Rattle.std.specs.Prelude.{Ok, Err}
 use Rattle.std.specs.declared.alloc.Global.{Global}
 use Rattle.std.specs.declared.vec.IntoIter.{IntoIter}
 use Rattle.std.specs.declared.io.Error.{Error}
@@ -13,7 +14,16 @@ use Rattle.bp_cli.specs.Words.{word_bytes}
 use Rattle.bp_cli.specs.Endings.{status_of, text_of}
 use Rattle.bp_cli.specs.Commands.{command_of}
 use Rattle.bp_cli.specs.Printing.{Prints}
-use Rattle.bp_cli.specs.Runs.{Outside, Runs}
+use Rattle.bp_keep.specs.Keeper.{KeeperView}
+use Rattle.bp_keep_sql.specs.Keeper.{keeper_shown}
+use Rattle.bp_outside.specs.Out.{OutView}
+use Rattle.sqlite.specs.Held.{Held}
+use Rattle.sqlite.specs.declared.error.Error.{Error as SqlError}
+use Rattle.sqlite.specs.declared.error.Error.TheVariants as sqlite
+use Rattle.sqlite.specs.declared.error.ErrorCode.TheVariants as codes
+use Rattle.sqlite_trees.specs.declared.store.Store.{Ghosts}
+use Rattle.bp_outside.specs.Untold.{untold_source, untold_folder, untold_out}
+use Rattle.bp_cli.specs.Runs.{Outside, outside, Runs}
 
 -- the words with the program's name, or the error of the system
 abbrev pub Answer : Type 0
@@ -48,3 +58,43 @@ RunsArguments (Ok arguments) before after status =
     ⊎ StopsAtOnce stops.OutOfMemory before after status
 RunsArguments (Err error) before after status =
     StopsAtOnce (arguments_stop (error_kind error)) before after status
+
+-- ---- the program
+
+-- what is known before a run over this keeper, and nothing of what the system has
+abbrev pub beginning : KeeperView → Outside
+beginning keeper =
+    outside (untold_source (record { faults = 0; absences = 0; overlong = 0 })) keeper
+    (untold_folder false 0) (untold_out 0)
+
+-- a run from there ended with this status
+pub record RunsFrom (answer : Answer) (keeper : KeeperView) (status : ℕ) : Type 0 where
+  pub after : Outside
+  pub runs : RunsArguments answer (beginning keeper) after status
+
+-- why the program ends where its database can't be opened
+abbrev pub stop_unopened : SqlError → Stop
+stop_unopened (sqlite.SqliteFailure codes.OutOfMemory) = stops.OutOfMemory
+stop_unopened _ = stops.KeeperFault
+
+-- nothing was done, and that was printed
+pub record EndsUnopened (stop : Stop) (status : ℕ) : Type 0 where
+  pub out : OutView
+  pub printed : Prints (text_of (Err stop)) (status_of (Err stop)) (untold_out 0) out status
+
+-- what a keeper over a database shows that was just opened
+abbrev pub opened_keeper : {A : Type 0} → Ghosts A → Held A → KeeperView
+opened_keeper store connection =
+    keeper_shown store (record {
+      conn = connection;
+      numbered = false;
+      faults = 0;
+      loads = 0;
+      commits = 0;
+    })
+
+-- the program ends by a run over the database that was opened, or says that it wasn't
+abbrev pub EndsOpened : {A : Type 0} → Ghosts A → Answer → Result (Held A) SqlError → ℕ → Type 0
+EndsOpened store answer (Ok connection) status =
+    RunsFrom answer (opened_keeper store connection) status
+EndsOpened store answer (Err error) status = EndsUnopened (stop_unopened error) status

@@ -1,21 +1,19 @@
 -- What the steps of burn leave, one behind the other.
-use Rattle.std.specs.Prelude.{ℕ, ◌≡◌, List, length, Option, Some, None, Result, Ok, Err}
-use Rattle.std.specs.Prelude.{false}
-use Rattle.bp_core.specs.declared.rectangle.Rect.{Rect}
+use Rattle.std.specs.Prelude.{ℕ, ◌≡◌, false, List, length, Option, Some, None, Result, Ok, Err}
+use Rattle.std.specs.Prelude.{IfSome}
+use Rattle.std.specs.FinMap as map
 use Rattle.bp_core.specs.declared.rules.Rule.{Rule}
 use Rattle.bp_outside.specs.Folder.{FolderView, PutsPart, with_file}
-use Rattle.bp_outside.specs.Source.{SourceView}
+use Rattle.bp_outside.specs.Source.{FileMap, SourceView}
 use Rattle.bp_rows.specs.Image.{Image}
-use Rattle.bp_tiff.specs.declared.form.Form.{Form}
 use Rattle.bp_tiff.specs.Read.{TiffAnswers}
-use Rattle.bp_tiff.specs.Tiff.{tiff_of}
 use Rattle.bp_cli.specs.declared.burn.BurnPaths.{BurnPaths as Paths}
 use Rattle.bp_import.specs.Importing.{after_kind}
 use Rattle.bp_cli.specs.declared.stops.Stop.{Stop}
 use Rattle.bp_cli.specs.declared.stops.Stop.TheVariants as stops
-use Rattle.bp_cli.specs.Burn.{BurnLine, BurnPaths, paths_of, path_refused, burn_read, burn_done}
-use Rattle.bp_cli.specs.Burn.{counted_line}
-use Rattle.bp_cli.specs.Endings.{Outcome, Ending, failed_folder}
+use Rattle.bp_cli.specs.Burn.{BurnLine, BurnPaths, paths_of, path_refused, counted_line}
+use Rattle.bp_cli.specs.Burn.{PathAnswers}
+use Rattle.bp_cli.specs.Endings.{Ending, failed_folder, failed_source}
 
 -- the paths as contracts see them
 abbrev pub paths_seen : Paths → BurnPaths
@@ -41,30 +39,39 @@ NamesPaths b (Err stops.SourceFault) = ⊥
 NamesPaths b (Err stops.FolderFault) = ⊥
 NamesPaths b (Err stops.KeeperFault) = ⊥
 
--- the outcome in which this page's file is put
-abbrev pub page_put : Form → List ℕ → Image → Outcome
-page_put form to p = burn_done to (tiff_of form p)
+-- what stands at a path, told or not, answers so
+pub record AnswersAt (from : List ℕ) (told : Option FileMap) (answer : Result Image Rule)
+    : Type 0 where
+  pub found : Option (List ℕ)
+  pub there : IfSome told (λ files. map.get files from ≡ found)
+  pub answers : PathAnswers found answer
 
--- the answer to the bytes comes to this
-pub record ComesOfBytes (area : Rect) (bytes : List ℕ) (given : Result Image Rule) : Type 0 where
-  pub answer : Result Image Rule
-  pub found : TiffAnswers bytes answer
-  pub gives : burn_read area answer ≡ given
+-- the page at a path was read; or the rule was met that reading it breaks
+abbrev pub ReadsPage : List ℕ → SourceView → Result Image Stop → SourceView → Type 0
+ReadsPage from source (Ok p) source' =
+    AnswersAt from source.files (Ok p) × (source' ≡ source)
+ReadsPage from source (Err (stops.Broken rule)) source' =
+    AnswersAt from source.files (Err rule) × (source' ≡ after_kind source rule.kind)
+ReadsPage from source (Err stops.SourceFault) source' = source' ≡ failed_source source
+ReadsPage from source (Err stops.OutOfMemory) source' = source' ≡ source
+ReadsPage from source (Err stops.WordsRefused) source' = ⊥
+ReadsPage from source (Err stops.FolderFault) source' = ⊥
+ReadsPage from source (Err stops.KeeperFault) source' = ⊥
 
--- a rule that is met after a file was read, and raises no count
-pub record MeetsPageRule (area : Rect) (bytes : List ℕ) (rule : Rule) : Type 0 where
-  pub comes : ComesOfBytes area bytes (Err rule)
+-- a file breaks this rule, which raises no count
+pub record BreaksRule (bytes : List ℕ) (rule : Rule) : Type 0 where
+  pub answers : TiffAnswers bytes (Err rule)
   pub calm : (source : SourceView) → after_kind source rule.kind ≡ source
 
--- the page of the bytes with the box burned, or the rule that is met
-abbrev pub BurnsBytes : Rect → List ℕ → Result Image Stop → Type 0
-BurnsBytes area bytes (Ok p) = ComesOfBytes area bytes (Ok p)
-BurnsBytes area bytes (Err (stops.Broken rule)) = MeetsPageRule area bytes rule
-BurnsBytes area bytes (Err stops.OutOfMemory) = Unit {0}
-BurnsBytes area bytes (Err stops.WordsRefused) = ⊥
-BurnsBytes area bytes (Err stops.SourceFault) = ⊥
-BurnsBytes area bytes (Err stops.FolderFault) = ⊥
-BurnsBytes area bytes (Err stops.KeeperFault) = ⊥
+-- the page of the bytes, or the rule that they break
+abbrev pub HoldsPage : List ℕ → Result Image Stop → Type 0
+HoldsPage bytes (Ok p) = TiffAnswers bytes (Ok p)
+HoldsPage bytes (Err (stops.Broken rule)) = BreaksRule bytes rule
+HoldsPage bytes (Err stops.OutOfMemory) = Unit {0}
+HoldsPage bytes (Err stops.WordsRefused) = ⊥
+HoldsPage bytes (Err stops.SourceFault) = ⊥
+HoldsPage bytes (Err stops.FolderFault) = ⊥
+HoldsPage bytes (Err stops.KeeperFault) = ⊥
 
 -- a file was put at a path and its line made, or a part of it was put, with the fault counted
 abbrev pub PutsPage : List ℕ → List ℕ → FolderView → Ending → FolderView → Type 0

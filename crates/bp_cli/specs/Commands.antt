@@ -8,13 +8,15 @@ use Rattle.std.specs.Str.{bytes_eq, chars}
 use Rattle.bp_core.specs.declared.kept.Row.{Row}
 use Rattle.bp_core.specs.declared.rules.Rule.{Rule}
 use Rattle.bp_outside.specs.Source.{FileMap}
-use Rattle.bp_matter.specs.Matter.{Matter as Kept}
+use Rattle.bp_matter.specs.Matter.{Matter}
 use Rattle.bp_matter.specs.declared.rows.Request.{Request}
+use Rattle.bp_rules.specs.Steps.{AtMostOnce}
 use Rattle.bp_cli.specs.declared.commands.Command.{Command}
 use Rattle.bp_cli.specs.declared.commands.Command.TheVariants as commands
 use Rattle.bp_cli.specs.declared.stops.Stop.TheVariants as stops
 use Rattle.bp_cli.specs.Words.{is_bad_word}
-use Rattle.bp_cli.specs.Endings.{Outcome, Ending, World, Uses, Ends, done, refused}
+use Rattle.bp_cli.specs.Endings.{Outcome, Ending, World, Uses, CallsKeeper, RowsRead, with_rows, Ends}
+use Rattle.bp_cli.specs.Endings.{done, refused}
 use Rattle.bp_cli.specs.Burn.{BurnLine, burn_seen, burn_of, BurnComes, BurnOutcome, BurnAlike}
 use Rattle.bp_cli.specs.Import.{batch_named, ImportOutcome}
 use Rattle.bp_cli.specs.Init.{init_of, init_gives, InitOutcome}
@@ -55,31 +57,47 @@ named_command (name ∷ operands) =
 abbrev pub command_of : List (List ℕ) → Option CommandLine
 command_of words = if list_any is_bad_word words then None else named_command words
 
--- which inputs a command uses
+-- which inputs a command uses, and whether it may commit rows
 abbrev pub uses_of : CommandLine → Uses
-uses_of (burn b) = record { files = true; rows = false }
-uses_of (init digest) = record { files = false; rows = true }
-uses_of (import name) = record { files = true; rows = true }
-uses_of (produce q) = record { files = false; rows = true }
-uses_of (press id) = record { files = false; rows = true }
-uses_of (log id) = record { files = false; rows = true }
+uses_of (burn b) = record { files = true; rows = false; commits = false }
+uses_of (init digest) = record { files = false; rows = true; commits = true }
+uses_of (import name) = record { files = true; rows = true; commits = true }
+uses_of (produce q) = record { files = false; rows = true; commits = true }
+uses_of (press id) = record { files = false; rows = true; commits = false }
+uses_of (log id) = record { files = false; rows = true; commits = false }
+
+-- what the command uses, if the words are one
+abbrev pub uses_by : Option CommandLine → Uses
+uses_by None = record { files = false; rows = false; commits = false }
+uses_by (Some c) = uses_of c
+
+-- a command reads from the source once at most, `import` as often as its batch has files, and those
+-- that use no files never
+abbrev pub ReadsAsOften : Option CommandLine → ℕ → ℕ → Type 0
+ReadsAsOften None before now = now ≡ before
+ReadsAsOften (Some (burn b)) before now = AtMostOnce before now
+ReadsAsOften (Some (init digest)) before now = now ≡ before
+ReadsAsOften (Some (import name)) before now = Unit {0}
+ReadsAsOften (Some (produce q)) before now = now ≡ before
+ReadsAsOften (Some (press id)) before now = now ≡ before
+ReadsAsOften (Some (log id)) before now = now ≡ before
 
 -- all that the outcome of a command may depend on: the files of the source, the rows of the keeper
-pub record Matter : Type 0 where
+pub record Inputs : Type 0 where
   pub files : FileMap
   pub rows : List Row
 
--- over a matter the command comes to the outcome, and to no other
-abbrev pub ComesTo : CommandLine → Matter → Outcome → Type 0
-ComesTo (burn b) matter outcome = BurnComes b matter.files outcome
-ComesTo (init digest) matter outcome = init_gives digest matter.rows ≡ outcome
-ComesTo (import name) matter outcome =
-    ImportOutcome name (Some matter.files) (Some matter.rows) outcome
-ComesTo (produce q) matter outcome = RowsOutcome (produce_gives q) (Some matter.rows) outcome
-ComesTo (press id) matter outcome = RowsOutcome (press_gives id) (Some matter.rows) outcome
-ComesTo (log id) matter outcome = RowsOutcome (log_gives id) (Some matter.rows) outcome
+-- over these inputs the command comes to the outcome, and to no other
+abbrev pub ComesTo : CommandLine → Inputs → Outcome → Type 0
+ComesTo (burn b) inputs outcome = BurnComes b inputs.files outcome
+ComesTo (init digest) inputs outcome = init_gives digest inputs.rows ≡ outcome
+ComesTo (import name) inputs outcome =
+    ImportOutcome name (Some inputs.files) (Some inputs.rows) outcome
+ComesTo (produce q) inputs outcome = RowsOutcome (produce_gives q) (Some inputs.rows) outcome
+ComesTo (press id) inputs outcome = RowsOutcome (press_gives id) (Some inputs.rows) outcome
+ComesTo (log id) inputs outcome = RowsOutcome (log_gives id) (Some inputs.rows) outcome
 
--- the outcome over the matter that the outside tells, or over one that it doesn't tell
+-- the outcome over the inputs that the outside tells, or over some that it doesn't tell
 abbrev pub IsOutcome : CommandLine → World → Outcome → Type 0
 IsOutcome (burn b) world outcome = BurnOutcome b world.source.files outcome
 IsOutcome (init digest) world outcome = InitOutcome digest world.keeper.rows outcome
@@ -91,29 +109,29 @@ IsOutcome (log id) world outcome = RowsOutcome (log_gives id) world.keeper.rows 
 
 -- the rows come to a matter, or to a rule: they are those of a valid matter, or there is none that
 -- has them
-abbrev pub RowsKnown : Matter → Type 0
-RowsKnown matter = (answer : Result Kept Rule) × MatterAnswers matter.rows answer
+abbrev pub RowsKnown : Inputs → Type 0
+RowsKnown inputs = (answer : Result Matter Rule) × MatterAnswers inputs.rows answer
 
 -- where a command reads what rows hold, they come to a matter, or to a rule
-abbrev pub AreKnown : CommandLine → Matter → Type 0
-AreKnown (burn b) matter = Unit {0}
-AreKnown (init digest) matter = Unit {0}
-AreKnown (import name) matter = RowsKnown matter
-AreKnown (produce q) matter = RowsKnown matter
-AreKnown (press id) matter = RowsKnown matter
-AreKnown (log id) matter = RowsKnown matter
+abbrev pub AreKnown : CommandLine → Inputs → Type 0
+AreKnown (burn b) inputs = Unit {0}
+AreKnown (init digest) inputs = Unit {0}
+AreKnown (import name) inputs = RowsKnown inputs
+AreKnown (produce q) inputs = RowsKnown inputs
+AreKnown (press id) inputs = RowsKnown inputs
+AreKnown (log id) inputs = RowsKnown inputs
 
 -- what the command doesn't withhold is the same in both; `init` and `import` withhold nothing.
 -- `produce` withholds what the decisions hold back that it freezes, and `press` what those held
 -- back that it froze; a log is of these decisions alone
-abbrev pub AlikeFor : CommandLine → Matter → Matter → Type 0
-AlikeFor (burn b) matter matter' = BurnAlike b matter.files matter'.files
-AlikeFor (init digest) matter matter' = matter.rows ≡ matter'.rows
-AlikeFor (import name) matter matter' =
-    (matter.files ≡ matter'.files) × (matter.rows ≡ matter'.rows)
-AlikeFor (produce q) matter matter' = OfTwo (FrozenAlike q) matter.rows matter'.rows
-AlikeFor (press id) matter matter' = OfTwo (ShowSame id) matter.rows matter'.rows
-AlikeFor (log id) matter matter' = OfTwo (KeepSame id) matter.rows matter'.rows
+abbrev pub AlikeFor : CommandLine → Inputs → Inputs → Type 0
+AlikeFor (burn b) inputs inputs' = BurnAlike b inputs.files inputs'.files
+AlikeFor (init digest) inputs inputs' = inputs.rows ≡ inputs'.rows
+AlikeFor (import name) inputs inputs' =
+    (inputs.files ≡ inputs'.files) × (inputs.rows ≡ inputs'.rows)
+AlikeFor (produce q) inputs inputs' = OfTwo (FrozenAlike q) inputs.rows inputs'.rows
+AlikeFor (press id) inputs inputs' = OfTwo (ShowSame id) inputs.rows inputs'.rows
+AlikeFor (log id) inputs inputs' = OfTwo (KeepSame id) inputs.rows inputs'.rows
 
 -- the rows that are kept are the same in both, but for `produce`: then they are those of two valid
 -- matters, which keep the same production under the id and show the same of it
@@ -134,7 +152,21 @@ pub record RefusesWords (before : World) (ending : Ending) (after : World) : Typ
   pub stop : (ending ≡ Err stops.WordsRefused) ⊎ (ending ≡ Err stops.OutOfMemory)
   pub same : after ≡ before
 
--- what the work of a command leaves, by how it ended
+-- what the work of a command leaves, by how it ended, where the rows from before are those that it
+-- read
 abbrev pub Works : Option CommandLine → World → Ending → World → Type 0
 Works None before ending after = RefusesWords before ending after
 Works (Some c) before ending after = Ends (uses_of c) (IsOutcome c before) before ending after
+
+-- this is left of what is known with the rows as they were read, and the keeper was called for
+-- nothing else
+pub record ReadsRows (uses : Uses) (Left : World → Type 0) (before after : World) : Type 0 where
+  pub read : Option (List Row)
+  pub rows : RowsRead before.keeper.rows read after.keeper.rows
+  pub left : Left (with_rows read before)
+  pub calls : CallsKeeper uses before.keeper after.keeper
+
+-- a command works over the rows as it reads them
+abbrev pub ReadsAndWorks : Option CommandLine → World → Ending → World → Type 0
+ReadsAndWorks command before ending after =
+    ReadsRows (uses_by command) (λ known. Works command known ending after) before after

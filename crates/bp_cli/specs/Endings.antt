@@ -1,6 +1,6 @@
 -- How the work of a command ends, and what each ending leaves outside.
-use Rattle.std.specs.Prelude.{ℕ, ◌≡◌, Bool, false, Option, Some, None, Result, Ok, Err}
-use Rattle.std.specs.Prelude.{List, [], ◌∷◌, ◌++◌, codes, IfSome, IsTrue}
+use Rattle.std.specs.Prelude.{ℕ, ◌≡◌, Bool, true, false, Option, Some, None, Result, Ok, Err}
+use Rattle.std.specs.Prelude.{List, [], ◌∷◌, ◌++◌, codes, is_some, IfSome, IsTrue}
 use Rattle.bp_core.specs.declared.kept.Row.{Row}
 use Rattle.bp_core.specs.declared.rules.Rule.{Rule}
 use Rattle.bp_core.specs.Characters.{newline}
@@ -11,6 +11,7 @@ use Rattle.bp_outside.specs.Folder.{FolderView}
 use Rattle.bp_outside.specs.declared.files.FileRow.{FileRow}
 use Rattle.bp_import.specs.Importing.{after_kind}
 use Rattle.bp_keep.specs.Keeper.{KeeperView, SameRows}
+use Rattle.bp_rules.specs.Steps.{AtMostOnce}
 use Rattle.bp_press.specs.Writing.{AddsPart, with_files}
 use Rattle.bp_cli.specs.declared.stops.Stop.{Stop}
 use Rattle.bp_cli.specs.declared.stops.Stop.TheVariants as stops
@@ -67,10 +68,32 @@ pub record World : Type 0 where
 abbrev pub world : SourceView → KeeperView → FolderView → World
 world source keeper folder = record { source = source; keeper = keeper; folder = folder }
 
--- which inputs a command uses: the files of the source, and the rows of the keeper
+-- the rows as a command read them: those from before, where they were told then. They are known
+-- where the keeper tells rows as the command ends
+pub record RowsRead (before read after : Option (List Row)) : Type 0 where
+  pub same : SameRows before read
+  pub told : IfSome after (λ _. IsTrue (is_some read))
+
+-- what is known, with the rows as they were read
+abbrev pub with_rows : Option (List Row) → World → World
+with_rows read w = record w { keeper = record w.keeper { rows = read } }
+
+-- which inputs a command uses: the files of the source, and the rows of the keeper; and whether it
+-- may commit rows
 pub record Uses : Type 0 where
   pub files : Bool
   pub rows : Bool
+  pub commits : Bool
+
+-- a count rose once at most, or not at all
+abbrev pub RisesIf : Bool → ℕ → ℕ → Type 0
+RisesIf true before now = AtMostOnce before now
+RisesIf false before now = now ≡ before
+
+-- a command asks the keeper once for its rows at most, and commits once at most
+pub record CallsKeeper (uses : Uses) (before after : KeeperView) : Type 0 where
+  pub loads : RisesIf uses.rows before.loads after.loads
+  pub commits : RisesIf uses.commits before.commits after.commits
 
 -- the source and the folder after a fault
 abbrev pub failed_source : SourceView → SourceView
@@ -103,12 +126,14 @@ pub record AddsFiles (Comes : Outcome → Type 0) (before : World) (line : List 
   pub keeper : KeeperLeft rows before.keeper.faults before.keeper after.keeper
   pub folder : after.folder ≡ with_files before.folder files
 
--- the outcome was this rule, and nothing changed but the count that the rule comes from
+-- the outcome was this rule, and nothing changed but the count that the rule comes from; nothing
+-- was committed
 pub record MeetsRule (Comes : Outcome → Type 0) (before : World) (rule : Rule)
     (after : World) : Type 0 where
   pub outcome : Comes (refused rule)
   pub source : after.source ≡ after_kind before.source rule.kind
   pub keeper : KeeperLeft None before.keeper.faults before.keeper after.keeper
+  pub quiet : after.keeper.commits ≡ before.keeper.commits
   pub folder : after.folder ≡ before.folder
 
 -- the source, which the command uses, failed, and nothing else changed
@@ -160,19 +185,6 @@ pub data LacksMemory (Comes : Outcome → Type 0) (before after : World) : Type 
       → KeeperLeft rows before.keeper.faults before.keeper after.keeper
       → after.folder ≡ with_files before.folder files
       → LacksMemory Comes before after
-
--- what the steps before the first file leave in the source: what is made there gives an outcome
-abbrev pub Makes :
-    {V : Type 0} → (Outcome → Type 0) → (V → Outcome)
-    → SourceView → Result V Stop → SourceView → Type 0
-Makes Comes gives source (Ok made) source' = Comes (gives made) × (source' ≡ source)
-Makes Comes gives source (Err (stops.Broken rule)) source' =
-    Comes (refused rule) × (source' ≡ after_kind source rule.kind)
-Makes Comes gives source (Err stops.SourceFault) source' = source' ≡ failed_source source
-Makes Comes gives source (Err stops.OutOfMemory) source' = source' ≡ source
-Makes Comes gives source (Err stops.WordsRefused) source' = ⊥
-Makes Comes gives source (Err stops.FolderFault) source' = ⊥
-Makes Comes gives source (Err stops.KeeperFault) source' = ⊥
 
 -- what the work of a command leaves, by how it ended
 abbrev pub Ends : Uses → (Outcome → Type 0) → World → Ending → World → Type 0

@@ -1,5 +1,5 @@
 -- What the steps of `produce` and `press` leave, one behind the other.
-use Rattle.std.specs.Prelude.{◌≡◌, ◌≤◌, ◌⊎◌, ℕ, IsTrue, List, Result, Ok, Err}
+use Rattle.std.specs.Prelude.{◌≡◌, ◌≤◌, ◌⊎◌, ℕ, is_some, IfSome, IsTrue, List, Result, Ok, Err}
 use Rattle.std.specs.Result.{IsOk}
 use Rattle.bp_core.specs.Counts.{risen}
 use Rattle.bp_bates.specs.Prefixes.{is_good_prefix}
@@ -14,7 +14,7 @@ use Rattle.bp_matter.specs.declared.rows.Production.{Production}
 use Rattle.bp_matter.specs.declared.rows.Request.{Request}
 use Rattle.bp_freeze.specs.Freezing.{freeze_of}
 use Rattle.bp_freeze.specs.Keeping.{frozen_matter}
-use Rattle.bp_rules.specs.Steps.{KeepsRows, Stays}
+use Rattle.bp_rules.specs.Steps.{AtMostOnce, KeepsRows, Stays}
 use Rattle.bp_press.specs.Pressed.{pressed_of}
 use Rattle.bp_press.specs.Writing.{AddsPart, with_files}
 use Rattle.bp_cli.specs.declared.stops.Stop.{Stop}
@@ -27,13 +27,17 @@ abbrev pub IsProduced : Reply → Type 0
 IsProduced (replies.Produced f) = Unit {0}
 IsProduced _ = ⊥
 
--- the lead froze this production, and a keeper that kept the matter keeps the one after it
+-- the lead froze this production, and a keeper that kept the matter keeps the one after it; it
+-- begins to tell no rows
 pub record Froze (m : Matter) (q : Request) (keeper : KeeperView) (f : Production) (m' : Matter)
     (keeper' : KeeperView) : Type 0 where
   pub answer : freeze_of m q ≡ Ok f
   pub matter : m' ≡ frozen_matter f m
   pub kept : KeepsRows keeper m → KeepsRows keeper' m'
+  pub told : IfSome keeper'.rows (λ _. IsTrue (is_some keeper.rows))
   pub faults : keeper'.faults ≡ keeper.faults
+  pub loads : keeper'.loads ≡ keeper.loads
+  pub commits : AtMostOnce keeper.commits keeper'.commits
   pub sure : keeper'.sure ≡ keeper.sure
 
 -- what freezing for the lead leaves

@@ -15,11 +15,11 @@ use Rattle.bp_cli.specs.declared.statuses.TheConstants.{DONE, WORDS_REFUSED, RUL
 use Rattle.bp_cli.specs.declared.statuses.TheConstants.{SOURCE_FAULT, FOLDER_FAULT, KEEPER_FAULT}
 use Rattle.bp_cli.specs.declared.statuses.TheConstants.{OUT_OF_MEMORY, OUT_FAULT}
 use Rattle.bp_cli.specs.Endings as outcomes
-use Rattle.bp_press.specs.Writing.{with_files}
-use Rattle.bp_cli.specs.Endings.{Outcome, Ending, World, world, Uses, RowsLeft, status_of, text_of}
-use Rattle.bp_cli.specs.Endings.{memory_line, refused_line}
-use Rattle.bp_cli.specs.Commands.{CommandLine, Matter, uses_of, ComesTo, AreKnown, AlikeFor}
-use Rattle.bp_cli.specs.Commands.{ShowAlike, Works}
+use Rattle.bp_press.specs.Writing.{AddsPart, with_files}
+use Rattle.bp_cli.specs.Endings.{Outcome, Ending, World, world, Uses, RowsLeft}
+use Rattle.bp_cli.specs.Endings.{status_of, text_of, failed_folder, memory_line, refused_line}
+use Rattle.bp_cli.specs.Commands.{CommandLine, Inputs, uses_of, uses_by, ComesTo, AreKnown, AlikeFor}
+use Rattle.bp_cli.specs.Commands.{ShowAlike, Works, ReadsRows}
 use Rattle.bp_cli.specs.Printing.{failed_out, MayLackItsLine, WritesPart}
 
 -- what is known of all that is outside, at a moment
@@ -37,12 +37,12 @@ abbrev pub Tells : {T : Type 0} → Bool → Option T → T → Type 0
 Tells true told value = told ≡ Some value
 Tells false told value = Unit {0}
 
--- the words are this command, and the outside tells this matter, as far as the command uses it
+-- the words are this command, and the outside tells these inputs, as far as the command uses them
 pub record Asks (command : Option CommandLine) (before : Outside)
-    (c : CommandLine) (matter : Matter) : Type 0 where
+    (c : CommandLine) (inputs : Inputs) : Type 0 where
   pub words : command ≡ Some c
-  pub files : Tells (uses_of c).files before.world.source.files matter.files
-  pub rows : Tells (uses_of c).rows before.world.keeper.rows matter.rows
+  pub files : Tells (uses_of c).files before.world.source.files inputs.files
+  pub rows : Tells (uses_of c).rows before.world.keeper.rows inputs.rows
 
 -- a count of faults rose in between
 abbrev pub SourceFailed : Outside → Outside → Type 0
@@ -67,11 +67,6 @@ pub record NoneFailed (uses : Uses) (before after : Outside) : Type 0 where
   pub inputs : InputsServed uses before after
   pub folder : ¬ FolderFailed before after
   pub out : ¬ OutFailed before after
-
--- what the command uses, if the words are one
-abbrev pub uses_by : Option CommandLine → Uses
-uses_by None = record { files = false; rows = false }
-uses_by (Some c) = uses_of c
 
 -- no object that is used can fail
 pub record AreSure (uses : Uses) (before : Outside) : Type 0 where
@@ -126,18 +121,36 @@ outcome_status (outcomes.refused rule) = RULE_BROKEN
 abbrev pub IsAmong : ℕ → List ℕ → Type 0
 IsAmong n ns = IsTrue (list_any (λ m. m == n) ns)
 
--- what came out is an outcome of this matter, and shows the same as that one of another
-pub record GivesAlike (c : CommandLine) (matter : Matter) (other : Outcome)
+-- what came out is an outcome of these inputs, and shows the same as that one of others
+pub record GivesAlike (c : CommandLine) (inputs : Inputs) (other : Outcome)
     (before after : Outside) : Type 0 where
   pub outcome : Outcome
-  pub comes : ComesTo c matter outcome
+  pub comes : ComesTo c inputs outcome
   pub same : ShowAlike c outcome other
   pub gives : Gives outcome before after
 
+-- the files of an outcome; a rule has none
+abbrev pub outcome_files : Outcome → List FileRow
+outcome_files (outcomes.done line files rows) = files
+outcome_files (outcomes.refused rule) = []
+
+-- a folder got none of these files; or some, and a part of the next; or all
+pub data AddsFirst (before : FolderView) (files : List FileRow)
+    (after : FolderView) : Type 0 where
+  nothing_added : after ≡ before → AddsFirst before files after
+  part_added : AddsPart before files after → AddsFirst before files after
+  all_added : after ≡ with_files before files → AddsFirst before files after
+
+-- the folder got a first part of these files, whether or not it failed, and nothing else
+pub record GivesFirst (files : List FileRow) (before after : FolderView) : Type 0 where
+  pub folder : FolderView
+  pub failed : (folder ≡ before) ⊎ (folder ≡ failed_folder before)
+  pub adds : AddsFirst folder files after
+
 -- there is an outcome, and the status is its own, or that memory ran out
-pub record Completes (c : CommandLine) (matter : Matter) (status : ℕ) : Type 0 where
+pub record Completes (c : CommandLine) (inputs : Inputs) (status : ℕ) : Type 0 where
   pub outcome : Outcome
-  pub comes : ComesTo c matter outcome
+  pub comes : ComesTo c inputs outcome
   pub among : IsAmong status (outcome_status outcome ∷ OUT_OF_MEMORY ∷ [])
 
 abbrev pub all_statuses : List ℕ
@@ -147,7 +160,9 @@ all_statuses =
 
 -- ---- the promises
 
-pub record Runs (command : Option CommandLine) (before after : Outside) (status : ℕ) : Type 0 where
+-- what a run promises, where the rows from before are those that it read
+pub record Promises (command : Option CommandLine) (before after : Outside)
+    (status : ℕ) : Type 0 where
   -- there are no other statuses
   pub known : IsAmong status all_statuses
   -- ---- what each status says of source, keeper, folder and what was printed
@@ -173,30 +188,44 @@ pub record Runs (command : Option CommandLine) (before after : Outside) (status 
   -- words that are no command give 1, but for want of memory and faults of the out
   pub no_command : command ≡ None
       → IsAmong status (WORDS_REFUSED ∷ OUT_OF_MEMORY ∷ OUT_FAULT ∷ [])
-  -- a rule that is met over a told matter gives 2, but for want of memory and faults of what the
+  -- a rule that is met over told inputs gives 2, but for want of memory and faults of what the
   -- command uses and of the out
-  pub rule_met : (c : CommandLine) (matter : Matter) (rule : Rule)
-      → Asks command before c matter
-      → ComesTo c matter (outcomes.refused rule)
+  pub rule_met : (c : CommandLine) (inputs : Inputs) (rule : Rule)
+      → Asks command before c inputs
+      → ComesTo c inputs (outcomes.refused rule)
       → InputsServed (uses_of c) before after
       → IsAmong status (RULE_BROKEN ∷ OUT_OF_MEMORY ∷ OUT_FAULT ∷ [])
-  -- completeness: over a told matter, where nothing failed, the status is that of the outcome, or 6
-  pub complete : (c : CommandLine) (matter : Matter)
-      → Asks command before c matter
-      → AreKnown c matter
+  -- completeness: over told inputs, where nothing failed, the status is that of the outcome, or 6
+  pub complete : (c : CommandLine) (inputs : Inputs)
+      → Asks command before c inputs
+      → AreKnown c inputs
       → NoneFailed (uses_of c) before after
-      → Completes c matter status
+      → Completes c inputs status
   -- objects that can't fail give no fault
   pub unfailing : AreSure (uses_by command) before
       → IsAmong status (DONE ∷ WORDS_REFUSED ∷ RULE_BROKEN ∷ OUT_OF_MEMORY ∷ [])
   -- ---- two matters
 
-  -- what comes out shows the same as the outcome of every other matter that differs only in what
-  -- the command withholds: the same line and the same files, or the same rule; and after `produce`
-  -- both keep the same production
-  pub alike : (c : CommandLine) (matter matter' : Matter) (other : Outcome)
-      → Asks command before c matter
-      → AlikeFor c matter matter'
-      → ComesTo c matter' other
+  -- what comes out shows the same as the outcome of all other inputs that differ only in what the
+  -- command withholds: the same line and the same files, or the same rule; and after `produce` both
+  -- keep the same production
+  pub alike : (c : CommandLine) (inputs inputs' : Inputs) (other : Outcome)
+      → Asks command before c inputs
+      → AlikeFor c inputs inputs'
+      → ComesTo c inputs' other
       → (status ≡ DONE) ⊎ (status ≡ RULE_BROKEN)
-      → GivesAlike c matter other before after
+      → GivesAlike c inputs other before after
+  -- and whatever the status is, also where a fault or want of memory cut the work: what the folder
+  -- got is a first part of the files of each such outcome
+  pub alike_part : (c : CommandLine) (inputs inputs' : Inputs) (other : Outcome)
+      → Asks command before c inputs
+      → AlikeFor c inputs inputs'
+      → ComesTo c inputs' other
+      → GivesFirst (outcome_files other) before.world.folder after.world.folder
+
+-- and it promises this over the rows of the keeper as it reads them
+abbrev pub Runs : Option CommandLine → Outside → Outside → ℕ → Type 0
+Runs command before after status =
+    ReadsRows (uses_by command)
+    (λ known. Promises command (record before { world = known }) after status)
+    before.world after.world

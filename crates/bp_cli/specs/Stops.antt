@@ -12,12 +12,10 @@ use Rattle.bp_keep.specs.declared.refusals.KeepRefusal.{KeepRefusal}
 use Rattle.bp_keep.specs.declared.refusals.KeepRefusal.TheVariants as keepers
 use Rattle.bp_import.specs.declared.refusals.ImportRefusal.{ImportRefusal}
 use Rattle.bp_import.specs.declared.refusals.ImportRefusal.TheVariants as imports
-use Rattle.bp_rules.specs.declared.loading.LoadRefusal.{LoadRefusal}
-use Rattle.bp_rules.specs.declared.loading.LoadRefusal.TheVariants as loads
+use Rattle.bp_rules.specs.declared.refusals.MatterRefusal.{MatterRefusal}
+use Rattle.bp_rules.specs.declared.refusals.MatterRefusal.TheVariants as matters
 use Rattle.bp_press.specs.declared.pressing.PressRefusal.{PressRefusal}
 use Rattle.bp_press.specs.declared.pressing.PressRefusal.TheVariants as presses
-use Rattle.bp_rules.specs.declared.stepping.StepRefusal.{StepRefusal}
-use Rattle.bp_rules.specs.declared.stepping.StepRefusal.TheVariants as steps
 use Rattle.bp_cli.specs.declared.stops.Stop.{Stop}
 use Rattle.bp_cli.specs.declared.stops.Stop.TheVariants as stops
 
@@ -33,20 +31,15 @@ abbrev pub StopsForKeeper : KeepRefusal → Stop → Type 0
 StopsForKeeper keepers.Failed stop = stop ≡ stops.KeeperFault
 StopsForKeeper keepers.OutOfMemory stop = stop ≡ stops.OutOfMemory
 
-abbrev pub StopsForLoad : LoadRefusal → Stop → Type 0
-StopsForLoad (loads.Rule rule) stop = stop ≡ stops.Broken rule
-StopsForLoad loads.KeeperFault stop = stop ≡ stops.KeeperFault
-StopsForLoad loads.OutOfMemory stop = stop ≡ stops.OutOfMemory
+abbrev pub StopsForMatter : MatterRefusal → Stop → Type 0
+StopsForMatter (matters.Rule rule) stop = stop ≡ stops.Broken rule
+StopsForMatter matters.KeeperFault stop = stop ≡ stops.KeeperFault
+StopsForMatter matters.OutOfMemory stop = stop ≡ stops.OutOfMemory
 
 abbrev pub StopsForBatch : ImportRefusal → Stop → Type 0
 StopsForBatch (imports.Rule rule) stop = stop ≡ stops.Broken rule
 StopsForBatch imports.SourceFault stop = stop ≡ stops.SourceFault
 StopsForBatch imports.OutOfMemory stop = stop ≡ stops.OutOfMemory
-
-abbrev pub StopsForStep : StepRefusal → Stop → Type 0
-StopsForStep (steps.Rule rule) stop = stop ≡ stops.Broken rule
-StopsForStep steps.KeeperFault stop = stop ≡ stops.KeeperFault
-StopsForStep steps.OutOfMemory stop = stop ≡ stops.OutOfMemory
 
 abbrev pub StopsForPress : PressRefusal → Stop → Type 0
 StopsForPress presses.FolderFault stop = stop ≡ stops.FolderFault

@@ -1,16 +1,18 @@
 // The command `burn`.
-ghost use Rattle.std.specs.Prelude.{◌≡◌, Some, IfOk};
+ghost use Rattle.std.specs.Prelude.{◌≡◌, IfOk};
 ghost use Rattle.std.specs.Option.{option_map};
 ghost use Rattle.std.specs.Str.{chars};
+ghost use Rattle.bp_core.specs.Counts.{risen};
 ghost use Rattle.bp_core.specs.Paths.{path_in};
 ghost use Rattle.bp_keep.specs.Keeper.{KeeperView};
+ghost use Rattle.bp_rules.specs.Steps.{AtMostOnce};
 ghost use Rattle.bp_tiff.specs.Parts.{file_in};
 ghost use Rattle.bp_tiff.specs.Tiff.{tiff_of};
 ghost use Rattle.bp_cli.specs.Words.{words_lent};
-ghost use Rattle.bp_cli.specs.Burn.{form_of, box_of, burn_of, burn_seen, paths_of, burn_page, counted_line, BurnOutcome};
-ghost use Rattle.bp_cli.specs.Burning.{paths_seen, page_put, NamesPath, NamesPaths, BurnsBytes, PutsPage};
+ghost use Rattle.bp_cli.specs.Burn.{form_of, box_of, burn_of, burn_seen, burn_page, counted_line};
+ghost use Rattle.bp_cli.specs.Burning.{NamesPath, NamesPaths, ReadsPage, HoldsPage, PutsPage};
 ghost use Rattle.bp_cli.specs.Commands.{burn, uses_of, IsOutcome};
-ghost use Rattle.bp_cli.specs.Endings.{world, Ends, Makes};
+ghost use Rattle.bp_cli.specs.Endings.{world, Ends};
 ghost use Rattle.bp_cli.specs.Stops.{read_stop};
 
 use crate::stops::Stop;
@@ -21,7 +23,6 @@ use bp_outside::{Folder, ReadRefusal, Source, put_parts};
 use bp_rows::{Page, import_sides};
 use bp_tiff::{Form, TiffParts, take_tiff, tiff_parts};
 use std::alloc::Global;
-use std::thread::Threads;
 
 /// The most bytes that a file may have which is read.
 pub const FILE_LIMIT: u64 = 134_217_728;
@@ -92,23 +93,28 @@ pub struct BurnPaths {
 }
 
 /// Burns one box into the page file at IN, and puts the file of the burned page at OUT. The line
-/// that tells how many bytes that file has.
-pub fn burn_box<R: Threads + Sync, S: Source, F: Folder>(
-    rt: &R,
+/// that tells how many bytes that file has. It goes in three steps, so that want of memory can't
+/// tell what the box covers: the one that reads isn't told the box, the one that burns takes no
+/// memory, and the one that writes has the burned page alone.
+pub fn burn_box<S: Source, F: Folder>(
     alloc: Global,
     asked: &Burn<'_>,
     source: &mut S,
     folder: &mut F,
 ) -> Result<Bytes, Stop>
-    ensures { (keeper : KeeperView)
+    ensures ends { (keeper : KeeperView)
         → let line = burn (burn_seen asked.now) in
         let before = world (S.shows source.old) keeper (F.shows folder.old) in
         let after = world (S.shows source.new) keeper (F.shows folder.new) in
         Ends (uses_of line) (IsOutcome line before) before result after }
+    ensures reads { AtMostOnce (S.reads source.old) (S.reads source.new) }
 {
     let paths = burn_paths(alloc, asked)?;
-    let page = burned_page(rt, alloc, asked, &paths, source)?;
-    put_page(alloc, asked.form, &paths, &page, folder)
+    let page = page_at(alloc, &paths.from, source)?;
+    match burned_in(asked.area, page) {
+        Ok(burned) => put_page(alloc, asked.form, &paths.to, &burned, folder),
+        Err(rule) => Err(Stop::Broken(rule)),
+    }
 }
 
 // The paths that IN and OUT name.
@@ -129,22 +135,13 @@ fn path_named(alloc: Global, word: &str) -> Result<Text, Stop>
     }
 }
 
-// The page of the file at IN with the box burned.
-fn burned_page<R: Threads + Sync, S: Source>(
-    rt: &R,
-    alloc: Global,
-    asked: &Burn<'_>,
-    paths: &BurnPaths,
-    source: &mut S,
-) -> Result<Page, Stop>
-    requires { paths_of (burn_seen asked.now) ≡ Some (paths_seen paths.now) }
-    ensures { let line = burn_seen asked.now in
-        let before = S.shows source.old in
-        let gives = page_put line.form paths.now.to in
-        Makes (BurnOutcome line before.files) gives before result (S.shows source.new) }
+// The page of the file at a path.
+fn page_at<S: Source>(alloc: Global, from: &Text, source: &mut S) -> Result<Page, Stop>
+    ensures page { ReadsPage from.now (S.shows source.old) result (S.shows source.new) }
+    ensures reads { S.reads source.new ≡ risen (S.reads source.old) }
 {
-    match source.read(alloc, paths.from.as_str(), FILE_LIMIT) {
-        Ok(file) => burned(rt, alloc, asked.area, file),
+    match source.read(alloc, from.as_str(), FILE_LIMIT) {
+        Ok(file) => page_in(alloc, file),
         Err(refusal) => Err(stop_of_read(refusal)),
     }
 }
@@ -160,21 +157,18 @@ fn stop_of_read(refusal: ReadRefusal) -> Stop
     }
 }
 
-// The page of this file with the box burned.
-fn burned<R: Threads + Sync>(rt: &R, alloc: Global, area: Rect, file: Vec<u8>) -> Result<Page, Stop>
-    ensures { BurnsBytes area file.items result }
+// The page that a file holds.
+fn page_in(alloc: Global, file: Vec<u8>) -> Result<Page, Stop>
+    ensures { HoldsPage file.items result }
 {
-    match take_tiff(rt, alloc, file) {
-        Ok(page) => match burned_in(area, page) {
-            Ok(burned) => Ok(burned),
-            Err(rule) => Err(Stop::Broken(rule)),
-        },
+    match take_tiff(alloc, file) {
+        Ok(page) => Ok(page),
         Err(refusal) => Err(Stop::from(refusal)),
     }
 }
 
-// The page with the box burned. It takes no memory, so what the box covers can't tell by a want of
-// it.
+// The page with the box burned. It takes no memory, so all that it can answer beside the page is a
+// rule, which doesn't depend on what the box covers.
 fn burned_in(area: Rect, mut page: Page) -> Result<Page, Rule>
     ensures { result ≡ burn_page area page }
 {
@@ -196,15 +190,15 @@ fn burned_in(area: Rect, mut page: Page) -> Result<Page, Rule>
 fn put_page<F: Folder>(
     alloc: Global,
     form: Form,
-    paths: &BurnPaths,
+    to: &Text,
     page: &Page,
     folder: &mut F,
 ) -> Result<Bytes, Stop>
-    ensures { let to = paths.now.to in
-        PutsPage to (tiff_of form page.now) (F.shows folder.old) result (F.shows folder.new) }
+    ensures { PutsPage to.now (tiff_of form page.now) (F.shows folder.old) result
+        (F.shows folder.new) }
 {
     let file = tiff_parts(alloc, form, page)?;
-    put_file_parts(alloc, &paths.to, &file, folder)
+    put_file_parts(alloc, to, &file, folder)
 }
 
 fn put_file_parts<F: Folder>(

@@ -1,11 +1,11 @@
 // The command `import`.
-ghost use Rattle.std.specs.Prelude.{◌≡◌, IfOk};
+ghost use Rattle.std.specs.Prelude.{◌≡◌, IfOk, Some};
 ghost use Rattle.std.specs.Option.{option_map};
 ghost use Rattle.bp_outside.specs.Folder.{FolderView};
 ghost use Rattle.bp_cli.specs.Words.{words_lent};
 ghost use Rattle.bp_cli.specs.Import.{batch_named, imported_line};
-ghost use Rattle.bp_cli.specs.Commands.{import, uses_of, IsOutcome};
-ghost use Rattle.bp_cli.specs.Endings.{world, Ends};
+ghost use Rattle.bp_cli.specs.Commands.{import, ReadsAndWorks};
+ghost use Rattle.bp_cli.specs.Endings.{world};
 
 use crate::stops::Stop;
 use crate::words::{text_of, word_at};
@@ -35,10 +35,10 @@ pub fn import_batch<S: Source, K: Keeper>(
     keeper: &mut K,
 ) -> Result<Bytes, Stop>
     ensures { (folder : FolderView)
-        → let line = import name.now in
+        → let line = Some (import name.now) in
         let before = world (S.shows source.old) (K.shows keeper.old) folder in
         let after = world (S.shows source.new) (K.shows keeper.new) folder in
-        Ends (uses_of line) (IsOutcome line before) before result after }
+        ReadsAndWorks line before result after }
 {
     one_batch();
     let mut tables = load_tables(alloc, keeper)?;

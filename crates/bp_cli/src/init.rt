@@ -1,5 +1,5 @@
 // The command `init`.
-ghost use Rattle.std.specs.Prelude.{◌≡◌, IfOk, map, codes};
+ghost use Rattle.std.specs.Prelude.{◌≡◌, IfOk, Some, map, codes};
 ghost use Rattle.std.specs.List.{list_all};
 ghost use Rattle.bp_outside.specs.Source.{SourceView};
 ghost use Rattle.bp_outside.specs.Folder.{FolderView};
@@ -8,8 +8,8 @@ ghost use Rattle.bp_rules.specs.Beginning.{begun};
 ghost use Rattle.bp_rules.specs.Changes.{put_of};
 ghost use Rattle.bp_cli.specs.Words.{words_lent};
 ghost use Rattle.bp_cli.specs.Init.{is_low_hex as low_hex, digest_of, init_of};
-ghost use Rattle.bp_cli.specs.Commands.{init, uses_of, IsOutcome};
-ghost use Rattle.bp_cli.specs.Endings.{world, Ends, line_of};
+ghost use Rattle.bp_cli.specs.Commands.{init, ReadsAndWorks};
+ghost use Rattle.bp_cli.specs.Endings.{world, line_of};
 
 use crate::stops::Stop;
 use crate::words::word_at;
@@ -64,10 +64,10 @@ pub fn make_matter<K: Keeper>(
     keeper: &mut K,
 ) -> Result<Bytes, Stop>
     ensures { (source : SourceView) (folder : FolderView)
-        → let line = init digest in
+        → let line = Some (init digest) in
         let before = world source (K.shows keeper.old) folder in
         let after = world source (K.shows keeper.new) folder in
-        Ends (uses_of line) (IsOutcome line before) before result after }
+        ReadsAndWorks line before result after }
 {
     let rows = keeper.load(alloc)?;
     if !rows.is_empty() {

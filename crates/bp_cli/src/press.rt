@@ -1,11 +1,11 @@
 // The commands `press` and `log`.
-ghost use Rattle.std.specs.Prelude.{◌≡◌};
+ghost use Rattle.std.specs.Prelude.{◌≡◌, Some};
 ghost use Rattle.std.specs.Option.{option_map};
 ghost use Rattle.std.specs.Str.{chars};
 ghost use Rattle.bp_outside.specs.Folder.{FolderView};
 ghost use Rattle.bp_outside.specs.Source.{SourceView};
-ghost use Rattle.bp_cli.specs.Commands.{IsOutcome, log, press, uses_of};
-ghost use Rattle.bp_cli.specs.Endings.{Ends, world};
+ghost use Rattle.bp_cli.specs.Commands.{log, press, ReadsAndWorks};
+ghost use Rattle.bp_cli.specs.Endings.{world};
 ghost use Rattle.bp_cli.specs.Press.{id_named};
 ghost use Rattle.bp_cli.specs.Words.{words_lent};
 
@@ -37,10 +37,10 @@ pub fn press_kept<K: Keeper, F: Folder>(
     folder: &mut F,
 ) -> Result<Bytes, Stop>
     ensures { (source : SourceView)
-        → let line = press (chars id.now) in
+        → let line = Some (press (chars id.now)) in
         let before = world source (K.shows keeper.old) (F.shows folder.old) in
         let after = world source (K.shows keeper.new) (F.shows folder.new) in
-        Ends (uses_of line) (IsOutcome line before) before result after }
+        ReadsAndWorks line before result after }
 {
     found_is_kept();
     let tables = load_tables(alloc, keeper)?;
@@ -55,10 +55,10 @@ pub fn press_kept<K: Keeper, F: Folder>(
 /// The privilege log of a kept production.
 pub fn log_kept<K: Keeper>(alloc: Global, id: &str, keeper: &mut K) -> Result<Bytes, Stop>
     ensures { (source : SourceView) (folder : FolderView)
-        → let line = log (chars id.now) in
+        → let line = Some (log (chars id.now)) in
         let before = world source (K.shows keeper.old) folder in
         let after = world source (K.shows keeper.new) folder in
-        Ends (uses_of line) (IsOutcome line before) before result after }
+        ReadsAndWorks line before result after }
 {
     found_is_kept();
     let tables = load_tables(alloc, keeper)?;

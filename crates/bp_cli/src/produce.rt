@@ -1,9 +1,9 @@
 // The command `produce`.
-ghost use Rattle.std.specs.Prelude.{◌≡◌, ◌≤◌, IfOk, length, map};
+ghost use Rattle.std.specs.Prelude.{◌≡◌, ◌≤◌, IfOk, Some, length, map};
 ghost use Rattle.std.specs.Str.{chars};
 ghost use Rattle.bp_outside.specs.Source.{SourceView};
-ghost use Rattle.bp_cli.specs.Commands.{IsOutcome, produce, uses_of};
-ghost use Rattle.bp_cli.specs.Endings.{Ends, world};
+ghost use Rattle.bp_cli.specs.Commands.{produce, ReadsAndWorks};
+ghost use Rattle.bp_cli.specs.Endings.{world};
 ghost use Rattle.bp_cli.specs.Produce.{request_of, request_with, width_of};
 ghost use Rattle.bp_cli.specs.Producing.{Freezes, IsProduced};
 ghost use Rattle.bp_cli.specs.Words.{words_lent};
@@ -104,10 +104,10 @@ pub fn produce_volume<K: Keeper, F: Folder>(
     folder: &mut F,
 ) -> Result<Bytes, Stop>
     ensures { (source : SourceView)
-        → let line = produce request in
+        → let line = Some (produce request) in
         let before = world source (K.shows keeper.old) (F.shows folder.old) in
         let after = world source (K.shows keeper.new) (F.shows folder.new) in
-        Ends (uses_of line) (IsOutcome line before) before result after }
+        ReadsAndWorks line before result after }
 {
     a_freeze_keeps();
     let mut tables = load_tables(alloc, keeper)?;

@@ -1,7 +1,7 @@
 // The top call.
 ghost use Rattle.std.specs.Prelude.{◌≡◌};
 ghost use Rattle.bp_cli.specs.Words.{word_bytes};
-ghost use Rattle.bp_cli.specs.Commands.{command_of, Works};
+ghost use Rattle.bp_cli.specs.Commands.{command_of, ReadsAndWorks, ReadsAsOften};
 ghost use Rattle.bp_cli.specs.Endings.{world};
 ghost use Rattle.bp_cli.specs.Runs.{Runs, outside};
 ghost use Rattle.bp_cli.specs.Arguments.{RunsArguments};
@@ -63,9 +63,10 @@ pub fn run_arguments<R: Threads + Sync, S: Source, K: Keeper, F: Folder, O: Out>
 /// of the keeper and commits to it, writes to the folder and prints its line. The words don't have
 /// the program's name. The keeper is handed back. The status: 0 where all was done, 1 where the
 /// words are no command line, 2 where a rule is broken, 3 at a fault of the source, 4 of the
-/// folder, 5 of the keeper, 6 where memory ran out, 7 at a fault of the out.
+/// folder, 5 of the keeper, 6 where memory ran out, 7 at a fault of the out. The runtime is for
+/// commands that serve.
 pub fn run<R: Threads + Sync, S: Source, K: Keeper, F: Folder, O: Out>(
-    rt: &R,
+    _rt: &R,
     alloc: Global,
     words: &[String],
     source: &mut S,
@@ -73,37 +74,40 @@ pub fn run<R: Threads + Sync, S: Source, K: Keeper, F: Folder, O: Out>(
     folder: &mut F,
     out: &mut O,
 ) -> Ended<K>
-    ensures { let command = command_of (word_bytes words.now) in
+    ensures runs { let command = command_of (word_bytes words.now) in
         let before = outside (S.shows source.old) (K.shows keeper) (F.shows folder.old)
         (O.shows out.old) in
         let after = outside (S.shows source.new) (K.shows result.keeper) (F.shows folder.new)
         (O.shows out.new) in
         Runs command before after result.status }
+    ensures reads { let command = command_of (word_bytes words.now) in
+        ReadsAsOften command (S.reads source.old) (S.reads source.new) }
 {
     one_answer();
     one_batch();
     rows_law();
-    let ending = work(rt, alloc, words, source, &mut keeper, folder);
+    let ending = work(alloc, words, source, &mut keeper, folder);
     let status = finish(alloc, out, ending);
     Ended { status, keeper }
 }
 
-fn work<R: Threads + Sync, S: Source, K: Keeper, F: Folder>(
-    rt: &R,
+fn work<S: Source, K: Keeper, F: Folder>(
     alloc: Global,
     words: &[String],
     source: &mut S,
     keeper: &mut K,
     folder: &mut F,
 ) -> Result<Bytes, Stop>
-    ensures { let command = command_of (word_bytes words.now) in
+    ensures works { let command = command_of (word_bytes words.now) in
         let before = world (S.shows source.old) (K.shows keeper.old) (F.shows folder.old) in
         let after = world (S.shows source.new) (K.shows keeper.new) (F.shows folder.new) in
-        Works command before result after }
+        ReadsAndWorks command before result after }
+    ensures reads { let command = command_of (word_bytes words.now) in
+        ReadsAsOften command (S.reads source.old) (S.reads source.new) }
 {
     match command_in(alloc, words)? {
         None => Err(Stop::WordsRefused),
-        Some(Command::Burn(asked)) => burn_box(rt, alloc, &asked, source, folder),
+        Some(Command::Burn(asked)) => burn_box(alloc, &asked, source, folder),
         Some(Command::Init(digest)) => make_matter(alloc, digest, keeper),
         Some(Command::Import(name)) => import_batch(alloc, name, source, keeper),
         Some(Command::Produce(request)) => produce_volume(alloc, request, keeper, folder),

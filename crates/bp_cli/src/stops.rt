@@ -4,7 +4,7 @@ use bp_import::ImportRefusal;
 use bp_keep::KeepRefusal;
 use bp_outside::FolderRefusal;
 use bp_press::PressRefusal;
-use bp_rules::{LoadRefusal, StepRefusal};
+use bp_rules::MatterRefusal;
 use std::alloc::AllocError;
 use std::convert::From;
 
@@ -64,16 +64,16 @@ impl From<KeepRefusal> for Stop {
     }
 }
 
-impl From<LoadRefusal> for Stop {
-    ghost use Rattle.bp_cli.specs.Stops.{StopsForLoad};
+impl From<MatterRefusal> for Stop {
+    ghost use Rattle.bp_cli.specs.Stops.{StopsForMatter};
 
-    ghost from_gives = { StopsForLoad };
+    ghost from_gives = { StopsForMatter };
 
-    fn from(refusal: LoadRefusal) -> Stop {
+    fn from(refusal: MatterRefusal) -> Stop {
         match refusal {
-            LoadRefusal::Rule(rule) => Stop::Broken(rule),
-            LoadRefusal::KeeperFault => Stop::KeeperFault,
-            LoadRefusal::OutOfMemory => Stop::OutOfMemory,
+            MatterRefusal::Rule(rule) => Stop::Broken(rule),
+            MatterRefusal::KeeperFault => Stop::KeeperFault,
+            MatterRefusal::OutOfMemory => Stop::OutOfMemory,
         }
     }
 }
@@ -88,20 +88,6 @@ impl From<ImportRefusal> for Stop {
             ImportRefusal::Rule(rule) => Stop::Broken(rule),
             ImportRefusal::SourceFault => Stop::SourceFault,
             ImportRefusal::OutOfMemory => Stop::OutOfMemory,
-        }
-    }
-}
-
-impl From<StepRefusal> for Stop {
-    ghost use Rattle.bp_cli.specs.Stops.{StopsForStep};
-
-    ghost from_gives = { StopsForStep };
-
-    fn from(refusal: StepRefusal) -> Stop {
-        match refusal {
-            StepRefusal::Rule(rule) => Stop::Broken(rule),
-            StepRefusal::KeeperFault => Stop::KeeperFault,
-            StepRefusal::OutOfMemory => Stop::OutOfMemory,
         }
     }
 }

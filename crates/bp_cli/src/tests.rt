@@ -3,16 +3,15 @@ mod faults;
 mod matters;
 mod page_files;
 mod productions;
+mod programs;
+mod stage;
 
-use crate::run::{Ended, run, run_arguments};
+use crate::run::{Ended, run};
 use bp_core::{Bytes, NumberList, RowList, Text};
 use bp_keep::MemKeeper;
 use bp_outside::{FileList, FileRow, MemFolder, MemOut, MemSource, paths_differ};
 use page_files::{BLACK_G4, STRANGE, WHITE};
 use std::alloc::{AllocError, Global};
-use std::env::Args;
-use std::io;
-use std::io::ErrorKind;
 use std::process::Abort;
 use std::test::Fail;
 use std::thread::Threads;
@@ -160,12 +159,16 @@ fn check_put<R: Abort + Threads + Sync>(
     let seen = ran(rt, alloc, line, &NOTHING_FAILS)?;
     assert!(rt; seen.status == 0, "{line}");
     assert!(rt; seen.out.written() == printed.as_bytes(), "{line}");
-    let [file] = seen.folder.files() else {
-        return Err(Fail::from("not one file"));
-    };
-    assert!(rt; file.path.as_str() == "b.tif", "{line}");
-    assert!(rt; file.bytes.as_slice() == bytes, "{line}");
+    assert!(rt; is_file(seen.folder.files(), bytes), "{line}");
     Ok(())
+}
+
+// Whether the one file has these bytes and stands at b.tif.
+fn is_file(files: &[FileRow], bytes: &[u8]) -> bool {
+    match files {
+        [file] => file.path.as_str() == "b.tif" && file.bytes.as_slice() == bytes,
+        _ => false,
+    }
 }
 
 // Runs a line of words, which is to end with this status, to print this and to put nothing.
@@ -305,19 +308,6 @@ fn words_that_are_no_command_line_are_refused(rt: HostRuntime) -> Result<(), Fai
     Ok(())
 }
 
-#[test]
-fn a_fault_of_the_source_leaves_nothing(rt: HostRuntime) -> Result<(), Fail> {
-    let failing = Failing {
-        source: &[0],
-        ..NOTHING_FAILS
-    };
-    let seen = ran(&rt, rt.alloc(), WORKED, &failing)?;
-    assert!(rt; seen.status == 3);
-    assert!(rt; seen.out.written() == b"source fault\n".as_slice());
-    assert!(rt; seen.folder.files().is_empty());
-    Ok(())
-}
-
 // The calls are create, append of what stands before the strip, of the strip, and finish. A call
 // that fails has added half of what it would have taken.
 #[test]
@@ -351,65 +341,6 @@ fn a_fault_of_the_out_leaves_a_prefix(rt: HostRuntime) -> Result<(), Fail> {
         assert!(rt; seen.status == 7, "{line}");
         assert!(rt; seen.out.written() == printed.as_bytes(), "{line}");
         assert!(rt; seen.folder.files().len() == files, "{line}");
-    }
-    Ok(())
-}
-
-// What the system answers when it is asked for the words.
-fn answered<R: Threads + Sync>(
-    rt: &R,
-    alloc: Global,
-    answer: io::Result<Args>,
-) -> Result<Seen, Fail> {
-    let mut source = source_of(alloc, &[])?;
-    let mut folder = MemFolder::over(FileList::new(alloc), numbers(alloc, &[])?);
-    let mut out = MemOut::over(Bytes::from_vec(Vec::new(alloc)), numbers(alloc, &[])?);
-    let keeper = empty_keeper(alloc, &[])?;
-    let Ended { status, keeper } = run_arguments(
-        rt,
-        alloc,
-        answer,
-        &mut source,
-        keeper,
-        &mut folder,
-        &mut out,
-    );
-    Ok(Seen {
-        status,
-        folder,
-        out,
-        keeper,
-    })
-}
-
-#[test]
-fn the_words_after_the_name_are_carried_out(rt: HostRuntime) -> Result<(), Fail> {
-    let alloc = rt.alloc();
-    for (line, status) in [
-        ("tivrenan burn a.tif 0 0 8 1 b.tif plain", 0u8),
-        ("burn a.tif 0 0 8 1 b.tif plain", 1),
-        ("tivrenan burn a.tif 0 0 8 1 b.tif plain plain", 1),
-        ("tivrenan", 1),
-        ("", 1),
-    ] {
-        let words = words_of(alloc, line)?;
-        let seen = answered(&rt, alloc, Ok(words.into_iter()))?;
-        assert!(rt; seen.status == status, "{line}");
-        assert!(rt; seen.folder.files().is_empty() == (status > 0), "{line}");
-    }
-    Ok(())
-}
-
-#[test]
-fn words_that_the_system_does_not_give_are_told_apart(rt: HostRuntime) -> Result<(), Fail> {
-    let alloc = rt.alloc();
-    for (kind, status, printed) in [
-        (ErrorKind::OutOfMemory, 6u8, "out of memory\n"),
-        (ErrorKind::InvalidData, 1, "words refused\n"),
-    ] {
-        let seen = answered(&rt, alloc, Err(io::Error::from(kind)))?;
-        assert!(rt; seen.status == status, "{printed}");
-        assert!(rt; seen.out.written() == printed.as_bytes(), "{printed}");
     }
     Ok(())
 }

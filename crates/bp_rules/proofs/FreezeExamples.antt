@@ -25,9 +25,9 @@ use Rattle.bp_freeze.specs.Freezing.{freeze_of}
 use Rattle.bp_rules.specs.Importing.{import_of}
 use Rattle.bp_rules.specs.Running.{answers_of, run_of}
 use Rattle.bp_rules.specs.Stepping.{done, step_of, told}
-use Rattle.bp_rules.specs.declared.running.Answer.TheVariants as answers
-use Rattle.bp_rules.specs.declared.running.Asked.{Asked}
-use Rattle.bp_rules.specs.declared.running.Asked.TheVariants as asks
+use Rattle.bp_rules.specs.declared.running.RunAnswer.TheVariants as answers
+use Rattle.bp_rules.specs.declared.running.RunStep.{RunStep}
+use Rattle.bp_rules.specs.declared.running.RunStep.TheVariants as asks
 
 -- ---- documents 1 to 3 are a family with 2, 40 and 3 pages, of which the second is withheld; 4 is alone
 
@@ -191,7 +191,7 @@ abbrev later : BatchShown
 later = record { name = codes "B2"; digest = key 8; fields = []; docs = [] }
 
 -- a reviewer may not freeze, and the run goes on; a clerk may; a batch comes in; the clerk asks again
-abbrev day : List Asked
+abbrev day : List RunStep
 day = asks.Call (key 4) (Freeze family) ∷ asks.Call (key 3) (Freeze family) ∷ asks.Import later ∷ asks.Call (key 3) (Freeze family) ∷ []
 
 answered_in_turn : answers_of matter day ≡ (answers.Refused (bare_rule kinds.RoleRefused) ∷ answers.Replied (replies.Produced produced) ∷ answers.Counted (record { documents = 0; pages = 0 }) ∷ answers.Replied (replies.Produced produced) ∷ [])

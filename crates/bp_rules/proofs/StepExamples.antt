@@ -26,8 +26,8 @@ use Rattle.bp_rules.specs.Refusing.{no_document, no_page, staff_there}
 use Rattle.bp_rules.specs.Roles.{may}
 use Rattle.bp_rules.specs.Running.{run_of}
 use Rattle.bp_rules.specs.Stepping.{done, step_of, told}
-use Rattle.bp_rules.specs.declared.running.Asked.{Asked}
-use Rattle.bp_rules.specs.declared.running.Asked.TheVariants as asks
+use Rattle.bp_rules.specs.declared.running.RunStep.{RunStep}
+use Rattle.bp_rules.specs.declared.running.RunStep.TheVariants as asks
 
 -- ---- a matter of one document of one page, 8 by 1 and white
 
@@ -77,7 +77,7 @@ confirm_it = Confirm (record { 0 = 1 })
 abbrev send_back : Call
 send_back = SendBack (record { 0 = 1 })
 
-abbrev by : ℕ → Call → Asked
+abbrev by : ℕ → Call → RunStep
 by n call = asks.Call (key n) call
 
 -- the call of the document, as it stands

@@ -23,14 +23,14 @@ use Rattle.bp_rules.specs.Steps.{KeepsRows, StepsImport, counted_of}
 use Rattle.bp_rules.specs.declared.changes.Edit.TheVariants.{Nothing}
 use Rattle.bp_rules.specs.declared.changes.ImportRows.{ImportRows}
 use Rattle.bp_rules.specs.declared.importing.Imported.{Imported}
-use Rattle.bp_rules.specs.declared.running.Answer.{Answer}
-use Rattle.bp_rules.specs.declared.running.Answer.TheVariants as answers
-use Rattle.bp_rules.specs.declared.running.Asked.{Asked}
-use Rattle.bp_rules.specs.declared.running.Asked.TheVariants as asks
+use Rattle.bp_rules.specs.declared.running.RunAnswer.{RunAnswer}
+use Rattle.bp_rules.specs.declared.running.RunAnswer.TheVariants as answers
+use Rattle.bp_rules.specs.declared.running.RunStep.{RunStep}
+use Rattle.bp_rules.specs.declared.running.RunStep.TheVariants as asks
 use Rattle.bp_rules.specs.declared.stepping.Counted.{Counted}
-use Rattle.bp_rules.specs.declared.stepping.StepRefusal.{StepRefusal}
-use Rattle.bp_rules.specs.declared.stepping.StepRefusal.TheVariants.{KeeperFault, OutOfMemory}
-use Rattle.bp_rules.specs.declared.stepping.StepRefusal.TheVariants as stops
+use Rattle.bp_rules.specs.declared.refusals.MatterRefusal.{MatterRefusal}
+use Rattle.bp_rules.specs.declared.refusals.MatterRefusal.TheVariants.{KeeperFault, OutOfMemory}
+use Rattle.bp_rules.specs.declared.refusals.MatterRefusal.TheVariants as stops
 
 -- ---- where the keeper fails
 
@@ -68,11 +68,11 @@ told-made puts before None made = tt
 told-made puts None (Some rows) made = absurd cc
 told-made puts (Some before) (Some rows) made = refl
 
-abbrev answered_by : Answer → Matter → Answered
+abbrev answered_by : RunAnswer → Matter → Answered
 answered_by answer m = record { answer = answer; matter = m }
 
 -- a broken rule, which leaves all
-rule-answered : (m : Matter) (asked : Asked) (keeper : KeeperView) (rule : Rule) (m' : Matter) (keeper' : KeeperView) → answered m asked ≡ refused_by m rule → m' ≡ m → keeper' ≡ keeper
+rule-answered : (m : Matter) (asked : RunStep) (keeper : KeeperView) (rule : Rule) (m' : Matter) (keeper' : KeeperView) → answered m asked ≡ refused_by m rule → m' ≡ m → keeper' ≡ keeper
     → OneAnswered m asked keeper (answers.Refused rule) m' keeper'
 rule-answered m asked keeper rule m' keeper' is still left =
     record {
@@ -83,7 +83,7 @@ rule-answered m asked keeper rule m' keeper' is still left =
       sure = ap (λ (k : KeeperView). k.sure) left;
     }
 
-pub import-answered : (m : Matter) (b : BatchShown) (keeper : KeeperView) (r : Result Counted StepRefusal) (m' : Matter) (keeper' : KeeperView) → StepsImport m b keeper r m' keeper'
+pub import-answered : (m : Matter) (b : BatchShown) (keeper : KeeperView) (r : Result Counted MatterRefusal) (m' : Matter) (keeper' : KeeperView) → StepsImport m b keeper r m' keeper'
     → AnswersOne m (asks.Import b) keeper (counted_answer r) m' keeper'
 import-answered m b keeper (Ok counted) m' keeper' step =
     record {

@@ -7,6 +7,7 @@ pub mod ImportRows
 pub mod Keeping
 pub mod Limits
 pub mod Loading
+pub mod Refusals
 pub mod Refusing
 pub mod Roles
 pub mod Room

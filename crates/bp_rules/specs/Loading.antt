@@ -11,8 +11,8 @@ use Rattle.bp_matter.specs.KeptRows.{rows_of}
 use Rattle.bp_matter.specs.Matter.{Matter, Shown}
 use Rattle.bp_matter.specs.ReadTables.{ReadsTables}
 use Rattle.bp_matter.specs.Valid.{IsValid}
-use Rattle.bp_rules.specs.declared.loading.LoadRefusal.{LoadRefusal}
-use Rattle.bp_rules.specs.declared.loading.LoadRefusal.TheVariants as loads
+use Rattle.bp_rules.specs.declared.refusals.MatterRefusal.{MatterRefusal}
+use Rattle.bp_rules.specs.declared.refusals.MatterRefusal.TheVariants as loads
 
 -- where the rows are those of a valid matter, it is this one
 abbrev pub OnlyFor : List Row → Matter → Type 0
@@ -20,7 +20,7 @@ OnlyFor rows m = (other : Matter) → IsValid other → rows ≡ rows_of other �
 
 -- what is loaded from these rows: the tables that they are kept for; NoMatter exactly where there
 -- is no row, and else the rule that reading them breaks
-abbrev pub LoadedFrom : List Row → Result Shown LoadRefusal → Type 0
+abbrev pub LoadedFrom : List Row → Result Shown MatterRefusal → Type 0
 LoadedFrom [] (Ok tables) = ⊥
 LoadedFrom [] (Err (loads.Rule rule)) = rule ≡ bare_rule NoMatter
 LoadedFrom (row ∷ rows) (Ok tables) =
@@ -36,21 +36,23 @@ IsLoadRule NoMatter = Unit {0}
 IsLoadRule KeptRowBad = Unit {0}
 IsLoadRule _ = ⊥
 
-abbrev pub HasLoadRule : Result Shown LoadRefusal → Type 0
+abbrev pub HasLoadRule : Result Shown MatterRefusal → Type 0
 HasLoadRule (Err (loads.Rule rule)) = IsLoadRule rule.kind
 HasLoadRule _ = Unit {0}
 
 -- only a fault of the keeper raises its count
-abbrev pub faults_loaded : ℕ → Result Shown LoadRefusal → ℕ
+abbrev pub faults_loaded : ℕ → Result Shown MatterRefusal → ℕ
 faults_loaded faults (Err loads.KeeperFault) = risen faults
 faults_loaded faults _ = faults
 
--- loading gave this, and left the rows
-pub record LoadsTables (before : KeeperView) (result : Result Shown LoadRefusal)
+-- loading gave this, by the rows that are told as it ends, and left the rows. The keeper was asked
+-- once, and for nothing else
+pub record LoadsTables (before : KeeperView) (result : Result Shown MatterRefusal)
     (after : KeeperView) : Type 0 where
-  pub told_before : IfSome before.rows (λ rows. LoadedFrom rows result)
   pub told_after : IfSome after.rows (λ rows. LoadedFrom rows result)
   pub rule : HasLoadRule result
   pub same : SameRows before.rows after.rows
   pub faults : after.faults ≡ faults_loaded before.faults result
+  pub loads : after.loads ≡ risen before.loads
+  pub commits : after.commits ≡ before.commits
   pub sure : after.sure ≡ before.sure

@@ -12,17 +12,17 @@ use Rattle.bp_rules.specs.Loading.{LoadsTables}
 use Rattle.bp_rules.specs.Stepping.{Stepped, step_of}
 use Rattle.bp_rules.specs.Steps.{KeepsRows, Stays, counted_of}
 use Rattle.bp_rules.specs.declared.importing.Imported.{Imported}
-use Rattle.bp_rules.specs.declared.running.Answer.{Answer}
-use Rattle.bp_rules.specs.declared.running.Answer.TheVariants as answers
-use Rattle.bp_rules.specs.declared.running.Asked.{Asked}
-use Rattle.bp_rules.specs.declared.running.Asked.TheVariants as asks
+use Rattle.bp_rules.specs.declared.running.RunAnswer.{RunAnswer}
+use Rattle.bp_rules.specs.declared.running.RunAnswer.TheVariants as answers
+use Rattle.bp_rules.specs.declared.running.RunStep.{RunStep}
+use Rattle.bp_rules.specs.declared.running.RunStep.TheVariants as asks
 use Rattle.bp_rules.specs.declared.stepping.Counted.{Counted}
-use Rattle.bp_rules.specs.declared.stepping.StepRefusal.{StepRefusal}
-use Rattle.bp_rules.specs.declared.stepping.StepRefusal.TheVariants as stops
+use Rattle.bp_rules.specs.declared.refusals.MatterRefusal.{MatterRefusal}
+use Rattle.bp_rules.specs.declared.refusals.MatterRefusal.TheVariants as stops
 
 -- what is answered, and the matter after it
 pub record Answered : Type 0 where
-  pub answer : Answer
+  pub answer : RunAnswer
   pub matter : Matter
 
 -- a broken rule is the answer, and changes nothing
@@ -42,33 +42,34 @@ to_import m (Ok imported) =
 to_import m (Err rule) = refused_by m rule
 
 -- what is answered to one that is asked
-abbrev pub answered : Matter → Asked → Answered
+abbrev pub answered : Matter → RunStep → Answered
 answered m (asks.Call key call) = to_call m (step_of m key call)
 answered m (asks.Import batch) = to_import m (import_of m batch)
 
 -- the matter after all that is asked in turn
-abbrev pub run_of : Matter → List Asked → Matter
+abbrev pub run_of : Matter → List RunStep → Matter
 run_of m [] = m
 run_of m (asked ∷ more) = run_of (answered m asked).matter more
 
 -- and the answers, in order
-abbrev pub answers_of : Matter → List Asked → List Answer
+abbrev pub answers_of : Matter → List RunStep → List RunAnswer
 answers_of m [] = []
 answers_of m (asked ∷ more) =
     (answered m asked).answer ∷ answers_of (answered m asked).matter more
 
 -- a matter, its keeper, and the answers that were given
-pub record Book : Type 0 where
+pub record RunState : Type 0 where
   pub matter : Matter
   pub keeper : KeeperView
-  pub answers : List Answer
+  pub answers : List RunAnswer
 
-abbrev pub book_of : Matter → KeeperView → List Answer → Book
-book_of m keeper told = record { matter = m; keeper = keeper; answers = told }
+abbrev pub run_state : Matter → KeeperView → List RunAnswer → RunState
+run_state m keeper told = record { matter = m; keeper = keeper; answers = told }
 
--- all of this was asked in turn and answered, broken rules among the answers: a keeper that kept the
--- matter keeps the matter after it, and it tells rows only where it told them before
-pub record Ran (before : Book) (asked : List Asked) (count : ℕ) (now : Book) : Type 0 where
+-- all of this was asked in turn and answered, broken rules among the answers: a keeper that kept
+-- the matter keeps the matter after it, and it tells rows only where it told them before
+pub record Ran (before : RunState) (asked : List RunStep) (count : ℕ)
+    (now : RunState) : Type 0 where
   pub matter : now.matter ≡ run_of before.matter asked
   pub answers : now.answers ≡ before.answers ++ answers_of before.matter asked
   pub kept : KeepsRows before.keeper before.matter → KeepsRows now.keeper now.matter
@@ -77,56 +78,56 @@ pub record Ran (before : Book) (asked : List Asked) (count : ℕ) (now : Book) :
   pub sure : now.keeper.sure ≡ before.keeper.sure
 
 -- a broken rule is answered
-abbrev pub is_broken : Answer → Bool
+abbrev pub is_broken : RunAnswer → Bool
 is_broken (answers.Refused rule) = true
 is_broken _ = false
 
--- a run stops where the keeper fails at what breaks no rule and changes the matter, and at no broken
--- rule
-abbrev pub StopsAt : Matter → StepRefusal → Answered → Type 0
+-- a run stops where the keeper fails at what breaks no rule and changes the matter, and at no
+-- broken rule
+abbrev pub StopsAt : Matter → MatterRefusal → Answered → Type 0
 StopsAt m (stops.Rule rule) next = ⊥
 StopsAt m stops.KeeperFault next = IsTrue (not (is_broken next.answer)) × (next.matter ≢ m)
 StopsAt m stops.OutOfMemory next = Unit {0}
 
 -- only a fault of the keeper raises its count
-abbrev pub faults_stopped : ℕ → StepRefusal → ℕ
+abbrev pub faults_stopped : ℕ → MatterRefusal → ℕ
 faults_stopped faults stops.KeeperFault = risen faults
 faults_stopped faults _ = faults
 
 -- what was asked before was made and answered, and the next and those behind it weren't
-pub record Stopped (before : Book) (asked : List Asked) (refusal : StepRefusal) (now : Book)
-    : Type 0 where
-  pub first : List Asked
-  pub next : Asked
-  pub others : List Asked
+pub record Stopped (before : RunState) (asked : List RunStep) (refusal : MatterRefusal)
+    (now : RunState) : Type 0 where
+  pub first : List RunStep
+  pub next : RunStep
+  pub others : List RunStep
   pub parts : asked ≡ first ++ next ∷ others
   pub ran : Ran before first (faults_stopped before.keeper.faults refusal) now
   pub reason : StopsAt now.matter refusal (answered now.matter next)
 
 -- what a run gives: all made and answered in turn, or what was asked before the one that it
 -- stopped at
-abbrev pub Runs : Book → List Asked → Result (Unit {0}) StepRefusal → Book → Type 0
+abbrev pub Runs : RunState → List RunStep → Result (Unit {0}) MatterRefusal → RunState → Type 0
 Runs before asked (Ok _) now = Ran before asked before.keeper.faults now
 Runs before asked (Err refusal) now = Stopped before asked refusal now
 
 -- ---- one of a run
 
 -- a broken rule is an answer, and the run goes on
-abbrev pub refusal_answer : StepRefusal → Result Answer StepRefusal
+abbrev pub refusal_answer : MatterRefusal → Result RunAnswer MatterRefusal
 refusal_answer (stops.Rule rule) = Ok (answers.Refused rule)
 refusal_answer stops.KeeperFault = Err stops.KeeperFault
 refusal_answer stops.OutOfMemory = Err stops.OutOfMemory
 
-abbrev pub reply_answer : Result Reply StepRefusal → Result Answer StepRefusal
+abbrev pub reply_answer : Result Reply MatterRefusal → Result RunAnswer MatterRefusal
 reply_answer (Ok reply) = Ok (answers.Replied reply)
 reply_answer (Err refusal) = refusal_answer refusal
 
-abbrev pub counted_answer : Result Counted StepRefusal → Result Answer StepRefusal
+abbrev pub counted_answer : Result Counted MatterRefusal → Result RunAnswer MatterRefusal
 counted_answer (Ok counted) = Ok (answers.Counted counted)
 counted_answer (Err refusal) = refusal_answer refusal
 
 -- one that is asked was made, or broke a rule, with this answer
-pub record OneAnswered (m : Matter) (asked : Asked) (keeper : KeeperView) (answer : Answer)
+pub record OneAnswered (m : Matter) (asked : RunStep) (keeper : KeeperView) (answer : RunAnswer)
     (m' : Matter) (keeper' : KeeperView) : Type 0 where
   pub answered : answered m asked ≡ record { answer = answer; matter = m' }
   pub kept : KeepsRows keeper m → KeepsRows keeper' m'
@@ -135,7 +136,7 @@ pub record OneAnswered (m : Matter) (asked : Asked) (keeper : KeeperView) (answe
   pub sure : keeper'.sure ≡ keeper.sure
 
 -- what it gives: the answer; or a fault of the keeper or want of memory, which leave all
-abbrev pub AnswersOne : Matter → Asked → KeeperView → Result Answer StepRefusal → Matter
+abbrev pub AnswersOne : Matter → RunStep → KeeperView → Result RunAnswer MatterRefusal → Matter
     → KeeperView → Type 0
 AnswersOne m asked keeper (Ok answer) m' keeper' = OneAnswered m asked keeper answer m' keeper'
 AnswersOne m asked keeper (Err refusal) m' keeper' =
@@ -144,9 +145,13 @@ AnswersOne m asked keeper (Err refusal) m' keeper' =
 
 -- ---- loaded after a run
 
--- where the rows of a matter are told, what is loaded from them after a run is the matter after it
+-- where the rows of a matter are told before and after they are loaded, what is loaded from them
+-- after a run is the matter after it
 abbrev pub RunLoads : Type 0
-RunLoads = (before now : Book) (asked : List Asked) (loaded : KeeperView) (count : ℕ)
+RunLoads = (before now : RunState) (asked : List RunStep) (loaded : KeeperView) (count : ℕ)
     (tables : Shown) → KeepsRows before.keeper before.matter → Ran before asked count now
-    → IsValid now.matter → IsTrue (is_some now.keeper.rows)
-    → LoadsTables now.keeper (Ok tables) loaded → tables.matter ≡ run_of before.matter asked
+    → IsValid now.matter
+    → IsTrue (is_some now.keeper.rows)
+    → IsTrue (is_some loaded.rows)
+    → LoadsTables now.keeper (Ok tables) loaded
+    → tables.matter ≡ run_of before.matter asked

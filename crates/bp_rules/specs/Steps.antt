@@ -18,33 +18,44 @@ use Rattle.bp_rules.specs.Stepping.{step_of}
 use Rattle.bp_rules.specs.declared.changes.Edit.{Edit}
 use Rattle.bp_rules.specs.declared.importing.Imported.{Imported}
 use Rattle.bp_rules.specs.declared.stepping.Counted.{Counted}
-use Rattle.bp_rules.specs.declared.stepping.StepRefusal.{StepRefusal}
-use Rattle.bp_rules.specs.declared.stepping.StepRefusal.TheVariants as stops
+use Rattle.bp_rules.specs.declared.refusals.MatterRefusal.{MatterRefusal}
+use Rattle.bp_rules.specs.declared.refusals.MatterRefusal.TheVariants as stops
 
 -- the rows of a keeper, if it tells them, are those of the matter
 abbrev pub KeepsRows : KeeperView → Matter → Type 0
 KeepsRows keeper m = IfSome keeper.rows (λ rows. rows ≡ rows_of m)
 
+-- a count rose once, or not at all
+pub data AtMostOnce (before now : ℕ) : Type 0 where
+  never : now ≡ before → AtMostOnce before now
+  once : now ≡ risen before → AtMostOnce before now
+
 -- the rows that are told now were told before, and are those with the puts of a change
 abbrev pub PutsMade : Option (List Row) → Edit → Option (List Row) → Type 0
-PutsMade before edit now = IfSome now (λ rows. option_map (put_all (puts_of edit)) before ≡ Some rows)
+PutsMade before edit now =
+    IfSome now (λ rows. option_map (put_all (puts_of edit)) before ≡ Some rows)
 
 -- a change was made: its puts are made of whatever rows, so a keeper that kept the matter keeps
--- the matter after it
+-- the matter after it. All were committed at once
 pub record Made (m : Matter) (keeper : KeeperView) (edit : Edit) (m' : Matter)
     (keeper' : KeeperView) : Type 0 where
   pub matter : m' ≡ after m edit
   pub puts : PutsMade keeper.rows edit keeper'.rows
   pub kept : KeepsRows keeper m → KeepsRows keeper' m'
   pub faults : keeper'.faults ≡ keeper.faults
+  pub loads : keeper'.loads ≡ keeper.loads
+  pub commits : AtMostOnce keeper.commits keeper'.commits
   pub sure : keeper'.sure ≡ keeper.sure
 
--- nothing was changed, but that the keeper's count of faults is this one
+-- nothing was changed, but that the keeper's count of faults is this one and that it may have been
+-- asked to commit once
 pub record Stays (m : Matter) (keeper : KeeperView) (count : ℕ) (m' : Matter)
     (keeper' : KeeperView) : Type 0 where
   pub matter : m' ≡ m
   pub rows : IfSome keeper'.rows (λ now. keeper.rows ≡ Some now)
   pub faults : keeper'.faults ≡ count
+  pub loads : keeper'.loads ≡ keeper.loads
+  pub commits : AtMostOnce keeper.commits keeper'.commits
   pub sure : keeper'.sure ≡ keeper.sure
 
 -- what making a change gives: the change made and kept, and nothing asked of the keeper where
@@ -73,7 +84,7 @@ pub record ImportMade (m : Matter) (b : BatchShown) (keeper : KeeperView) (count
 
 -- what a step of an import gives: the import made and kept; or a rule, a fault of the keeper at an
 -- import that has puts, or want of memory, which leave all
-abbrev pub StepsImport : Matter → BatchShown → KeeperView → Result Counted StepRefusal → Matter
+abbrev pub StepsImport : Matter → BatchShown → KeeperView → Result Counted MatterRefusal → Matter
     → KeeperView → Type 0
 StepsImport m b keeper (Ok counted) m' keeper' = ImportMade m b keeper counted m' keeper'
 StepsImport m b keeper (Err (stops.Rule rule)) m' keeper' =
@@ -93,7 +104,7 @@ pub record CallMade (m : Matter) (key : List ℕ) (call : Call) (keeper : Keeper
 
 -- what a step gives: the call made and kept; or a rule, a fault of the keeper at a call that
 -- changes the matter, or want of memory, which leave all
-abbrev pub StepsCall : Matter → List ℕ → Call → KeeperView → Result Reply StepRefusal → Matter
+abbrev pub StepsCall : Matter → List ℕ → Call → KeeperView → Result Reply MatterRefusal → Matter
     → KeeperView → Type 0
 StepsCall m key call keeper (Ok reply) m' keeper' = CallMade m key call keeper reply m' keeper'
 StepsCall m key call keeper (Err (stops.Rule rule)) m' keeper' =

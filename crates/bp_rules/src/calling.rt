@@ -17,13 +17,13 @@ ghost use Rattle.bp_rules.specs.declared.changes.Edit.TheVariants.{Review};
 ghost use Rattle.bp_rules.specs.declared.changes.MarkEdit.TheVariants as mark_edits;
 
 use crate::changes::{CallEdit, MarkEdit};
-use crate::confirming::{confirm_rule, is_ground, is_redact};
 use crate::copies::copy_text;
 use crate::deciding::{Decided, reviewed};
 use crate::refusing::{has_marks, no_document};
-use crate::texts::is_designation;
 use bp_core::{DocNo, OutOfMemory, Refusal, Rule, RuleKind, StaffNo, Text, Treatment};
-use bp_matter::{Call, CallRow, State, Tables};
+use bp_matter::texts::is_designation;
+use bp_matter::treatments::{is_ground, is_redact};
+use bp_matter::{Call, CallRow, State, Tables, confirm_rule};
 use std::alloc::Global;
 
 // The document is called so by this person.

@@ -2,7 +2,6 @@
 ghost use Rattle.std.specs.Prelude.{◌≡◌, IfOk};
 
 use bp_core::{ListOf, OutOfMemory, Text};
-use bp_matter::Entry;
 use bp_rows::Page;
 use bp_text::{Word, WordList};
 use std::alloc::Global;
@@ -44,15 +43,4 @@ pub(crate) fn copy_page(alloc: Global, page: &Page) -> Result<Page, OutOfMemory>
         Ok(copy) => Ok(copy),
         Err(_) => Err(OutOfMemory),
     }
-}
-
-pub(crate) fn copy_entry(entry: &Entry) -> Result<Entry, OutOfMemory>
-    ensures { IfOk result (λ copy. copy ≡ entry.now) }
-{
-    Ok(Entry {
-        date: copy_text(&entry.date)?,
-        author: copy_text(&entry.author)?,
-        recipients: copy_text(&entry.recipients)?,
-        description: copy_text(&entry.description)?,
-    })
 }

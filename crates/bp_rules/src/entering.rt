@@ -14,9 +14,8 @@ use crate::changes::MarkEdit;
 use crate::copies::copy_text;
 use crate::deciding::{Decided, reviewed};
 use crate::refusing::no_document;
-use crate::texts::entry_fits;
 use bp_core::{DocNo, Refusal, Rule, RuleKind, StaffNo, Text};
-use bp_matter::{Call, DocEntry, Entry, Tables};
+use bp_matter::{Call, DocEntry, Entry, Tables, entry_fits};
 use std::alloc::Global;
 
 #[allow(clippy::too_many_arguments)]

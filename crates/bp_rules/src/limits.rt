@@ -27,12 +27,7 @@ pub const BATCHES: u64 = 6;
 fn full(which: u64, reached: u64) -> Rule
     ensures { result ≡ full_rule which reached }
 {
-    Rule {
-        kind: RuleKind::MatterFull,
-        line: 0,
-        a: which,
-        b: reached,
-    }
+    Rule::naming_both(RuleKind::MatterFull, which, reached)
 }
 
 // The first limit that the tables would pass with this batch.

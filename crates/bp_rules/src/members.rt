@@ -4,17 +4,17 @@ ghost use Rattle.bp_matter.specs.LookUps.{staff_with};
 ghost use Rattle.bp_matter.specs.Fields.{role_number};
 ghost use Rattle.bp_rules.specs.Calling.{next_staff, with_staff};
 ghost use Rattle.bp_rules.specs.Deciding.{Decides};
-ghost use Rattle.bp_rules.specs.Refusing.{is_staff_name};
+ghost use Rattle.bp_rules.specs.Refusing.{is_staff_name as staff_name};
 ghost use Rattle.bp_rules.specs.Stepping.{add_staff, is_member, staff_by};
 
 use crate::changes::{Change, Edit};
 use crate::copies::copy_text;
 use crate::deciding::{Decided, told};
 use crate::refusing::{staff_full, staff_there};
-use crate::texts::is_staff_name;
 use bp_core::{Refusal, Role, Rule, RuleKind, StaffNo, Text};
 use bp_matter::laws::order_law;
-use bp_matter::{MAX_STAFF, Reply, StaffRow, Tables};
+use bp_matter::texts::is_text;
+use bp_matter::{MAX_NAME, MAX_STAFF, Reply, StaffRow, Tables};
 use std::alloc::Global;
 
 pub(crate) fn add_staff(
@@ -103,7 +103,7 @@ fn role_number(role: Role) -> u8
 fn add_member(alloc: Global, tables: &Tables, row: StaffRow) -> Result<Decided, Refusal>
     requires number { row.staff ≡ next_staff tables.now.matter }
     requires few { length tables.now.matter.staff < 1000 }
-    requires name { IsTrue (is_staff_name row.name) }
+    requires name { IsTrue (staff_name row.name) }
     requires new { staff_with row.digest tables.now.matter ≡ None }
     ensures { Decides tables.now.matter (Ok (record {
       reply = Reply.Staff row.staff;
@@ -124,4 +124,10 @@ fn know_digest(digest: &[u8; 32])
     ensures { length digest.now ≡ 32 }
 {
     let _digest = digest;
+}
+
+fn is_staff_name(name: &Text) -> bool
+    ensures { result ≡ staff_name name.now }
+{
+    !name.is_empty() && is_text(name, MAX_NAME)
 }

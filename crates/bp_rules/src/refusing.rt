@@ -3,8 +3,8 @@ ghost use Rattle.std.specs.Prelude.{◌≡◌};
 ghost use Rattle.std.specs.Option.{option_copied};
 ghost use Rattle.bp_rules.specs.Refusing.{has_marks, is_box, is_called_redact, no_document, no_page, staff_full, staff_there};
 
-use crate::confirming::is_redact;
 use bp_core::{DocNo, PageNo, Rule, RuleKind, StaffNo};
+use bp_matter::treatments::is_redact;
 use bp_matter::{BoxRow, CallRow, MAX_BOX, Tables};
 
 // The number of the limit of the staff.
@@ -13,50 +13,26 @@ const STAFF: u64 = 5;
 pub(crate) fn no_document(doc: DocNo) -> Rule
     ensures { result ≡ no_document doc.0 }
 {
-    let a = u64::from(doc.0);
-    Rule {
-        kind: RuleKind::NoDocument,
-        line: 0,
-        a,
-        b: 0,
-    }
+    Rule::naming(RuleKind::NoDocument, u64::from(doc.0))
 }
 
 pub(crate) fn no_page(page: PageNo) -> Rule
     ensures { result ≡ no_page page.0 }
 {
-    let a = u64::from(page.0);
-    Rule {
-        kind: RuleKind::NoPage,
-        line: 0,
-        a,
-        b: 0,
-    }
+    Rule::naming(RuleKind::NoPage, u64::from(page.0))
 }
 
 pub(crate) fn staff_there(staff: StaffNo) -> Rule
     ensures { result ≡ staff_there staff.0 }
 {
-    let a = u64::from(staff.0);
-    Rule {
-        kind: RuleKind::StaffThere,
-        line: 0,
-        a,
-        b: 0,
-    }
+    Rule::naming(RuleKind::StaffThere, u64::from(staff.0))
 }
 
 // One member more than this would be too many.
 pub(crate) fn staff_full(count: u32) -> Rule
     ensures { result ≡ staff_full count }
 {
-    let reached = u64::from(count) + 1;
-    Rule {
-        kind: RuleKind::MatterFull,
-        line: 0,
-        a: STAFF,
-        b: reached,
-    }
+    Rule::naming_both(RuleKind::MatterFull, STAFF, u64::from(count) + 1)
 }
 
 // Whether the number of a box is in range, and no side of it is 0.

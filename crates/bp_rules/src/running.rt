@@ -1,9 +1,10 @@
 // Calls and imports in turn.
 ghost use Rattle.std.specs.Prelude.{◌≡◌, [], ◌∷◌};
 ghost use Rattle.bp_rules.specs.Keeping.{StepKeeps};
-ghost use Rattle.bp_rules.specs.Running.{AnswersOne, RunLoads, Runs, book_of, counted_answer, refusal_answer, reply_answer};
+ghost use Rattle.bp_rules.specs.Running.{AnswersOne, RunLoads, Runs, run_state, counted_answer, refusal_answer, reply_answer};
 
-use crate::stepping::{Counted, StepRefusal, step, step_import};
+use crate::refusals::MatterRefusal;
+use crate::stepping::{Counted, step, step_import};
 use bp_core::Rule;
 use bp_keep::Keeper;
 use bp_matter::{Batch, Call, Reply, Tables};
@@ -11,7 +12,7 @@ use std::alloc::Global;
 
 /// What is asked of a matter.
 #[derive(Debug, Drop)]
-pub enum Asked {
+pub enum RunStep {
     /// A call, with the SHA-256 of the key that it is made with.
     Call { key: [u8; 32], call: Call },
     /// The import of a batch.
@@ -20,7 +21,7 @@ pub enum Asked {
 
 /// What is answered.
 #[derive(Debug, Drop)]
-pub enum Answer {
+pub enum RunAnswer {
     /// The reply to a call.
     Replied(Reply),
     /// How many documents and pages a batch has.
@@ -36,11 +37,11 @@ pub fn step_all<K: Keeper>(
     alloc: Global,
     tables: &mut Tables,
     keeper: &mut K,
-    asked: &[Asked],
-    answers: &mut Vec<Answer>,
-) -> Result<(), StepRefusal>
-    ensures run { let before = book_of tables.old.matter (K.shows keeper.old) answers.old.items in
-        let now = book_of tables.new.matter (K.shows keeper.new) answers.new.items in
+    asked: &[RunStep],
+    answers: &mut Vec<RunAnswer>,
+) -> Result<(), MatterRefusal>
+    ensures run { let before = run_state tables.old.matter (K.shows keeper.old) answers.old.items in
+        let now = run_state tables.new.matter (K.shows keeper.new) answers.new.items in
         Runs before asked.now result now }
     ensures kept { StepKeeps tables.old.matter tables.new.matter }
 {
@@ -58,16 +59,16 @@ fn answer_next<K: Keeper>(
     alloc: Global,
     tables: &mut Tables,
     keeper: &mut K,
-    asked: &Asked,
-    answers: &mut Vec<Answer>,
-) -> Result<(), StepRefusal>
-    ensures run { let before = book_of tables.old.matter (K.shows keeper.old) answers.old.items in
-        let now = book_of tables.new.matter (K.shows keeper.new) answers.new.items in
+    asked: &RunStep,
+    answers: &mut Vec<RunAnswer>,
+) -> Result<(), MatterRefusal>
+    ensures run { let before = run_state tables.old.matter (K.shows keeper.old) answers.old.items in
+        let now = run_state tables.new.matter (K.shows keeper.new) answers.new.items in
         Runs before (asked.now ∷ []) result now }
     ensures kept { StepKeeps tables.old.matter tables.new.matter }
 {
     if answers.reserve(1).is_err() {
-        return Err(StepRefusal::OutOfMemory);
+        return Err(MatterRefusal::OutOfMemory);
     }
     let answer = match make_one(alloc, tables, keeper, asked) {
         Ok(answer) => answer,
@@ -82,44 +83,44 @@ fn make_one<K: Keeper>(
     alloc: Global,
     tables: &mut Tables,
     keeper: &mut K,
-    asked: &Asked,
-) -> Result<Answer, StepRefusal>
+    asked: &RunStep,
+) -> Result<RunAnswer, MatterRefusal>
     ensures made { AnswersOne tables.old.matter asked.now (K.shows keeper.old) result
         tables.new.matter (K.shows keeper.new) }
     ensures kept { StepKeeps tables.old.matter tables.new.matter }
 {
     match asked {
-        Asked::Call { key, call } => reply_answer(step(alloc, tables, keeper, key, call)),
-        Asked::Import { batch } => counted_answer(step_import(alloc, tables, keeper, batch)),
+        RunStep::Call { key, call } => reply_answer(step(alloc, tables, keeper, key, call)),
+        RunStep::Import { batch } => counted_answer(step_import(alloc, tables, keeper, batch)),
     }
 }
 
-fn reply_answer(made: Result<Reply, StepRefusal>) -> Result<Answer, StepRefusal>
+fn reply_answer(made: Result<Reply, MatterRefusal>) -> Result<RunAnswer, MatterRefusal>
     ensures { result ≡ reply_answer made }
 {
     match made {
-        Ok(reply) => Ok(Answer::Replied(reply)),
+        Ok(reply) => Ok(RunAnswer::Replied(reply)),
         Err(refusal) => refusal_answer(refusal),
     }
 }
 
-fn counted_answer(made: Result<Counted, StepRefusal>) -> Result<Answer, StepRefusal>
+fn counted_answer(made: Result<Counted, MatterRefusal>) -> Result<RunAnswer, MatterRefusal>
     ensures { result ≡ counted_answer made }
 {
     match made {
-        Ok(counted) => Ok(Answer::Counted(counted)),
+        Ok(counted) => Ok(RunAnswer::Counted(counted)),
         Err(refusal) => refusal_answer(refusal),
     }
 }
 
 // A broken rule is an answer, and the run goes on.
-fn refusal_answer(refusal: StepRefusal) -> Result<Answer, StepRefusal>
+fn refusal_answer(refusal: MatterRefusal) -> Result<RunAnswer, MatterRefusal>
     ensures { result ≡ refusal_answer refusal }
 {
     match refusal {
-        StepRefusal::Rule(rule) => Ok(Answer::Refused(rule)),
-        StepRefusal::KeeperFault => Err(StepRefusal::KeeperFault),
-        StepRefusal::OutOfMemory => Err(StepRefusal::OutOfMemory),
+        MatterRefusal::Rule(rule) => Ok(RunAnswer::Refused(rule)),
+        MatterRefusal::KeeperFault => Err(MatterRefusal::KeeperFault),
+        MatterRefusal::OutOfMemory => Err(MatterRefusal::OutOfMemory),
     }
 }
 

@@ -6,7 +6,7 @@ ghost use Rattle.bp_rules.specs.Calling.{shown_designation, shown_responsive, sh
 ghost use Rattle.bp_rules.specs.Deciding.{Decides};
 ghost use Rattle.bp_rules.specs.Stepping.{step_by};
 
-use crate::copies::{copy_entry, copy_page, copy_text, copy_words};
+use crate::copies::{copy_page, copy_text, copy_words};
 use crate::deciding::{Decided, told};
 use crate::import_rows::empty;
 use crate::refusing::{no_document, no_page};
@@ -164,6 +164,6 @@ fn shown_entry(row: Option<&DocEntry>) -> Result<Option<Entry>, OutOfMemory>
 {
     match row {
         None => Ok(None),
-        Some(row) => Ok(Some(copy_entry(&row.entry)?)),
+        Some(row) => Ok(Some(row.entry.copy()?)),
     }
 }

@@ -11,32 +11,17 @@ use crate::applying::{apply, make_room};
 use crate::changes::Change;
 use crate::deciding::{Decided, decide};
 use crate::importing::{Imported, decide_import};
-use bp_core::{OutOfMemory, Refusal, Rule};
+use crate::refusals::MatterRefusal;
 use bp_freeze::numbers_are_taken_once;
 use bp_keep::{KeepRefusal, Keeper};
 use bp_matter::{Batch, Call, Reply, Tables};
 use std::alloc::Global;
-use thiserror::Error;
 
 /// How many documents and pages a batch has.
 #[derive(Clone, Copy, Debug, PartialEq, Eq)]
 pub struct Counted {
     pub documents: u32,
     pub pages: u32,
-}
-
-/// Why a step wasn't made. Each leaves the tables and the kept rows.
-#[derive(Clone, Copy, Debug, PartialEq, Eq, Error)]
-pub enum StepRefusal {
-    /// What was asked breaks this rule.
-    #[error("{0}")]
-    Rule(Rule),
-    /// The keeper failed.
-    #[error("keeping rows failed")]
-    KeeperFault,
-    /// There was too little memory.
-    #[error("out of memory")]
-    OutOfMemory,
 }
 
 /// Imports a batch: the tables and the kept rows are those after it. Room is made before the rows
@@ -48,7 +33,7 @@ pub fn step_import<K: Keeper>(
     tables: &mut Tables,
     keeper: &mut K,
     batch: &Batch,
-) -> Result<Counted, StepRefusal>
+) -> Result<Counted, MatterRefusal>
     ensures made { StepsImport tables.old.matter batch.now (K.shows keeper.old) result
         tables.new.matter (K.shows keeper.new) }
     ensures kept { StepKeeps tables.old.matter tables.new.matter }
@@ -57,16 +42,9 @@ pub fn step_import<K: Keeper>(
         change,
         documents,
         pages,
-    } = match decide_import(alloc, tables, batch) {
-        Ok(imported) => imported,
-        Err(Refusal::Rule(rule)) => return Err(StepRefusal::Rule(rule)),
-        Err(Refusal::OutOfMemory) => return Err(StepRefusal::OutOfMemory),
-    };
-    match make(alloc, tables, keeper, change) {
-        Ok(()) => Ok(Counted { documents, pages }),
-        Err(KeepRefusal::Failed) => Err(StepRefusal::KeeperFault),
-        Err(KeepRefusal::OutOfMemory) => Err(StepRefusal::OutOfMemory),
-    }
+    } = decide_import(alloc, tables, batch)?;
+    make(alloc, tables, keeper, change)?;
+    Ok(Counted { documents, pages })
 }
 
 /// Makes a call with this key: the tables and the kept rows are those after it. Room is made before
@@ -80,7 +58,7 @@ pub fn step<K: Keeper>(
     keeper: &mut K,
     key: &[u8; 32],
     call: &Call,
-) -> Result<Reply, StepRefusal>
+) -> Result<Reply, MatterRefusal>
     ensures made { StepsCall tables.old.matter key.now call.now (K.shows keeper.old) result
         tables.new.matter (K.shows keeper.new) }
     ensures kept { StepKeeps tables.old.matter tables.new.matter }
@@ -88,18 +66,11 @@ pub fn step<K: Keeper>(
     ensures labels { IsTrue (all_differ itself (all_labels tables.new.matter.productions)) }
 {
     know_numbers(tables);
-    let Decided { change, reply } = match decide(alloc, tables, key, call) {
-        Ok(decided) => decided,
-        Err(Refusal::Rule(rule)) => return Err(StepRefusal::Rule(rule)),
-        Err(Refusal::OutOfMemory) => return Err(StepRefusal::OutOfMemory),
-    };
+    let Decided { change, reply } = decide(alloc, tables, key, call)?;
     let made = make(alloc, tables, keeper, change);
     know_numbers(tables);
-    match made {
-        Ok(()) => Ok(reply),
-        Err(KeepRefusal::Failed) => Err(StepRefusal::KeeperFault),
-        Err(KeepRefusal::OutOfMemory) => Err(StepRefusal::OutOfMemory),
-    }
+    made?;
+    Ok(reply)
 }
 
 // Says that the label numbers under each prefix are taken once, and that no two labels are alike.

@@ -107,17 +107,6 @@ fn a_batch_is_imported_once(rt: HostRuntime) -> Result<(), Fail> {
     Ok(())
 }
 
-#[test]
-fn a_matter_is_missed_before_its_batch(rt: HostRuntime) -> Result<(), Fail> {
-    let alloc = rt.alloc();
-    for line in ["import B0", "import B."] {
-        let keeper = empty_keeper(alloc, &[])?;
-        let missed = (2, "refused 43 NoMatter 0 0 0\n");
-        let _ = check_over(&rt, alloc, line, DAT, keeper, missed)?;
-    }
-    Ok(())
-}
-
 // The calls are load and commit.
 #[test]
 fn a_fault_of_the_keeper_leaves_the_rows(rt: HostRuntime) -> Result<(), Fail> {

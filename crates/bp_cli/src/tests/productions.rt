@@ -7,7 +7,7 @@ use bp_matter::{Call, Tables};
 use bp_outside::{FileList, FileRow, MemFolder, MemSource, paths_differ};
 use bp_rows::{Page, Res, Unit};
 use bp_rules::{begin, load_tables, step};
-use bp_tiff::{Form, read_tiff, write_tiff};
+use bp_tiff::{Form, write_tiff};
 use sha2::{Digest, Sha256};
 use std::alloc::Global;
 use std::process::Abort;
@@ -249,23 +249,47 @@ fn line_of(alloc: Global, folder: &MemFolder) -> Result<String, Fail> {
     Ok(line)
 }
 
+// Produces the volume over the decided matter.
+pub fn produced<R: Threads + Sync>(
+    rt: &R,
+    alloc: Global,
+    held: Held<'_>,
+    failing: &Failing<'_>,
+) -> Result<Seen, Fail> {
+    ran_on(rt, alloc, PRODUCE, decided(rt, alloc, held)?, failing)
+}
+
+// Whether the paths of these files are those of the volume, in order.
+fn has_paths(files: &[FileRow]) -> bool {
+    let paths = files.iter().map(|file| file.path.as_str());
+    files.len() == PATHS.len() && paths.zip(PATHS).all(|(path, wanted)| path == wanted)
+}
+
+// Checks that both runs were done, and gave the same line and the same files.
+fn same_volume<R: Abort>(rt: &R, one: &Seen, other: &Seen) {
+    assert!(rt; (one.status, other.status) == (0, 0));
+    assert!(rt; one.out.written() == other.out.written());
+    assert!(rt; one.folder.files() == other.folder.files());
+}
+
+// Checks that a run ended with this status, printed this and put no file.
+fn told_alone<R: Abort>(rt: &R, seen: &Seen, status: u8, printed: &str) {
+    assert!(rt; seen.status == status, "{printed}");
+    assert!(rt; seen.out.written() == printed.as_bytes(), "{printed}");
+    assert!(rt; seen.folder.files().is_empty(), "{printed}");
+}
+
 #[test]
 fn a_volume_is_produced(rt: HostRuntime) -> Result<(), Fail> {
     let alloc = rt.alloc();
-    let seen = ran_on(
-        &rt,
-        alloc,
-        PRODUCE,
-        decided(&rt, alloc, SMITH)?,
-        &NOTHING_FAILS,
-    )?;
+    let seen = produced(&rt, alloc, SMITH, &NOTHING_FAILS)?;
+    has_the_volume(&rt, alloc, &seen)
+}
+
+fn has_the_volume<R: Abort>(rt: &R, alloc: Global, seen: &Seen) -> Result<(), Fail> {
     assert!(rt; seen.status == 0);
     assert!(rt; seen.out.written() == line_of(alloc, &seen.folder)?.as_bytes());
-    let files = seen.folder.files();
-    assert!(rt; files.len() == PATHS.len());
-    for (file, path) in files.iter().zip(PATHS) {
-        assert!(rt; file.path.as_str() == path, "{path}");
-    }
+    assert!(rt; has_paths(seen.folder.files()));
     for (path, text) in [
         ("V1/TEXT/0001/AB-0001.TXT", "\u{c}"),
         ("V1/TEXT/0001/AB-0002.TXT", SHEET_TEXT),
@@ -279,175 +303,114 @@ fn a_volume_is_produced(rt: HostRuntime) -> Result<(), Fail> {
 }
 
 #[test]
-fn images_are_burned_and_banded(rt: HostRuntime) -> Result<(), Fail> {
+fn two_matters_give_one_volume(rt: HostRuntime) -> Result<(), Fail> {
     let alloc = rt.alloc();
-    let seen = ran_on(
-        &rt,
-        alloc,
-        PRODUCE,
-        decided(&rt, alloc, SMITH)?,
-        &NOTHING_FAILS,
-    )?;
-    for (path, sides) in [
-        ("V1/IMAGES/0001/AB-0001.TIF", (64, 64)),
-        ("V1/IMAGES/0001/AB-0002.TIF", (1700, 2232)),
-    ] {
-        let Ok(page) = read_tiff(alloc, bytes_at(&seen.folder, path)?) else {
-            return Err(Fail::from("an image isn't read"));
-        };
-        assert!(rt; (page.width(), page.height()) == sides, "{path}");
-    }
+    let one = produced(&rt, alloc, SMITH, &NOTHING_FAILS)?;
+    let other = produced(&rt, alloc, JONES, &NOTHING_FAILS)?;
+    same_volume(&rt, &one, &other);
     Ok(())
 }
 
-#[test]
-fn two_matters_give_one_volume(rt: HostRuntime) -> Result<(), Fail> {
-    let alloc = rt.alloc();
-    let one = ran_on(
-        &rt,
-        alloc,
-        PRODUCE,
-        decided(&rt, alloc, SMITH)?,
-        &NOTHING_FAILS,
-    )?;
-    let other = ran_on(
-        &rt,
-        alloc,
-        PRODUCE,
-        decided(&rt, alloc, JONES)?,
-        &NOTHING_FAILS,
-    )?;
-    assert!(rt; (one.status, other.status) == (0, 0));
-    assert!(rt; one.out.written() == other.out.written());
-    assert!(rt; one.folder.files() == other.folder.files());
-    Ok(())
+// Runs a line that is to give the volume of a run once more. The keeper after it.
+fn given_again<R: Abort + Threads + Sync>(
+    rt: &R,
+    alloc: Global,
+    line: &str,
+    keeper: MemKeeper,
+    whole: &Seen,
+) -> Result<MemKeeper, Fail> {
+    let again = ran_on(rt, alloc, line, keeper, &NOTHING_FAILS)?;
+    same_volume(rt, whole, &again);
+    Ok(again.keeper)
+}
+
+// Runs a line that is to print this, to end with this status and to put no file. The keeper after
+// it.
+fn told_of<R: Abort + Threads + Sync>(
+    rt: &R,
+    alloc: Global,
+    line: &str,
+    keeper: MemKeeper,
+    (status, printed): (u8, &str),
+) -> Result<MemKeeper, Fail> {
+    let seen = ran_on(rt, alloc, line, keeper, &NOTHING_FAILS)?;
+    told_alone(rt, &seen, status, printed);
+    Ok(seen.keeper)
 }
 
 #[test]
 fn a_kept_production_is_pressed_and_logged(rt: HostRuntime) -> Result<(), Fail> {
     let alloc = rt.alloc();
-    let first = ran_on(
-        &rt,
-        alloc,
-        PRODUCE,
-        decided(&rt, alloc, SMITH)?,
-        &NOTHING_FAILS,
-    )?;
-    let (line, files) = (first.out, first.folder);
-    let mut keeper = first.keeper;
+    let whole = produced(&rt, alloc, SMITH, &NOTHING_FAILS)?;
+    let mut keeper = produced(&rt, alloc, SMITH, &NOTHING_FAILS)?.keeper;
     for again in ["press R-1", PRODUCE] {
-        let seen = ran_on(&rt, alloc, again, keeper, &NOTHING_FAILS)?;
-        assert!(rt; seen.status == 0, "{again}");
-        assert!(rt; seen.out.written() == line.written(), "{again}");
-        assert!(rt; seen.folder.files() == files.files(), "{again}");
-        keeper = seen.keeper;
+        keeper = given_again(&rt, alloc, again, keeper, &whole)?;
     }
-    let log = ran_on(&rt, alloc, "log R-1", keeper, &NOTHING_FAILS)?;
-    assert!(rt; log.status == 0);
-    assert!(rt; log.out.written() == LOG.as_bytes());
-    assert!(rt; log.folder.files().is_empty());
-    Ok(())
-}
-
-#[test]
-fn later_edits_leave_a_production(rt: HostRuntime) -> Result<(), Fail> {
-    let alloc = rt.alloc();
-    let first = ran_on(
-        &rt,
-        alloc,
-        PRODUCE,
-        decided(&rt, alloc, SMITH)?,
-        &NOTHING_FAILS,
-    )?;
-    let mut keeper = first.keeper;
-    let Ok(mut tables) = load_tables(alloc, &mut keeper) else {
-        return Err(Fail::from("no matter is kept"));
-    };
-    let call = Call::DropBox {
-        doc: DocNo(1),
-        num: 1,
-    };
-    ask(alloc, &mut tables, &mut keeper, &REVIEWER, call)?;
-    let again = ran_on(&rt, alloc, PRODUCE, keeper, &NOTHING_FAILS)?;
-    assert!(rt; again.out.written() == first.out.written());
-    assert!(rt; again.folder.files() == first.folder.files());
+    let _ = told_of(&rt, alloc, "log R-1", keeper, (0, LOG))?;
     Ok(())
 }
 
 #[test]
 fn refused_requests_write_nothing(rt: HostRuntime) -> Result<(), Fail> {
     let alloc = rt.alloc();
-    let mut keeper = ran_on(
-        &rt,
-        alloc,
-        PRODUCE,
-        decided(&rt, alloc, SMITH)?,
-        &NOTHING_FAILS,
-    )?
-    .keeper;
-    for (line, status, printed) in [
-        ("press X", 2, "refused 33 NoProduction 0 0 0\n"),
-        ("log X", 2, "refused 33 NoProduction 0 0 0\n"),
-        (
-            "produce R-1 V1 AB- 4 1 1 AUTHOR",
-            2,
-            "refused 28 RequestDiffers 0 0 0\n",
-        ),
-        (
-            "produce R-2 V1 AB- 4 1 2",
-            2,
-            "refused 41 VolumeTaken 0 0 0\n",
-        ),
-        (
-            "produce R-2 V2 AB- 5 1 2",
-            2,
-            "refused 30 PrefixDiffers 0 4 0\n",
-        ),
-        (
-            "produce R-2 V2 AB- 4 1 2",
-            2,
-            "refused 27 NothingResponsive 0 0 0\n",
-        ),
-        ("produce R-2 V2 AB- 256 1 2", 1, "words refused\n"),
-        ("produce R-2 V2 AB- 4 1", 1, "words refused\n"),
-        ("press", 1, "words refused\n"),
-    ] {
-        let seen = ran_on(&rt, alloc, line, keeper, &NOTHING_FAILS)?;
-        assert!(rt; seen.status == status, "{line}");
-        assert!(rt; seen.out.written() == printed.as_bytes(), "{line}");
-        assert!(rt; seen.folder.files().is_empty(), "{line}");
-        keeper = seen.keeper;
+    let mut keeper = produced(&rt, alloc, SMITH, &NOTHING_FAILS)?.keeper;
+    for (line, told) in REFUSED {
+        keeper = told_of(&rt, alloc, line, keeper, told)?;
     }
     Ok(())
 }
+
+// Lines, and the status and the line that are told.
+const REFUSED: [(&str, (u8, &str)); 9] = [
+    ("press X", (2, "refused 33 NoProduction 0 0 0\n")),
+    ("log X", (2, "refused 33 NoProduction 0 0 0\n")),
+    (
+        "produce R-1 V1 AB- 4 1 1 AUTHOR",
+        (2, "refused 28 RequestDiffers 0 0 0\n"),
+    ),
+    (
+        "produce R-2 V1 AB- 4 1 2",
+        (2, "refused 41 VolumeTaken 0 0 0\n"),
+    ),
+    (
+        "produce R-2 V2 AB- 5 1 2",
+        (2, "refused 30 PrefixDiffers 0 4 0\n"),
+    ),
+    (
+        "produce R-2 V2 AB- 4 1 2",
+        (2, "refused 27 NothingResponsive 0 0 0\n"),
+    ),
+    ("produce R-2 V2 AB- 256 1 2", (1, "words refused\n")),
+    ("produce R-2 V2 AB- 4 1", (1, "words refused\n")),
+    ("press", (1, "words refused\n")),
+];
 
 // The calls of a folder that takes each piece at once are create, append and finish, file by file.
 #[test]
 fn a_fault_of_the_folder_leaves_first_files(rt: HostRuntime) -> Result<(), Fail> {
     let alloc = rt.alloc();
-    let whole = ran_on(
-        &rt,
-        alloc,
-        PRODUCE,
-        decided(&rt, alloc, SMITH)?,
-        &NOTHING_FAILS,
-    )?;
     let failing = Failing {
-        source: &[],
         folder: &[13],
-        out: &[],
+        ..NOTHING_FAILS
     };
-    let cut = ran_on(&rt, alloc, PRODUCE, decided(&rt, alloc, SMITH)?, &failing)?;
+    let whole = produced(&rt, alloc, SMITH, &NOTHING_FAILS)?;
+    let cut = produced(&rt, alloc, SMITH, &failing)?;
+    is_cut(&rt, &cut, &whole);
+    let _ = given_again(&rt, alloc, "press R-1", cut.keeper, &whole)?;
+    Ok(())
+}
+
+// Checks that a run was cut in its fifth file, and that those before are whole.
+fn is_cut<R: Abort>(rt: &R, cut: &Seen, whole: &Seen) {
     assert!(rt; cut.status == 4);
     assert!(rt; cut.out.written() == b"folder fault\n".as_slice());
-    let files: &[FileRow] = cut.folder.files();
+    let (files, others) = (cut.folder.files(), whole.folder.files());
     assert!(rt; files.len() == 5);
-    for (file, other) in files.iter().zip(whole.folder.files()).take(4) {
-        assert!(rt; file == other);
-    }
-    let rest = ran_on(&rt, alloc, "press R-1", cut.keeper, &NOTHING_FAILS)?;
-    assert!(rt; rest.status == 0);
-    assert!(rt; rest.out.written() == whole.out.written());
-    assert!(rt; rest.folder.files() == whole.folder.files());
-    Ok(())
+    assert!(rt;
+        files
+            .iter()
+            .zip(others)
+            .take(4)
+            .all(|(file, other)| file == other)
+    );
 }

@@ -1,4 +1,4 @@
-use Rattle.std.proofs.Common.{refl, subst, sym}
+use Rattle.std.proofs.Common.{true, refl, subst, sym}
 use Rattle.bp_matter.specs.Matter.{Matter}
 use Rattle.bp_freeze.specs.Keeping.{Keeps}
 use Rattle.bp_cli.specs.Produce.{produce_gives}
@@ -8,7 +8,7 @@ use Rattle.bp_cli.proofs.produce.produce_volume.Goals as goal
 pub returns-in_err-tables : goal.returns-in_err-tables
 returns-in_err-tables g c =
     let residual = c.from_residual in
-    rows_refused (produce_gives c.args.request) (λ rule. refl) (g.K.Keeper.shows c.args.keeper.now) (g.K.Keeper.shows c.load_tables.new.keeper) (g.F.Folder.shows c.args.folder.now)
+    rows_refused true (produce_gives c.args.request) (λ rule. refl) (g.K.Keeper.shows c.args.keeper.now) (g.K.Keeper.shows c.load_tables.new.keeper) (g.F.Folder.shows c.args.folder.now)
     c.in_err-tables.field-0.0 residual.result c.in_err-tables.ensures.loaded residual.ensures.0 residual.ensures.1
 
 pub returns-in_err-production : goal.returns-in_err-production

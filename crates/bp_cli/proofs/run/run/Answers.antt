@@ -2,8 +2,8 @@ use Rattle.bp_cli.proofs.AlikeLemmas.{Laws, one_outcome, some_outcome, told_outc
 use Rattle.bp_cli.proofs.RunLemmas.{runs}
 use Rattle.bp_cli.proofs.run.run.Goals as goal
 
-pub returns : goal.returns
-returns g c =
+pub returns-clause-runs : goal.returns-clause-runs
+returns-clause-runs g c =
     let laws : Laws = record {
       one = c.one_answer.ensures.only;
       some = c.one_answer.ensures.some;
@@ -12,7 +12,7 @@ returns g c =
       some_batch = c.one_batch.ensures.some;
     } in
     runs (record { one = one_outcome laws; some = some_outcome laws; told = told_outcome; two = outcome_alike laws })
-    _ _ _ c.finish-status.result c.work-ending.result c.work-ending.ensures c.finish-status.ensures
+    _ _ _ c.finish-status.result c.work-ending.result c.work-ending.ensures.works c.finish-status.ensures
     (record {
       source = g.met.S.Source.unfailing c.work-ending.new.source;
       keeper = g.met.K.Keeper.unfailing c.work-ending.new.keeper;

@@ -1,4 +1,4 @@
-use Rattle.bp_rules.specs.declared.stepping.StepRefusal.TheVariants.{OutOfMemory}
+use Rattle.bp_rules.specs.declared.refusals.MatterRefusal.TheVariants.{OutOfMemory}
 use Rattle.bp_rules.proofs.KeepingLemmas.{keeps-itself}
 use Rattle.bp_rules.proofs.RunningLemmas.{one-stopped, stays-itself}
 use Rattle.bp_rules.proofs.running.answer_next.Goals as goal

@@ -3,10 +3,10 @@ use Rattle.std.specs.Prelude.{Result}
 use Rattle.bp_matter.specs.Matter.{Matter}
 use Rattle.bp_keep.specs.Keeper.{KeeperView}
 use Rattle.bp_rules.specs.Running.{AnswersOne}
-use Rattle.bp_rules.specs.declared.running.Answer.{Answer}
-use Rattle.bp_rules.specs.declared.running.Asked.{Asked}
-use Rattle.bp_rules.specs.declared.running.Asked.TheVariants as asks
-use Rattle.bp_rules.specs.declared.stepping.StepRefusal.{StepRefusal}
+use Rattle.bp_rules.specs.declared.running.RunAnswer.{RunAnswer}
+use Rattle.bp_rules.specs.declared.running.RunStep.{RunStep}
+use Rattle.bp_rules.specs.declared.running.RunStep.TheVariants as asks
+use Rattle.bp_rules.specs.declared.refusals.MatterRefusal.{MatterRefusal}
 use Rattle.bp_rules.proofs.StepLemmas.{import-answered}
 use Rattle.bp_rules.proofs.running.make_one.Goals as goal
 
@@ -17,5 +17,5 @@ returns-in-Import-clause-made g c =
     let keeper : KeeperView = g.K.Keeper.shows c.args.keeper.now in
     let keeper' : KeeperView = g.K.Keeper.shows c.step_import.new.keeper in
     let b = c.in-Import.batch in
-    subst (λ (asked : Asked). AnswersOne m asked keeper c.counted_answer.result m' keeper') (sym c.in-Import.is)
-    (subst (λ (r : Result Answer StepRefusal). AnswersOne m (asks.Import b) keeper r m' keeper') (sym c.counted_answer.ensures) (import-answered m b keeper c.step_import.result m' keeper' c.step_import.ensures.made))
+    subst (λ (asked : RunStep). AnswersOne m asked keeper c.counted_answer.result m' keeper') (sym c.in-Import.is)
+    (subst (λ (r : Result RunAnswer MatterRefusal). AnswersOne m (asks.Import b) keeper r m' keeper') (sym c.counted_answer.ensures) (import-answered m b keeper c.step_import.result m' keeper' c.step_import.ensures.made))

@@ -1,8 +1,5 @@
 use Rattle.bp_rules.proofs.KeepingLemmas.{keeps-itself}
 use Rattle.bp_rules.proofs.stepping.step.Goals as goal
 
-pub returns-in-Err-Rule-clause-kept : goal.returns-in-Err-Rule-clause-kept
-returns-in-Err-Rule-clause-kept g c = keeps-itself c.args.tables.now.matter
-
-pub returns-in-Err-OutOfMemory-clause-kept : goal.returns-in-Err-OutOfMemory-clause-kept
-returns-in-Err-OutOfMemory-clause-kept g c = keeps-itself c.args.tables.now.matter
+pub returns-in_err-change-clause-kept : goal.returns-in_err-change-clause-kept
+returns-in_err-change-clause-kept g c = keeps-itself c.args.tables.now.matter

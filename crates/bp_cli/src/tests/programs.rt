@@ -1,0 +1,81 @@
+// The program over a system of the tests' own: its status, the folders that it reads and writes
+// below, what it prints, and the three numbers that it holds meanwhile.
+use super::page_files::WHITE;
+use super::stage::Stage;
+use super::{file_of, words_of};
+use crate::program::program;
+use std::alloc::Global;
+use std::env::Args;
+use std::io;
+use std::io::ErrorKind;
+use std::process::Abort;
+use std::test::Fail;
+use std::thread::Threads;
+
+const HELD: &str = "read /\nread /\nread /\n";
+
+// Runs the program, which is to end with this status, after it opened and printed this.
+fn check<R: Abort + Threads + Sync>(
+    rt: &R,
+    alloc: Global,
+    answer: io::Result<Args>,
+    (status, lines): (u8, &str),
+    written: &[u8],
+) -> Result<(), Fail> {
+    let stage = Stage::new(alloc, &WHITE)?;
+    let ended = program(&stage, rt, alloc, answer);
+    assert!(rt; ended == status, "{lines}");
+    let told = stage.lines();
+    assert!(rt; told.as_str().strip_prefix(HELD) == Some(lines), "{told}");
+    assert!(rt; stage.written().as_slice() == written, "{lines}");
+    Ok(())
+}
+
+const BURNED: &str = "read ./a.tif\nmake out\nempty out/b.tif\nprint beside 3: burned 187\n";
+
+#[test]
+fn the_program_carries_out_the_words_after_its_name(rt: HostRuntime) -> Result<(), Fail> {
+    let alloc = rt.alloc();
+    let file = file_of(alloc, 0xFF)?;
+    for (line, ends, written) in [
+        (
+            "tivrenan burn a.tif 0 0 8 1 b.tif plain",
+            (0u8, BURNED),
+            file.as_slice(),
+        ),
+        (
+            "burn a.tif 0 0 8 1 b.tif plain",
+            (1, "print beside 3: words refused\n"),
+            &[],
+        ),
+        ("tivrenan", (1, "print beside 3: words refused\n"), &[]),
+        ("", (1, "print beside 3: words refused\n"), &[]),
+        (
+            "tivrenan log R-1",
+            (2, "print beside 3: refused 43 NoMatter 0 0 0\n"),
+            &[],
+        ),
+    ] {
+        let words = words_of(alloc, line)?;
+        check(&rt, alloc, Ok(words.into_iter()), ends, written)?;
+    }
+    Ok(())
+}
+
+#[test]
+fn words_that_the_system_does_not_give_are_told_apart(rt: HostRuntime) -> Result<(), Fail> {
+    let alloc = rt.alloc();
+    for (kind, ends) in [
+        (
+            ErrorKind::OutOfMemory,
+            (6u8, "print beside 3: out of memory\n"),
+        ),
+        (
+            ErrorKind::InvalidData,
+            (1, "print beside 3: words refused\n"),
+        ),
+    ] {
+        check(&rt, alloc, Err(io::Error::from(kind)), ends, &[])?;
+    }
+    Ok(())
+}

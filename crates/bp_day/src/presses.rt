@@ -1,0 +1,230 @@
+// Presses into a folder in memory, and its files.
+//
+//     press ID WRITE..       how many files are written, or the refusal; the folder's calls of these
+//                            numbers, from 0, fail
+//     manifest               the digest that was told of the manifest
+//     left                   how many files the folder has
+//     path NUMBER            the path of that file, from 1
+//     text PATH / hex PATH / length PATH      what stands in the file
+//     shelve                 the files are laid aside
+//     alike                  whether the files are those that were laid aside
+//     part                   how many files there are, and how many of them are whole, where they are a first
+//                            part of those
+//     found ID               whether each file is the one that is found by its path
+//     find ID PATH           how many bytes the file has that is found by this path, or the rule
+ghost use Rattle.std.specs.Prelude.{IfSome};
+ghost use Rattle.bp_freeze.specs.Keeping.{Keeps};
+
+use crate::day::Day;
+use crate::keeping::numbers_of;
+use crate::told::{constant, of_refusal, unread, yes_or_no};
+use anyhow::Result;
+use bp_core::{ListOf, NumberList, Text};
+use bp_matter::{Production, Tables};
+use bp_outside::{FileRow, MemFolder};
+use bp_press::{PressRefusal, Pressed, file_of, press};
+use bp_script::{Words, escaped, hex_words};
+use std::alloc::Global;
+
+/// The folder that was pressed into, and the one that was laid aside.
+#[derive(Drop)]
+pub struct Shelf {
+    folder: MemFolder,
+    aside: MemFolder,
+    manifest: [u8; 32],
+}
+
+fn empty(alloc: Global, failing: NumberList) -> MemFolder {
+    MemFolder::over(ListOf::new(alloc), failing)
+}
+
+impl Shelf {
+    pub fn new(alloc: Global) -> Shelf {
+        Shelf {
+            folder: empty(alloc, NumberList::new(alloc)),
+            aside: empty(alloc, NumberList::new(alloc)),
+            manifest: [0; 32],
+        }
+    }
+}
+
+pub fn told(day: &mut Day, verb: &str, words: &mut Words) -> Option<Result<String>> {
+    match verb {
+        "press" => Some(press_volume(day, words)),
+        "manifest" => Some(manifest(day)),
+        "left" => Some(left(day)),
+        "path" => Some(path(day, words)),
+        "text" => Some(text(day, words)),
+        "hex" => Some(hex_of(day, words)),
+        "length" => Some(length(day, words)),
+        "shelve" => Some(shelve(day)),
+        "alike" => Some(alike(day)),
+        "part" => Some(part(day)),
+        "found" => Some(found(day, words)),
+        "find" => Some(find(day, words)),
+        _ => None,
+    }
+}
+
+#[tactic(auto, using(crate::proofs::KeptLemmas::found_keeps))]
+// The production of this id.
+fn production_in<'a>(tables: &'a Tables, id: &Text) -> Option<&'a Production>
+    ensures { IfSome result (λ production. Keeps tables.now.matter production.now) }
+{
+    match tables.production(id) {
+        Some(production) => Some(production),
+        None => None,
+    }
+}
+
+fn press_volume(day: &mut Day, words: &mut Words) -> Result<String> {
+    let id = words.text();
+    let failing = numbers_of(day.alloc, words)?;
+    if !words.is_read() {
+        return unread(day.alloc);
+    }
+    day.pressed.folder = empty(day.alloc, failing);
+    match production_in(&day.tables, &id) {
+        Some(production) => {
+            let told = press(day.alloc, &day.tables, production, &mut day.pressed.folder);
+            if let Ok(pressed) = &told {
+                day.pressed.manifest = pressed.manifest;
+            }
+            of_press(day.alloc, told)
+        }
+        None => constant(day.alloc, "none"),
+    }
+}
+
+fn of_press(alloc: Global, told: Result<Pressed, PressRefusal>) -> Result<String> {
+    match told {
+        Ok(pressed) => {
+            let files = pressed.files;
+            Ok(format!(in alloc; "{files} files")?)
+        }
+        Err(PressRefusal::FolderFault) => constant(alloc, "folder fault"),
+        Err(PressRefusal::OutOfMemory) => constant(alloc, "out of memory"),
+    }
+}
+
+fn manifest(day: &Day) -> Result<String> {
+    Ok(hex::encode(day.alloc, day.pressed.manifest.as_slice())?)
+}
+
+fn left(day: &Day) -> Result<String> {
+    let count = day.pressed.folder.files().len();
+    Ok(format!(in day.alloc; "{count}")?)
+}
+
+fn path(day: &Day, words: &mut Words) -> Result<String> {
+    let number = words.number() as usize;
+    let files = day.pressed.folder.files();
+    if number >= 1 && number <= files.len() {
+        escaped(day.alloc, files[number - 1].path.as_str())
+    } else {
+        constant(day.alloc, "none")
+    }
+}
+
+fn file_at<'a>(files: &'a [FileRow], path: &Text) -> &'a [u8] {
+    for file in files {
+        if file.path == *path {
+            return file.bytes.as_slice();
+        }
+    }
+    &[]
+}
+
+fn text(day: &Day, words: &mut Words) -> Result<String> {
+    let path = words.text();
+    match str::from_utf8(file_at(day.pressed.folder.files(), &path)) {
+        Ok(text) => escaped(day.alloc, text),
+        Err(_) => constant(day.alloc, "no text"),
+    }
+}
+
+fn hex_of(day: &Day, words: &mut Words) -> Result<String> {
+    let path = words.text();
+    hex_words(day.alloc, file_at(day.pressed.folder.files(), &path))
+}
+
+fn length(day: &Day, words: &mut Words) -> Result<String> {
+    let path = words.text();
+    let length = file_at(day.pressed.folder.files(), &path).len();
+    Ok(format!(in day.alloc; "{length}")?)
+}
+
+fn shelve(day: &mut Day) -> Result<String> {
+    let folder = empty(day.alloc, NumberList::new(day.alloc));
+    day.pressed.aside = std::mem::replace(&mut day.pressed.folder, folder);
+    constant(day.alloc, "")
+}
+
+fn alike(day: &Day) -> Result<String> {
+    let files = day.pressed.folder.files();
+    let others = day.pressed.aside.files();
+    let is_alike = files.len() == others.len() && whole_files(files, others) == files.len();
+    yes_or_no(day.alloc, is_alike)
+}
+
+// How many of the first files are those at their places among the others.
+fn whole_files(files: &[FileRow], others: &[FileRow]) -> usize {
+    files
+        .iter()
+        .zip(others.iter())
+        .take_while(|pair| pair.0 == pair.1)
+        .count()
+}
+
+// A first part has whole files, and at most one more, which is the first part of a file.
+fn part(day: &Day) -> Result<String> {
+    let files = day.pressed.folder.files();
+    let others = day.pressed.aside.files();
+    let whole = whole_files(files, others);
+    let count = files.len();
+    let is_part = whole >= count || begins(files, others, whole) && count - whole == 1;
+    if is_part {
+        Ok(format!(in day.alloc; "{count} {whole}")?)
+    } else {
+        constant(day.alloc, "no first part")
+    }
+}
+
+// Whether the file at a place is a first part of the other one there.
+fn begins(files: &[FileRow], others: &[FileRow], place: usize) -> bool {
+    match (files.get(place), others.get(place)) {
+        (Some(file), Some(other)) => {
+            file.path == other.path && other.bytes.as_slice().starts_with(file.bytes.as_slice())
+        }
+        _ => false,
+    }
+}
+
+fn found(day: &Day, words: &mut Words) -> Result<String> {
+    let id = words.text();
+    let Some(production) = production_in(&day.tables, &id) else {
+        return constant(day.alloc, "none");
+    };
+    for file in day.pressed.folder.files() {
+        let bytes = file_of(day.alloc, &day.tables, production, &file.path)?;
+        if bytes != file.bytes {
+            return escaped(day.alloc, file.path.as_str());
+        }
+    }
+    constant(day.alloc, "yes")
+}
+
+fn find(day: &Day, words: &mut Words) -> Result<String> {
+    let id = words.text();
+    let path = words.text();
+    let Some(production) = production_in(&day.tables, &id) else {
+        return constant(day.alloc, "none");
+    };
+    match file_of(day.alloc, &day.tables, production, &path) {
+        Ok(bytes) => {
+            let length = bytes.len();
+            Ok(format!(in day.alloc; "{length}")?)
+        }
+        Err(refusal) => of_refusal(day.alloc, refusal),
+    }
+}

@@ -1,0 +1,27 @@
+-- Rows of the table as kept rows. A line of the table is its rowid, kind, k1, k2 and body.
+use Rattle.std.specs.Prelude.{ℕ, List, [], ◌∷◌}
+use Rattle.sqlite_value.specs.Order.{Row as Line, column, bytes}
+use Rattle.sqlite_trees.specs.Objects.{number_in}
+use Rattle.bp_core.specs.declared.kept.Row.{Row}
+use Rattle.bp_core.specs.Sorted.{put, row_key}
+
+-- the kept row whose kind, numbers and body stand at these places
+abbrev pub row_at : ℕ → ℕ → ℕ → ℕ → Line → Row
+row_at kind k1 k2 body line = record {
+  kind = number_in (column line kind);
+  k1 = number_in (column line k1);
+  k2 = number_in (column line k2);
+  body = bytes (column line body);
+}
+
+-- the kept row that a line of the table is, and the one that a line of the answer is
+abbrev pub kept_row : Line → Row
+kept_row = row_at 1 2 3 4
+
+abbrev pub shown_row : Line → Row
+shown_row = row_at 0 1 2 3
+
+-- the kept rows that the lines of the table are, in ascending order of key
+abbrev pub kept_rows : List Line → List Row
+kept_rows [] = []
+kept_rows (line ∷ lines) = put row_key (kept_row line) (kept_rows lines)

@@ -1,0 +1,12 @@
+//! Tests of a keeper over a database, by the calls of `bp_rules`: a matter in memory, tables of
+//! another definition, and a disk that stops.
+#![tactic(auto)]
+
+#[cfg(test)]
+mod batches;
+#[cfg(test)]
+mod other_tables;
+#[cfg(test)]
+mod sql_rows;
+#[cfg(test)]
+mod stops;

@@ -1,0 +1,25 @@
+// Scripts that are tried.
+use bp_day::differing;
+use bp_keep::{Keeper, MemKeeper};
+use bp_matter::Tables;
+use std::alloc::Global;
+use std::process::Abort;
+
+/// Each line of the script is told as it says.
+pub fn are_told(rt: &impl Abort, alloc: Global, script: &str) {
+    match differing(alloc, script) {
+        Ok(line) => assert_eq!(rt; line.as_str(), "none"),
+        Err(_) => assert!(rt; false, "out of memory"),
+    }
+}
+
+// A keeper goes from one thread to another, and tables are shared between threads.
+fn may_be_sent<K: Keeper + Send>() {}
+
+fn may_be_shared<T: Send + Sync>() {}
+
+#[test]
+fn keepers_are_sent_and_tables_shared() {
+    may_be_sent::<MemKeeper>();
+    may_be_shared::<Tables>();
+}

@@ -1,0 +1,25 @@
+use Rattle.std.proofs.Common.{ap, ◌∙◌, subst, IfOk, ◌≡◌}
+use Rattle.serde_json.specs.Written.{has_float}
+use Rattle.bp_web.proofs.ReplyLemmas.{doc_whole, done_whole, image_sent, production_whole, staff_whole, words_whole}
+use Rattle.bp_web.proofs.replies.bytes_of_reply.Goals as goal
+
+pub json_bytes-requires-clause-whole : goal.json_bytes-requires-clause-whole
+json_bytes-requires-clause-whole c = ap has_float c.in_ok-value-in-Staff.ensures ∙ staff_whole _
+
+pub json_bytes-requires-in-Done-clause-whole : goal.json_bytes-requires-in-Done-clause-whole
+json_bytes-requires-in-Done-clause-whole c = ap has_float c.in_ok-value-in-Done.ensures ∙ done_whole
+
+pub json_bytes-requires-in-Doc-clause-whole : goal.json_bytes-requires-in-Doc-clause-whole
+json_bytes-requires-in-Doc-clause-whole c = ap has_float c.in_ok-value-in-Doc.ensures ∙ doc_whole _
+
+pub json_bytes-requires-in-Words-clause-whole : goal.json_bytes-requires-in-Words-clause-whole
+json_bytes-requires-in-Words-clause-whole c = ap has_float c.in_ok-value-in-Words.ensures ∙ words_whole _
+
+pub json_bytes-requires-in-Produced-clause-whole : goal.json_bytes-requires-in-Produced-clause-whole
+json_bytes-requires-in-Produced-clause-whole c = ap has_float c.in_ok-value-in-Produced.ensures ∙ production_whole _
+
+pub returns-in_ok-file-in-Image : goal.returns-in_ok-file-in-Image
+returns-in_ok-file-in-Image c =
+    subst (λ m. IfOk c.message_bytes.result (λ bytes. bytes ≡ m))
+    (image_sent c.in-Image.page c.as_slice.result.now c.in_ok-file-in-Image.file c.args.reply.now c.as_slice.ensures c.in_ok-file-in-Image.ensures c.in-Image.is)
+    c.message_bytes.ensures

@@ -1,0 +1,10 @@
+pub mod Calls
+pub mod Heads
+pub mod Members
+pub mod Messages
+pub mod Numbers
+pub mod Replies
+pub mod Requests
+pub mod Routes
+pub mod Routing
+pub mod Values

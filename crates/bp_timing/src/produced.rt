@@ -79,9 +79,7 @@ fn marks_of(alloc: Global) -> Result<Marks, AllocError> {
 
 // Two boxes as wide as a line of text of a letter page at 300 dots an inch.
 fn stamps_of(alloc: Global) -> Result<StampList, AllocError> {
-    Ok(ListOf::from_vec(
-        vec![in alloc; stamp(600, 370), stamp(1755, 370)]?,
-    ))
+    Ok(ListOf::from_vec(vec![in alloc; stamp(600, 370), stamp(1755, 370)]?))
 }
 
 fn stamp(top: u32, height: u32) -> Stamp {

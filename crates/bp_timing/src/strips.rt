@@ -4,8 +4,7 @@ ghost use Rattle.bp_burn.specs.Strips.{IsPageStrip};
 ghost use Rattle.bp_rows.specs.Limits.{sides_are_imported};
 
 use crate::files::page_of;
-use crate::produced;
-use crate::reading;
+use crate::{produced, reading};
 use anyhow::{Result, bail};
 use bp_core::{Bytes, OutOfMemory};
 use bp_rows::{Page, import_sides};

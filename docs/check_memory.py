@@ -11,11 +11,24 @@ TOP = pathlib.Path(__file__).resolve().parent.parent
 
 # file, function: why the answer is made there
 MADE = {
-    ("bp_cli/src/operands.rt", "read_operands"): "clap's own kind of error says that memory ran out",
-    ("bp_cli/src/arguments.rt", "stop_of"): "the system's kind of error says that memory ran out",
+    ("bp_freeze/src/log.rt", "bytes_of"): "csv's writer answers an error, which in memory is want of memory",
+    ("bp_freeze/src/log.rt", "put_line"): "csv's writer answers an error, which in memory is want of memory",
+    ("bp_matter/src/shared_page.rt", "new"): "Arc's own error",
+    ("bp_matter/src/shared_page.rt", "share"): "Arc's count of holders is full",
+    ("bp_outside/src/memory/door.rt", "read"): "the call's own want, noted in the exchange",
+    ("bp_outside/src/memory/door.rt", "write"): "the call's own want, noted in the exchange",
+    ("bp_press/src/finding.rt", "manifest_bytes"): "a folder that keeps nothing can only lack memory",
+    ("bp_rules/src/copies.rt", "copy_page"): "the only refusal of a page with the sides of another",
+    ("bp_rules/src/running.rt", "answer_next"): "room for an answer was refused",
+    ("bp_rules/src/stepping.rt", "make"): "room for a change was refused",
+    ("bp_text/src/word_files.rt", "read_record"): "csv's reader answers an error, which in memory is want of memory",
+    ("bp_web/src/members.rt", "object_in"): "serde_json's own kind of error says that memory ran out",
+    ("bp_web/src/requests.rt", "read"): "the router could not be made for want of memory",
+    ("bp_web/src/requests.rt", "asked_in"): "the call of a body was refused, which wants memory alone",
+    ("bp_web/src/router.rt", "add"): "matchit refused a route of the fixed table, which it does for want of memory",
 }
 
-NOT_PRODUCT = re.compile(r"^(bp_tests|bp_samples|bp_bench|bp_days|bp_lines)")
+NOT_PRODUCT = re.compile(r"^(bp_tests|bp_bench|bp_timing|bp_script|bp_day|bp_lines|bp_web_lines)")
 MAKES = re.compile(r"\b(?:\w+::)?OutOfMemory\b|\bAllocError\b")
 # the word in a type, an import, a clause, a pattern
 NO_MAKING = re.compile(r"^\s*(?://|use |pub use |ghost |ensures|requires|invariant|#|OutOfMemory,|pub struct|impl|fn |pub fn |pub\(crate\) fn |law |\) -> )")
@@ -44,7 +57,7 @@ def functions(path):
 def makes(line):
     if not MAKES.search(line) or NO_MAKING.match(line):
         return False
-    code = line.split("//")[0]
+    code = re.sub(r'"[^"]*"', "", line.split("//")[0].replace('\\"', ""))
     if "=>" in code:
         pattern, answer = code.split("=>", 1)
         if not MAKES.search(answer):

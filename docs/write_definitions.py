@@ -1,8 +1,8 @@
 #!/usr/bin/env python3
 """Writes the tables of DEFINITIONS.md from the comments of crates/*/specs: of each crate's part the table, a row for each
 public definition, with its file, the comment line above it, and the public source that a line `-- by ..` of it names.
-What stands between the tables is kept as it is. With the word `check` writes nothing, and ends with status 1 where the
-page isn't what it would write. Names on standard error each public definition that has no comment."""
+What stands between the tables is kept as it is, and names on standard error each public definition that has no comment. With
+the word `check` writes nothing, and ends with status 1 where the page isn't what it would write."""
 import pathlib
 import re
 import sys
@@ -65,10 +65,12 @@ def page(lacking):
 def main():
     lacking = []
     text = page(lacking)
+    if sys.argv[1:] == ["check"]:
+        if text != PAGE.read_text():
+            sys.exit("docs/DEFINITIONS.md isn't what the specs say: run docs/write_definitions.py")
+        return
     for name in lacking:
         print("no comment: " + name, file=sys.stderr)
-    if sys.argv[1:] == ["check"]:
-        sys.exit(0 if text == PAGE.read_text() and not lacking else 1)
     PAGE.write_text(text)
 
 

@@ -100,6 +100,8 @@ check() {
     : > line
     ended=0
     (cd room && "$how" "$@") 2> errors || ended=$?
+    # the database that each command opens first
+    rm -f room/matter.db room/matter.db-*
     if [ "$ended" -ne "$status" ]; then
         differs "ended with $ended, expected $status"
     elif ! printf '%s' "${line:+$line

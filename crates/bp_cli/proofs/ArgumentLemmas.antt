@@ -8,7 +8,10 @@ use Rattle.bp_outside.specs.Source.{SourceView}
 use Rattle.bp_outside.specs.Folder.{FolderView}
 use Rattle.bp_outside.specs.Out.{OutView}
 use Rattle.bp_keep.specs.Keeper.{KeeperView}
-use Rattle.bp_cli.specs.Arguments.{Answer, TakesWords, StopsAtOnce, RunsArguments, EndsProgram, beginning}
+use Rattle.bp_cli.specs.Arguments.{Answer, TakesWords, StopsAtOnce, RunsArguments, RunsFrom, EndsUnopened, beginning}
+use Rattle.bp_cli.specs.Endings.{status_of, text_of}
+use Rattle.bp_cli.specs.Printing.{Prints}
+use Rattle.bp_outside.specs.Untold.{untold_out}
 use Rattle.bp_cli.specs.Runs.{Outside, outside}
 
 pub stopped_at_once : (before after : Outside) (stop : Stop) (status : ℕ) (answer : Answer) → TakesWords answer (Err stop) → StopsAtOnce stop before after status → RunsArguments answer before after status
@@ -21,13 +24,21 @@ left_after_first old new n (Some x) long e some = ap (drop 1) e
 left_after_first [] new n None long e some = e
 left_after_first (x ∷ xs) new n None long e some = absurd (false≢true (some.1 (omega (arith, long))))
 
--- a run from the beginning of the program
-pub program_ends : (answer : Answer) (s : SourceView) (k : KeeperView) (f : FolderView) (o : OutView) (after : Outside) (status : ℕ) → s ≡ beginning.world.source → k ≡ beginning.world.keeper → f ≡ beginning.world.folder → o ≡ beginning.out → RunsArguments answer (outside s k f o) after status
-    → EndsProgram answer status
-program_ends answer s k f o after status same_s same_k same_f same_o runs = record {
+-- ---- the program
+
+-- a run over this keeper, where nothing is known of the system
+pub runs_from : (answer : Answer) (keeper : KeeperView) (s : SourceView) (k : KeeperView) (f : FolderView) (o : OutView) (after : Outside) (status : ℕ) → s ≡ (beginning keeper).world.source → k ≡ keeper → f ≡ (beginning keeper).world.folder → o ≡ (beginning keeper).out → RunsArguments answer (outside s k f o) after status
+    → RunsFrom answer keeper status
+runs_from answer keeper s k f o after status same_s same_k same_f same_o runs = record {
   after = after;
-  runs = subst (λ (x : SourceView). RunsArguments answer (outside x beginning.world.keeper beginning.world.folder beginning.out) after status) same_s
-      (subst (λ (x : KeeperView). RunsArguments answer (outside s x beginning.world.folder beginning.out) after status) same_k
-      (subst (λ (x : FolderView). RunsArguments answer (outside s k x beginning.out) after status) same_f
+  runs = subst (λ (x : SourceView). RunsArguments answer (outside x keeper (beginning keeper).world.folder (beginning keeper).out) after status) same_s
+      (subst (λ (x : KeeperView). RunsArguments answer (outside s x (beginning keeper).world.folder (beginning keeper).out) after status) same_k
+      (subst (λ (x : FolderView). RunsArguments answer (outside s k x (beginning keeper).out) after status) same_f
       (subst (λ (x : OutView). RunsArguments answer (outside s k f x) after status) same_o runs)));
 }
+
+-- what was printed where there is no database
+pub ends_unopened : (stop known : Stop) (o after : OutView) (status : ℕ) → stop ≡ known → o ≡ untold_out 0 → Prints (text_of (Err stop)) (status_of (Err stop)) o after status → EndsUnopened known status
+ends_unopened stop known o after status is same printed =
+    subst (λ (s : Stop). EndsUnopened s status) is
+    (record { out = after; printed = subst (λ (x : OutView). Prints (text_of (Err stop)) (status_of (Err stop)) x after status) same printed })

@@ -34,15 +34,18 @@ pub record BurnLine : Type 0 where
   pub to : List ℕ
   pub form : Form
 
+-- the words of burn as contracts see them
 abbrev pub burn_seen : Burn → BurnLine
 burn_seen b = record { from = chars b.from.now; area = b.area; to = chars b.to.now; form = b.form }
 
+-- the form that a word names
 abbrev pub form_of : List ℕ → Option Form
 form_of word =
     if bytes_eq word (codes "plain")
     then Some Plain
     else (if bytes_eq word (codes "g4") then Some G4 else None)
 
+-- the box of four words
 abbrev pub box_of : List ℕ → List ℕ → List ℕ → List ℕ → Option Rect
 box_of left top width height = do
   l ← number_of left
@@ -51,6 +54,7 @@ box_of left top width height = do
   h ← number_of height
   Some (record { left = l; top = t; width = w; height = h })
 
+-- the command line of its operands, box and form
 abbrev pub line_with : List (List ℕ) → Rect → Form → BurnLine
 line_with operands area form =
     let from = chars (word_of operands 0) in
@@ -82,6 +86,7 @@ paths_of b = do
   to ← path_in b.to
   Some (record { from = from; to = to })
 
+-- a path that is refused
 abbrev pub path_refused : Rule
 path_refused = bare_rule kinds.PathRefused
 
@@ -100,6 +105,7 @@ burn_page area p =
     else (if lies_inside area p.width p.height then Ok (burned p (area ∷ []))
     else Err (bare_rule kinds.BoxOutside)))
 
+-- the page that was read, burned, or the rule of reading
 abbrev pub burn_read : Rect → Result Image Rule → Result Image Rule
 burn_read area (Ok p) = burn_page area p
 burn_read area (Err rule) = Err rule
@@ -120,6 +126,7 @@ PathAnswers (Some bytes) answer = FileAnswers bytes answer
 abbrev pub counted_line : ℕ → List ℕ
 counted_line count = line_of (codes "burned " ++ decimal count)
 
+-- what burn leaves: one file, and its line
 abbrev pub burn_done : List ℕ → List ℕ → Outcome
 burn_done to bytes = done (counted_line (length bytes)) (file to bytes ∷ []) None
 

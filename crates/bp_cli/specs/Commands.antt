@@ -33,6 +33,7 @@ pub data CommandLine : Type 0 where
   press : List ℕ → CommandLine
   log : List ℕ → CommandLine
 
+-- a command as contracts see it
 abbrev pub command_seen : Command → CommandLine
 command_seen (commands.Burn b) = burn (burn_seen b)
 command_seen (commands.Init digest) = init digest
@@ -42,6 +43,7 @@ command_seen (commands.Press id) = press (chars id.now)
 command_seen (commands.Log id) = log (chars id.now)
 
 -- by the first word
+-- the command of words: its name, then its operands
 abbrev pub named_command : List (List ℕ) → Option CommandLine
 named_command [] = None
 named_command (name ∷ operands) =

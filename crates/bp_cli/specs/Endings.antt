@@ -29,6 +29,7 @@ pub data Outcome : Type 0 where
 abbrev pub Ending : Type 0
 Ending = Result (List ℕ) Stop
 
+-- the status of an ending
 abbrev pub status_of : Ending → ℕ
 status_of (Ok line) = DONE
 status_of (Err stops.WordsRefused) = WORDS_REFUSED
@@ -38,12 +39,15 @@ status_of (Err stops.FolderFault) = FOLDER_FAULT
 status_of (Err stops.KeeperFault) = KEEPER_FAULT
 status_of (Err stops.OutOfMemory) = OUT_OF_MEMORY
 
+-- a text with the end of its line
 abbrev pub line_of : List ℕ → List ℕ
 line_of text = text ++ newline ∷ []
 
+-- what is printed where memory ran out
 abbrev pub memory_line : List ℕ
 memory_line = line_of (codes "out of memory")
 
+-- what is printed of a rule
 abbrev pub refused_line : Rule → List ℕ
 refused_line rule = line_of (codes "refused " ++ rule_text rule)
 
@@ -65,6 +69,7 @@ pub record World : Type 0 where
   pub keeper : KeeperView
   pub folder : FolderView
 
+-- source, keeper and folder in one
 abbrev pub world : SourceView → KeeperView → FolderView → World
 world source keeper folder = record { source = source; keeper = keeper; folder = folder }
 
@@ -99,6 +104,7 @@ pub record CallsKeeper (uses : Uses) (before after : KeeperView) : Type 0 where
 abbrev pub failed_source : SourceView → SourceView
 failed_source source = record source { faults = risen source.faults }
 
+-- the folder after a fault
 abbrev pub failed_folder : FolderView → FolderView
 failed_folder folder = record folder { faults = risen folder.faults }
 

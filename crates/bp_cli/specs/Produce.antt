@@ -61,16 +61,19 @@ request_of operands =
 abbrev pub id_told : Production → List ℕ
 id_told f = codes "production " ++ encode_utf8_all f.request.id
 
+-- the labels of a production in its line
 abbrev pub labels_told : Production → List ℕ
 labels_told f =
     let prefix = f.request.prefix in
     codes " labels " ++ label_in prefix f.span.first ++ codes " to " ++ label_in prefix f.span.last
 
+-- the numbers of a volume in its line
 abbrev pub numbers_told : Pressed → List ℕ
 numbers_told pressed =
     line_of (codes " files " ++ decimal pressed.files
     ++ codes " manifest " ++ encode_lower pressed.manifest)
 
+-- the line of a volume
 abbrev pub volume_line : Production → Pressed → List ℕ
 volume_line f pressed = id_told f ++ labels_told f ++ numbers_told pressed
 
@@ -84,6 +87,7 @@ frozen_gives m (Ok f) =
     let after = frozen_matter f m in volume_done f (volume_of f after) (Some (rows_of after))
 frozen_gives m (Err rule) = refused rule
 
+-- what produce gives of a matter, or of rows that are none
 abbrev pub produce_gives : Request → Result Matter Rule → Outcome
 produce_gives q (Ok m) = frozen_gives m (freeze_of m q)
 produce_gives q (Err rule) = refused rule

@@ -27,6 +27,7 @@ pub record Outside : Type 0 where
   pub world : World
   pub out : OutView
 
+-- source, keeper, folder and out in one
 abbrev pub outside : SourceView → KeeperView → FolderView → OutView → Outside
 outside s k f o = record { world = world s k f; out = o }
 
@@ -48,12 +49,15 @@ pub record Asks (command : Option CommandLine) (before : Outside)
 abbrev pub SourceFailed : Outside → Outside → Type 0
 SourceFailed before after = Rose before.world.source.faults after.world.source.faults
 
+-- the keeper's count of faults rose
 abbrev pub KeeperFailed : Outside → Outside → Type 0
 KeeperFailed before after = Rose before.world.keeper.faults after.world.keeper.faults
 
+-- the folder's count of faults rose
 abbrev pub FolderFailed : Outside → Outside → Type 0
 FolderFailed before after = Rose before.world.folder.faults after.world.folder.faults
 
+-- the out's count of faults rose
 abbrev pub OutFailed : Outside → Outside → Type 0
 OutFailed before after = Rose before.out.faults after.out.faults
 
@@ -114,10 +118,12 @@ abbrev pub Gives : Outcome → Outside → Outside → Type 0
 Gives (outcomes.done line files rows) before after = Leaves files rows line before after
 Gives (outcomes.refused rule) before after = Leaves [] None (refused_line rule) before after
 
+-- the status of an outcome
 abbrev pub outcome_status : Outcome → ℕ
 outcome_status (outcomes.done line files rows) = DONE
 outcome_status (outcomes.refused rule) = RULE_BROKEN
 
+-- a number is in a list
 abbrev pub IsAmong : ℕ → List ℕ → Type 0
 IsAmong n ns = IsTrue (list_any (λ m. m == n) ns)
 
@@ -153,6 +159,7 @@ pub record Completes (c : CommandLine) (inputs : Inputs) (status : ℕ) : Type 0
   pub comes : ComesTo c inputs outcome
   pub among : IsAmong status (outcome_status outcome ∷ OUT_OF_MEMORY ∷ [])
 
+-- the eight statuses
 abbrev pub all_statuses : List ℕ
 all_statuses =
     DONE ∷ WORDS_REFUSED ∷ RULE_BROKEN ∷ SOURCE_FAULT ∷ FOLDER_FAULT

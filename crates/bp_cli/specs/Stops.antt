@@ -19,28 +19,34 @@ use Rattle.bp_press.specs.declared.pressing.PressRefusal.TheVariants as presses
 use Rattle.bp_cli.specs.declared.stops.Stop.{Stop}
 use Rattle.bp_cli.specs.declared.stops.Stop.TheVariants as stops
 
+-- a refusal of a call ends a command
 abbrev pub StopsFor : Refusal → Stop → Type 0
 StopsFor (refusals.Rule rule) stop = stop ≡ stops.Broken rule
 StopsFor refusals.OutOfMemory stop = stop ≡ stops.OutOfMemory
 
+-- a refusal of the folder ends a command
 abbrev pub StopsForFolder : FolderRefusal → Stop → Type 0
 StopsForFolder folders.Failed stop = stop ≡ stops.FolderFault
 StopsForFolder folders.OutOfMemory stop = stop ≡ stops.OutOfMemory
 
+-- a refusal of the keeper ends a command
 abbrev pub StopsForKeeper : KeepRefusal → Stop → Type 0
 StopsForKeeper keepers.Failed stop = stop ≡ stops.KeeperFault
 StopsForKeeper keepers.OutOfMemory stop = stop ≡ stops.OutOfMemory
 
+-- a refusal of a load or a step ends a command
 abbrev pub StopsForMatter : MatterRefusal → Stop → Type 0
 StopsForMatter (matters.Rule rule) stop = stop ≡ stops.Broken rule
 StopsForMatter matters.KeeperFault stop = stop ≡ stops.KeeperFault
 StopsForMatter matters.OutOfMemory stop = stop ≡ stops.OutOfMemory
 
+-- a refusal of an import ends a command
 abbrev pub StopsForBatch : ImportRefusal → Stop → Type 0
 StopsForBatch (imports.Rule rule) stop = stop ≡ stops.Broken rule
 StopsForBatch imports.SourceFault stop = stop ≡ stops.SourceFault
 StopsForBatch imports.OutOfMemory stop = stop ≡ stops.OutOfMemory
 
+-- a refusal of the press ends a command
 abbrev pub StopsForPress : PressRefusal → Stop → Type 0
 StopsForPress presses.FolderFault stop = stop ≡ stops.FolderFault
 StopsForPress presses.OutOfMemory stop = stop ≡ stops.OutOfMemory

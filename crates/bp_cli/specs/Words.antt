@@ -34,10 +34,12 @@ is_number word =
     && (length word == 1 || not (slice_index word 0 == digit_zero))
     && all_ascii_digits word
 
+-- the number of a word, if it is one
 abbrev pub number_of : List ℕ → Option ℕ
 number_of word = if is_number word then Some (digits_value 10 word) else None
 
 -- a value, and what follows from it
 infixl 10 ◌>>=◌
+-- what is read, and then the next, where both are there
 abbrev pub ◌>>=◌ : {A B : Type 0} → Option A → (A → Option B) → Option B
 o >>= f = option_and_then f o

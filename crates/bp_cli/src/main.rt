@@ -1,7 +1,7 @@
 //! The program: one command of the production press. It reads files below the current folder,
 //! keeps the rows of a matter in the database `matter.db`, writes files below the folder `out`, and
-//! prints its line. Begin at
-//! `run`, whose contract promises `Runs`, and `program`, which carries it out over the system.
+//! prints its line. Begin at `run`, whose contract promises `Runs`, and `program`, which carries it
+//! out over the system.
 #![tactic(auto)]
 
 mod arguments;
@@ -22,14 +22,15 @@ mod tests;
 mod volumes;
 mod words;
 
-use program::{MATTER, program};
+use program::{MATTER, hold_descriptors, program};
 use sqlite::{Connection, File, FileStore};
 use std::env;
 use std::process::ExitCode;
 
 fn main(rt: HostRuntime) -> ExitCode {
-    let opener = || Connection::open(&rt, MATTER);
-    let ran = program(&rt, &rt, rt.alloc(), opener, env::args(&rt));
+    let _held = hold_descriptors(&rt);
+    let opened = Connection::open(&rt, MATTER);
+    let ran = program(&rt, &rt, rt.alloc(), opened, env::args(&rt));
     close(ran.connection);
     ExitCode::from(ran.status)
 }

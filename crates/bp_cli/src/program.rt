@@ -1,5 +1,5 @@
 // The program over the system.
-ghost use Rattle.std.specs.Prelude.{◌≡◌, ◌×◌, Err};
+ghost use Rattle.std.specs.Prelude.{◌≡◌};
 ghost use Rattle.bp_cli.specs.Arguments.{EndsOpened, EndsUnopened, RunsFrom, opened_keeper, stop_unopened};
 
 use crate::printing::finish;
@@ -24,32 +24,39 @@ pub struct Ran<A: Alter> {
     pub connection: Option<Connection<A>>,
 }
 
+/// What holds the numbers 0, 1 and 2 where the caller closed a standard stream, so that no file of
+/// the program gets one and no line is printed into a page or the database. It is open for reading
+/// alone: a write fails.
+#[derive(Drop)]
+pub struct Descriptors<F> {
+    _input: io::Result<F>,
+    _output: io::Result<F>,
+    _errors: io::Result<F>,
+}
+
+/// Holds these numbers, as long as its result lasts.
+pub fn hold_descriptors<S: Files>(system: &S) -> Descriptors<S::File> {
+    Descriptors {
+        _input: fs::open(system, "/"),
+        _output: fs::open(system, "/"),
+        _errors: fs::open(system, "/"),
+    }
+}
+
 /// The program, from the words that the system gave to the exit status: it keeps rows in the
-/// database that `opener` opens, reads files below the current folder, writes files below the folder
-/// `out`, and prints to the standard output. The database is opened before the words are looked
-/// at. Where it can't be opened, the program says so, and ends with 6 for want of memory, else 5.
-pub fn program<S, T, A, O>(
+/// database that was opened, reads files below the current folder, writes files below the folder
+/// `out`, and prints to the standard output. Where no database could be opened, the program says
+/// so before it looks at the words, and ends with 6 for want of memory, else 5.
+pub fn program<S: Files + Print, T: Threads + Sync, A: Alter + Drop>(
     system: &S,
     threads: &T,
     alloc: Global,
-    opener: O,
+    opened: Result<Connection<A>, Error>,
     answer: io::Result<Args>,
 ) -> Ran<A>
-where
-    S: Files + Print,
-    T: Threads + Sync,
-    A: Alter + Drop,
-    O: FnOnce() -> Result<Connection<A>, Error>,
-    requires { O.IsAlwaysCallable opener }
-    ensures { (opened : _) × O.post opener opened × EndsOpened A.Store answer opened result.status }
+    ensures { EndsOpened A.Store answer opened result.status }
 {
-    // Hold the numbers 0, 1 and 2 where the caller closed a standard stream, so that no file of the
-    // program gets one and no line is printed into a page or the database. What is held is open
-    // for reading alone: a write fails.
-    let _input = fs::open(system, "/");
-    let _output = fs::open(system, "/");
-    let _errors = fs::open(system, "/");
-    match opener() {
+    match opened {
         Ok(connection) => over_database(system, threads, alloc, connection, answer),
         Err(error) => Ran {
             status: unopened(system, alloc, &error),

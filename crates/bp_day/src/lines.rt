@@ -11,7 +11,7 @@ use bp_script::{Tally, Words};
 use std::alloc::Global;
 
 /// Does what a line asks for.
-pub fn told(day: &mut Day, line: &str) -> Result<String> {
+pub fn make(day: &mut Day, line: &str) -> Result<String> {
     match line.split_once(" ") {
         Some(("repeat", rest)) => repeat(day, rest),
         _ => once(day, line),
@@ -29,7 +29,7 @@ fn first_differing(day: &mut Day, script: &str) -> Result<String> {
     let mut tally = Tally::new();
     for line in script.lines() {
         if let Some(case) = tally.take(line) {
-            let told = told(day, case.asked)?;
+            let told = make(day, case.asked)?;
             if told.as_str() != case.wanted {
                 return Ok(format!(in day.alloc; "{line}: {told}")?);
             }

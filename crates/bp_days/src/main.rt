@@ -4,7 +4,7 @@
 #![tactic(auto)]
 
 use anyhow::Result;
-use bp_day::{Day, told};
+use bp_day::{Day, make};
 use bp_script::Tally;
 use std::rt::Files;
 use std::{env, fs};
@@ -35,7 +35,7 @@ fn take_file<R: Files + Alloc + Print>(
     let text = fs::read_to_string(rt, file)?;
     for line in text.as_str().lines() {
         if let Some(case) = tally.take(line) {
-            let told = told(day, case.asked)?;
+            let told = make(day, case.asked)?;
             tally.hear(rt, file, told.as_str(), case.wanted)?;
         }
     }

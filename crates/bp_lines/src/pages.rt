@@ -10,7 +10,6 @@
 //     page produced INK LABEL DESIGNATION STAMP..
 //     page strip_produced INK LABEL DESIGNATION STAMP..    whether its strip of codes is the same where it
 //                                                      is made of the page's strip a row at a time
-//     page covered INK ROW STAMP..                     the runs of that row with its boxes covered
 //     page slip GROUND LABEL DESIGNATION
 //     page file        the page of the file at hand
 //     page sides       width, height, resolutions across and down, and unit
@@ -27,10 +26,10 @@ use crate::codes::fill_of;
 use crate::files::File;
 use crate::told::{constant, of_numbers, of_refusal, unread, yes_or_no};
 use anyhow::Result;
-use bp_burn::{burn, burn_row, covered_runs, has_glyphs, produced, produced_strip, slip_page};
+use bp_burn::{burn, burn_row, has_glyphs, produced, produced_strip, slip_page};
 use bp_codes::Fill;
 use bp_core::{Bytes, Ink, ListOf, RectList, Refusal, Stamp, StampList, Text};
-use bp_rows::{MAX_WIDTH, Page, Res, Runs, Unit, allowed_sides, bytes_of_strip, import_sides};
+use bp_rows::{Page, Res, Runs, Unit, allowed_sides, bytes_of_strip, import_sides};
 use bp_script::{Words, hex_words};
 use bp_t6::{code_page, read_strip};
 use bp_tiff::{Form, read_tiff, write_tiff};
@@ -46,7 +45,6 @@ pub fn told(alloc: Global, page: &mut Page, file: &File, words: &mut Words) -> R
         "coded" => coded(alloc, page, words),
         "produced" => produce(alloc, page, words),
         "strip_produced" => produce_strip(alloc, page, words),
-        "covered" => covered(alloc, page, words),
         "slip" => slip(alloc, page, words),
         "burn" => burn_boxes(alloc, page, words),
         "written" => written(alloc, page, file, words),
@@ -262,23 +260,6 @@ fn strip_of_strip(
     let (width, height) = (page.width(), page.height());
     let strip = strip.as_slice();
     Ok(produced_strip(alloc, ink, strip, width, height, stamps, label, designation)?)
-}
-
-// The width of a page is that of each row, so it is the sum of its runs.
-fn covered(alloc: Global, page: &Page, words: &mut Words) -> Result<String> {
-    let ink = ink_of(words);
-    let row = words.number();
-    let stamps = stamps_of(alloc, words)?;
-    if !words.is_read() || row >= page.height() {
-        return unread(alloc);
-    }
-    let runs = page.row_runs(alloc, row)?;
-    let width: u32 = runs.as_slice().iter().sum();
-    if width == 0 || width > MAX_WIDTH {
-        return unread(alloc);
-    }
-    let covered = covered_runs(alloc, ink, &runs, row, &stamps)?;
-    of_numbers(alloc, covered.as_slice())
 }
 
 fn slip(alloc: Global, page: &mut Page, words: &mut Words) -> Result<String> {

@@ -40,15 +40,25 @@ fn close(conn: Database) -> Files<Fused> {
     }
 }
 
-// The files of a new matter.
-fn begun(alloc: Global) -> Result<Files<Fused>, Fail> {
+fn new_database(alloc: Global) -> Result<Database, AllocError> {
     let log = fused(alloc, &[], u64::MAX)?;
     let db = fused(alloc, &[], u64::MAX)?;
-    let conn = open(alloc, Files { log, db }).map_err(|_| AllocError)?;
-    let mut keeper = SqlKeeper::over(conn);
+    open(alloc, Files { log, db }).map_err(|_| AllocError)
+}
+
+fn begin_in<K: Keeper>(alloc: Global, keeper: &mut K) -> Result<(), Fail> {
     let _none = keeper.load(alloc)?;
     keeper.commit(alloc, &beginning(alloc)?)?;
-    Ok(close(keeper.into_connection()))
+    Ok(())
+}
+
+// The files of a new matter.
+fn begun(alloc: Global) -> Result<Files<Fused>, Fail> {
+    let mut keeper = SqlKeeper::over(new_database(alloc)?);
+    let begins = begin_in(alloc, &mut keeper);
+    let files = close(keeper.into_connection());
+    begins?;
+    Ok(files)
 }
 
 // Whether the batch came in, and the files after it.
@@ -101,10 +111,10 @@ fn stands(
     Ok(made)
 }
 
-// Stops each call in turn, until one import comes in.
-fn stops(rt: &impl Abort, alloc: Global, of_log: bool) -> Result<bool, Fail> {
+// Stops each call from the first of these on, until one import comes in.
+fn stops(rt: &impl Abort, alloc: Global, of_log: bool, first: u64, end: u64) -> Result<bool, Fail> {
     let from = begun(alloc)?;
-    for calls in 0..MOST_CALLS {
+    for calls in first..end {
         let log = if of_log { calls } else { u64::MAX };
         let db = if of_log { u64::MAX } else { calls };
         if stands(rt, alloc, &from, log, db)? {
@@ -118,13 +128,25 @@ fn stops(rt: &impl Abort, alloc: Global, of_log: bool) -> Result<bool, Fail> {
 const MOST_CALLS: u64 = 100;
 
 #[test]
-fn each_call_of_the_log_stops(rt: HostRuntime) -> Result<(), Fail> {
-    assert!(rt; stops(&rt, rt.alloc(), true)?);
+fn each_of_the_first_calls_of_the_log_stops(rt: HostRuntime) -> Result<(), Fail> {
+    assert!(rt; !stops(&rt, rt.alloc(), true, 0, 15)?);
+    Ok(())
+}
+
+#[test]
+fn each_of_the_next_calls_of_the_log_stops(rt: HostRuntime) -> Result<(), Fail> {
+    assert!(rt; !stops(&rt, rt.alloc(), true, 15, 30)?);
+    Ok(())
+}
+
+#[test]
+fn each_later_call_of_the_log_stops(rt: HostRuntime) -> Result<(), Fail> {
+    assert!(rt; stops(&rt, rt.alloc(), true, 30, MOST_CALLS)?);
     Ok(())
 }
 
 #[test]
 fn each_call_of_the_file_stops(rt: HostRuntime) -> Result<(), Fail> {
-    assert!(rt; stops(&rt, rt.alloc(), false)?);
+    assert!(rt; stops(&rt, rt.alloc(), false, 0, MOST_CALLS)?);
     Ok(())
 }

@@ -3,7 +3,8 @@
 use super::page_files::WHITE;
 use super::stage::Stage;
 use super::{file_of, words_of};
-use crate::program::program;
+use crate::program::{hold_descriptors, program};
+use sqlite::{Connection, Error, ErrorCode, MemStore};
 use std::alloc::Global;
 use std::env::Args;
 use std::io;
@@ -23,8 +24,11 @@ fn check<R: Abort + Threads + Sync>(
     written: &[u8],
 ) -> Result<(), Fail> {
     let stage = Stage::new(alloc, &WHITE)?;
-    let ended = program(&stage, rt, alloc, answer);
-    assert!(rt; ended == status, "{lines}");
+    let _held = hold_descriptors(&stage);
+    let opened = Ok(Connection::open_in_memory(alloc)?);
+    let ended = program(&stage, rt, alloc, opened, answer);
+    assert!(rt; ended.status == status, "{lines}");
+    assert!(rt; ended.connection.is_some(), "{lines}");
     let told = stage.lines();
     assert!(rt; told.as_str().strip_prefix(HELD) == Some(lines), "{told}");
     assert!(rt; stage.written().as_slice() == written, "{lines}");
@@ -76,6 +80,39 @@ fn words_that_the_system_does_not_give_are_told_apart(rt: HostRuntime) -> Result
         ),
     ] {
         check(&rt, alloc, Err(io::Error::from(kind)), ends, &[])?;
+    }
+    Ok(())
+}
+
+// Runs the program where its database can't be opened.
+fn check_unopened<R: Abort + Threads + Sync>(
+    rt: &R,
+    alloc: Global,
+    error: Error,
+    (status, lines): (u8, &str),
+) -> Result<(), Fail> {
+    let stage = Stage::new(alloc, &WHITE)?;
+    let words = words_of(alloc, "tivrenan log R-1")?;
+    let _held = hold_descriptors(&stage);
+    let opened: Result<Connection<MemStore>, Error> = Err(error);
+    let ended = program(&stage, rt, alloc, opened, Ok(words.into_iter()));
+    assert!(rt; ended.status == status, "{lines}");
+    let told = stage.lines();
+    assert!(rt; told.as_str().strip_prefix(HELD) == Some(lines), "{told}");
+    Ok(())
+}
+
+#[test]
+fn a_database_that_is_not_opened_ends_the_program(rt: HostRuntime) -> Result<(), Fail> {
+    let alloc = rt.alloc();
+    for (code, ends) in [
+        (
+            ErrorCode::OutOfMemory,
+            (6u8, "print beside 3: out of memory\n"),
+        ),
+        (ErrorCode::CannotOpen, (5, "print beside 3: keeper fault\n")),
+    ] {
+        check_unopened(&rt, alloc, Error::SqliteFailure(code), ends)?;
     }
     Ok(())
 }

@@ -1,6 +1,6 @@
 // Makes one library call as often as its words say, and prints a checksum of what came out, for
-// scripts that time the built program from outside (bench/rows.sh). Jobs over the strip of a page
-// file, and jobs over the page itself:
+// scripts that time the built program from outside. Jobs stand beside one another that come to the
+// same by two ways. Over the strip of a page file and over the page itself (bench/rows.sh):
 //
 //     bp_timing strip_rows FILE TIMES
 //     bp_timing read_strip FILE TIMES
@@ -9,8 +9,13 @@
 //     bp_timing strip_writer FILE TIMES
 //     bp_timing page_rows FILE TIMES
 //     bp_timing code_page FILE TIMES
+//
+// At a port, with peers of every kind (examples/doors.sh):
+//
+//     bp_timing door DESK COUNT
 #![tactic(auto)]
 
+mod door;
 mod files;
 mod produced;
 mod reading;
@@ -18,28 +23,25 @@ mod strips;
 mod writing;
 
 use anyhow::{Result, bail};
-use std::alloc::Global;
 use std::env;
-use std::rt::Files;
 
 fn main(rt: HostRuntime) -> Result<()> {
     let words: Vec<String> = env::args(&rt)?.collect(rt.alloc())?;
-    let sum = run(&rt, rt.alloc(), words.as_slice())?;
+    let sum = run(&rt, words.as_slice())?;
     println!(rt; "{sum}")?;
     Ok(())
 }
 
 // What the words ask for; the checksum of what came out.
-fn run<R: Files + Alloc>(rt: &R, alloc: Global, words: &[String]) -> Result<u64> {
-    let [_program, job, file, times] = words else {
-        bail!("JOB FILE TIMES");
+fn run(rt: &HostRuntime, words: &[String]) -> Result<u64> {
+    let [_program, job, operands @ ..] = words else {
+        bail!("no job was named");
     };
-    let (job, file) = (job.as_str(), file.as_str());
-    let times = times.parse::<u32>()?;
-    match job {
-        "strip_writer" => writing::run(rt, alloc, job, file, times),
-        "page_rows" => writing::run(rt, alloc, job, file, times),
-        "code_page" => writing::run(rt, alloc, job, file, times),
-        other => strips::run(rt, alloc, other, file, times),
+    match job.as_str() {
+        "door" => door::run(rt, operands),
+        "strip_writer" => writing::run(rt, "strip_writer", operands),
+        "page_rows" => writing::run(rt, "page_rows", operands),
+        "code_page" => writing::run(rt, "code_page", operands),
+        other => strips::run(rt, other, operands),
     }
 }

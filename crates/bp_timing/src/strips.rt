@@ -10,17 +10,15 @@ use bp_core::{Bytes, OutOfMemory};
 use bp_rows::{Page, import_sides};
 use bp_t6::code_page;
 use std::alloc::Global;
-use std::rt::Files;
 
 /// Does a job so many times over the strip of the page of a file. The page is let go before.
-pub fn run<R: Files + Alloc>(
-    rt: &R,
-    alloc: Global,
-    job: &str,
-    file: &str,
-    times: u32,
-) -> Result<u64> {
-    let page = page_of(rt, alloc, file)?;
+pub fn run(rt: &HostRuntime, job: &str, operands: &[String]) -> Result<u64> {
+    let [file, times] = operands else {
+        bail!("FILE TIMES");
+    };
+    let times = times.parse::<u32>()?;
+    let alloc = rt.alloc();
+    let page = page_of(rt, alloc, file.as_str())?;
     let (width, height) = (page.width(), page.height());
     let strip = strip_of(alloc, page)?;
     if !import_sides(width, height) {

@@ -8,7 +8,6 @@ use bp_core::OutOfMemory;
 use bp_rows::{MAX_WIDTH, Page, Runs};
 use bp_t6::{StripWriter, code_page};
 use std::alloc::Global;
-use std::rt::Files;
 
 // The runs of a row of a page of that width.
 #[derive(Drop)]
@@ -20,14 +19,13 @@ struct RowRuns {
 }
 
 /// Does a job so many times over the page of a file; the sum of the lengths of the strips.
-pub fn run<R: Files + Alloc>(
-    rt: &R,
-    alloc: Global,
-    job: &str,
-    file: &str,
-    times: u32,
-) -> Result<u64> {
-    let page = page_of(rt, alloc, file)?;
+pub fn run(rt: &HostRuntime, job: &str, operands: &[String]) -> Result<u64> {
+    let [file, times] = operands else {
+        bail!("FILE TIMES");
+    };
+    let times = times.parse::<u32>()?;
+    let alloc = rt.alloc();
+    let page = page_of(rt, alloc, file.as_str())?;
     match job {
         "strip_writer" => write_rows(alloc, &page, times),
         "page_rows" => write_page_rows(alloc, &page, times),

@@ -47,7 +47,7 @@ enum Went {
     // Nobody came.
     Nobody,
     // So many bytes were enough, or were all.
-    Enough(usize),
+    Whole(usize),
     Ended(usize),
     // The input was refused.
     Refused,
@@ -100,7 +100,7 @@ fn read<D: Door>(alloc: Global, door: &mut D) -> Went
 
 fn ended(bytes: &[u8]) -> Went {
     if UNTIL.enough(bytes) {
-        Went::Enough(bytes.len())
+        Went::Whole(bytes.len())
     } else {
         Went::Ended(bytes.len())
     }
@@ -111,7 +111,7 @@ fn reply<D: Door>(alloc: Global, door: &mut D, input: Went) -> Went
     requires { (D.shows door.old).under_way ≡ true }
 {
     match input {
-        Went::Enough(count) => reply_to(alloc, door, count, input),
+        Went::Whole(count) => reply_to(alloc, door, count, input),
         Went::Ended(count) => reply_to(alloc, door, count, input),
         other => other,
     }
@@ -141,13 +141,13 @@ fn text_of(alloc: Global, count: usize) -> Result<String, AllocError> {
 fn tell(rt: &HostRuntime, went: Went) -> Result<u64> {
     match went {
         Went::Nobody => println!(rt; "nobody came")?,
-        Went::Enough(count) => println!(rt; "{count} bytes were enough")?,
+        Went::Whole(count) => println!(rt; "{count} bytes were enough")?,
         Went::Ended(count) => println!(rt; "{count} bytes were all")?,
         Went::Refused => println!(rt; "the input was refused")?,
         Went::Unsent(count) => println!(rt; "{count} bytes came, and the reply was refused")?,
     }
     Ok(match went {
-        Went::Enough(_) => 1,
+        Went::Whole(_) => 1,
         Went::Ended(_) => 1,
         _ => 0,
     })

@@ -24,6 +24,7 @@ struct Until<'a> {
 impl<'a> Enough for Until<'a> {
     ghost use Rattle.std.specs.Prelude.{◌||◌, length, nat_eq, nat_le};
     ghost use Rattle.std.specs.List.{ends_with};
+    ghost use Rattle.std.proofs.Common.{rules};
 
     ghost is_enough = { λ until bytes.
         nat_le until.most (length bytes) || ends_with nat_eq bytes until.end.now };

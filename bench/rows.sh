@@ -6,7 +6,8 @@
 #   producing    `produced_strip` beside `read_strip`, `produced` and `code_page` one after another (produced_page), with two boxes
 # A time is processor time of one job: that of a run with many less that of a run with few, each the least of rounds in which
 # both jobs run by turns. Then the memory of `produced_strip`: the most bytes that it has from malloc at once, less the strip
-# that it reads and the one that it writes, in bytes and in rows of the page of eight pixels a byte.
+# that it reads and the one that it writes, in bytes and in rows of the page of eight pixels a byte; of pages whose strip is
+# shorter than half of their rows alone, since the count begins where a block as large as the page is let go.
 # Words: rounds, 7 where none is given; then the pages, all but the largest where none is given.
 # Needs rt on PATH where the program isn't built; python3, gcc, libtiff-tools (tiffinfo); and what pages.sh needs. Pages that are
 # made already can stand in a folder, whose whole path is in PAGES.
@@ -49,6 +50,7 @@ memory() {
     # nothing of the job is as large as the page, so the count begins where the page of the file is let go
     LD_PRELOAD=$scratch/heap_peak.so HEAP_LARGE=$((row * height)) "$timing" produced_strip "$pages/$1.tif" 1 \
         > "$scratch/length" 2> "$scratch/heap" || stop "produced_strip failed on $1"
+    [ $((2 * $(cat "$scratch/length"))) -lt $((row * height)) ] || return 0
     awk -v page="$1" -v row="$row" -v length_="$(cat "$scratch/length")" '{
         taken = $2 - $6; more = taken - length_
         printf "%-9s produced_strip takes %d bytes at once for a strip of %d: %d more, %.1f rows (at most 64 are wanted)\n", page,

@@ -6,15 +6,14 @@
 # the instructions that the product takes for each pixel of the largest page: from plain to plain more than 3 would mean
 # that something goes by the pixel.
 # Words: what to do, of plain-plain, plain-g4, g4-plain and g4-g4; all four where none is given.
-# Each run writes a new file. The product runs with the setting of the C library that its launcher gives it; with an empty
-# TUNABLES in the environment it runs without.
+# Each run writes a new file. Both run in the same environment, without settings of the C library.
 # Needs rt on PATH where the program isn't built; of Debian gcc, libtiff-dev, libtiff-tools, valgrind; and what pages.sh
 # needs.
 set -eu
 here=$(CDPATH='' cd -- "$(dirname -- "$0")" && pwd)
 top=$here/..
 program=$top/crates/bp_cli/out/bp_cli
-tunables=${TUNABLES-glibc.malloc.hugetlb=1}
+unset GLIBC_TUNABLES
 
 stop() { echo "burn.sh: $1" >&2; exit 1; }
 
@@ -43,7 +42,7 @@ compare() {
     # tiffcmp ends with 0 where a field differs, and then compares no pixels: it must also print nothing
     differs=$(tiffcmp out/product.tif peer.tif 2>&1 || echo "it failed")
     [ -z "$differs" ] || stop "the two outputs differ on $page: $differs"
-    FIRST_TUNABLES=$tunables ./side_by_side "$label" "$rounds" out/product.tif peer.tif \
+    ./side_by_side "$label" "$rounds" out/product.tif peer.tif \
         "$program" burn "$page" "$@" product.tif "$to" -- ./burn_peer "$page" "$@" peer.tif "$to"
 }
 

@@ -3,8 +3,7 @@
  * tells more than the wall time. Words: label, rounds, the file that each command writes, first command, --, second
  * command. Such a file is removed before its command starts, outside the time: to write over a file whose bytes are still
  * on their way to the disk means to wait for them, and a new file is what the command makes in its daily use.
- * What the commands print is dropped; each must end with status 0. Where FIRST_TUNABLES is set, the first command alone
- * has its value as GLIBC_TUNABLES. */
+ * What the commands print is dropped; each must end with status 0. */
 #define _GNU_SOURCE
 #include <fcntl.h>
 #include <spawn.h>
@@ -36,14 +35,6 @@ static double now(void) {
 }
 
 static double milliseconds(struct timeval time) { return time.tv_sec * 1e3 + time.tv_usec / 1e3; }
-
-static void set_tunables(int is_first) {
-    const char *tunables = getenv("FIRST_TUNABLES");
-    if (tunables && is_first)
-        setenv("GLIBC_TUNABLES", tunables, 1);
-    else if (tunables)
-        unsetenv("GLIBC_TUNABLES");
-}
 
 static void run(struct side *side, int round) {
     posix_spawn_file_actions_t actions;
@@ -84,10 +75,7 @@ int main(int count, char **words) {
         if (!sides[at].wall || !sides[at].processor) stop("out of memory");
     }
     for (int round = 0; round < rounds; round++)
-        for (int at = 0; at < 2; at++) {
-            set_tunables(at == 0);
-            run(&sides[at], round);
-        }
+        for (int at = 0; at < 2; at++) run(&sides[at], round);
     for (int at = 0; at < 2; at++) {
         qsort(sides[at].wall, rounds, sizeof(double), by_size);
         qsort(sides[at].processor, rounds, sizeof(double), by_size);

@@ -1,8 +1,6 @@
 // The door in memory, with ample memory.
-ghost use Rattle.std.specs.Prelude.{◌≡◌, ◌≤◌, ℕ, ◌||◌, nat_le, true, length};
-
 use crate::lists::{inputs, numbers};
-use bp_outside::{Door, DoorRefusal, Enough, Exchange, InputStop, MemDoor, read_input, send};
+use bp_outside::{Door, DoorRefusal, Exchange, MemDoor, send};
 use std::alloc::Global;
 use std::test::Fail;
 
@@ -92,47 +90,5 @@ fn a_peer_waits_for_the_next_accept(rt: HostRuntime) -> Result<(), Fail> {
     assert_eq!(rt; door.accept(alloc), Err(DoorRefusal::Failed));
     assert_eq!(rt; door.exchanges().len(), 0);
     assert_eq!(rt; converse(alloc, &mut door), Ok(true));
-    Ok(())
-}
-
-// So many bytes are enough.
-#[derive(Clone, Copy)]
-struct First(usize);
-
-impl Enough for First {
-    ghost is_enough = { λ until bytes. nat_le until.0 (length bytes) };
-
-    ghost limit = { λ until. until.0 };
-
-    fn enough(&self, bytes: &[u8]) -> bool {
-        bytes.len() >= self.0
-    }
-
-    fn limit(&self) -> usize {
-        self.0
-    }
-
-    ghost ends = { λ until bytes long. Prim.search rules };
-}
-
-// The calls are accept (0) and reads of at most 4,096 bytes.
-#[test]
-fn an_input_is_read_until_it_is_enough(rt: HostRuntime) -> Result<(), Fail> {
-    let alloc = rt.alloc();
-    let long = crate::lists::counted(alloc, 10_000)?;
-    for (first, failing, answer) in [
-        (5000, 9, Ok(5000)),
-        (0, 1, Ok(0)),
-        (10_000, 4, Ok(10_000)),
-        (10_001, 9, Ok(10_000)),
-        (5000, 2, Err(InputStop::Refused(DoorRefusal::Failed))),
-    ] {
-        let given = inputs(alloc, &[long.as_slice()])?;
-        let mut door = MemDoor::over(given, numbers(alloc, &[failing])?);
-        if door.accept(alloc) == Ok(true) {
-            let told = read_input(alloc, &mut door, &First(first)).map(|bytes| bytes.len());
-            assert_eq!(rt; told, answer, "the first {first}");
-        }
-    }
     Ok(())
 }

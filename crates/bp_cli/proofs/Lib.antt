@@ -2,6 +2,7 @@ mod ArgumentLemmas
 mod AlikeLemmas
 mod BurnLemmas
 mod CalmLemmas
+mod DoorLemmas
 mod Examples
 mod ImportLemmas
 mod InitLemmas

@@ -8,6 +8,7 @@ use Rattle.std.specs.declared.io.ErrorKind.{ErrorKind}
 use Rattle.std.specs.declared.io.ErrorKind.TheVariants as errors
 use Rattle.std.specs.Vec.Iter.{into_iter_items}
 use Rattle.std.specs.IoError.{error_kind}
+use Rattle.bp_core.specs.declared.refusals.OutOfMemory.{OutOfMemory}
 use Rattle.bp_cli.specs.declared.stops.Stop.{Stop}
 use Rattle.bp_cli.specs.declared.stops.Stop.TheVariants as stops
 use Rattle.bp_cli.specs.Words.{word_bytes}
@@ -78,7 +79,7 @@ stop_unopened (sqlite.SqliteFailure codes.OutOfMemory) = stops.OutOfMemory
 stop_unopened _ = stops.KeeperFault
 
 -- nothing was done, and that was printed
-pub record EndsUnopened (stop : Stop) (status : ℕ) : Type 0 where
+pub record EndsStopped (stop : Stop) (status : ℕ) : Type 0 where
   pub out : OutView
   pub printed : Prints (text_of (Err stop)) (status_of (Err stop)) (untold_out 0) out status
 
@@ -93,8 +94,15 @@ opened_keeper store connection =
       commits = 0;
     })
 
+-- the program ends by a run over a keeper, or says that there was no memory for its doors
+abbrev pub EndsWithDoors : {D : Type 0} → Answer → KeeperView
+    → Result (Vec D Global) OutOfMemory → ℕ → Type 0
+EndsWithDoors answer keeper (Ok doors) status = RunsFrom answer keeper status
+EndsWithDoors answer keeper (Err lacked) status = EndsStopped stops.OutOfMemory status
+
 -- the program ends by a run over the database that was opened, or says that it wasn't
-abbrev pub EndsOpened : {A : Type 0} → Ghosts A → Answer → Result (Held A) SqlError → ℕ → Type 0
-EndsOpened store answer (Ok connection) status =
-    RunsFrom answer (opened_keeper store connection) status
-EndsOpened store answer (Err error) status = EndsUnopened (stop_unopened error) status
+abbrev pub EndsOpened : {A D : Type 0} → Ghosts A → Answer → Result (Held A) SqlError
+    → Result (Vec D Global) OutOfMemory → ℕ → Type 0
+EndsOpened store answer (Ok connection) doors status =
+    EndsWithDoors answer (opened_keeper store connection) doors status
+EndsOpened store answer (Err error) doors status = EndsStopped (stop_unopened error) status

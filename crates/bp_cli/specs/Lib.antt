@@ -2,6 +2,7 @@ pub mod Arguments
 pub mod Burn
 pub mod Burning
 pub mod Commands
+pub mod Doors
 pub mod Endings
 pub mod Import
 pub mod Init

@@ -88,12 +88,12 @@ left_are_changes places changes width count row shows ends left is =
     below k less = elim (cases_lt (place_at places width k) width) [
       | inl is_left ↦ is_left
       | inr past ↦ (
-        let all : place_at places width k ≡ width = omega (arith, past, shows.rises.within k) in
-        let end = count - 1 in
-        let last : k + (end - k) ≡ end = omega arith in
-        let one : end + 1 ≡ count = omega arith in
-        let there : place_at places width end ≡ get_or places end 0 = get_or_default places end width 0 (omega (arith, ends.few)) in
-        absurd (omega (arith, stays places width k (end - k) shows.rises all, ap (λ n. place_at places width n) last, there, left end one)))
+          let all : place_at places width k ≡ width = omega (arith, past, shows.rises.within k) in
+          let end = count - 1 in
+          let last : k + (end - k) ≡ end = omega arith in
+          let one : end + 1 ≡ count = omega arith in
+          let there : place_at places width end ≡ get_or places end 0 = get_or_default places end width 0 (omega (arith, ends.few)) in
+          absurd (omega (arith, stays places width k (end - k) shows.rises all, ap (λ n. place_at places width n) last, there, left end one)))
     ]
 
     place_is : (k : ℕ) → place_at places width k ≡ place_at (changes_of row) width k

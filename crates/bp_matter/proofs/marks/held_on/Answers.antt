@@ -5,4 +5,4 @@ use Rattle.bp_matter.proofs.marks.held_on.Goals as goal
 pub returns : goal.returns
 returns c =
     c.rows_between.ensures
-    ∙ held_in c.args.doc.0 _ _ c.args.held.now (omega (arith, c.two_keys.ensures.value)) (omega (arith, c.two_keys.ensures.value)) c.requires.written
+    ∙ held_in c.args.doc.0 _ _ c.args.held.now (omega (arith, c.two_keys-first.ensures.value)) (omega (arith, c.two_keys-first.ensures.value)) c.requires.written

@@ -1,0 +1,322 @@
+-- Carry a step to a book with one more call, or none.
+use Rattle.std.proofs.Common.{◌≡◌, ℕ, ◌+◌, ◌^◌, ◌<◌, ◌≤◌, Bool, true, false, List, [], ◌∷◌, ◌++◌, length, refl, sym, ap, subst, ◌∙◌, arith, length-append, Result}
+use Rattle.std.specs.Prelude.{◌≢◌, Option, Some, None, Ok, Err, IfSome, IsOkAnd, IsTrue, is_some}
+use Rattle.std.specs.Option.{option_map}
+use Rattle.std.proofs.lemmas.List.{append-nil}
+use Rattle.bp_core.specs.Counts.{risen}
+use Rattle.bp_core.specs.declared.kept.Row.{Row}
+use Rattle.bp_core.specs.declared.rules.Rule.{Rule}
+use Rattle.bp_keep.specs.Keeper.{KeeperView}
+use Rattle.bp_keep.specs.Puts.{put_all}
+use Rattle.bp_matter.specs.KeptRows.{rows_of}
+use Rattle.bp_matter.specs.Matter.{Matter}
+use Rattle.bp_matter.specs.declared.calls.Reply.{Reply}
+use Rattle.bp_rules.specs.Changes.{puts_of}
+use Rattle.bp_rules.specs.Steps.AtMostOnce.{never}
+use Rattle.bp_rules.specs.Steps.{CallMade, KeepsRows, Stays, StepsCall}
+use Rattle.bp_rules.specs.declared.refusals.MatterRefusal.{MatterRefusal}
+use Rattle.bp_rules.specs.declared.refusals.MatterRefusal.TheVariants as stops
+use Rattle.bp_desk.specs.Books.{Alters, BookCalls, Entered, Full, StaysWith, Unmade, answer_of_step, entered_if, is_made}
+use Rattle.bp_desk.specs.Calls.{answer_by, answer_to, matter_by, matter_with, run_calls, step_with}
+use Rattle.bp_desk.specs.Exchanges.{Answers, CallsAt, Refuses}
+use Rattle.bp_desk.specs.History.{Grew, history_of}
+use Rattle.bp_desk.specs.Shown.{BookView, IsBook, tables_of}
+use Rattle.bp_desk.specs.declared.history.Made.{Made}
+use Rattle.bp_desk.specs.declared.refusals.DeskRefusal.{DeskRefusal}
+use Rattle.bp_desk.specs.declared.refusals.DeskRefusal.TheVariants as desk_refusals
+
+-- ---- the keeper
+
+none_is_not_some : {A : Type 0} (x : A) → None ≡ Some x → ⊥
+none_is_not_some x is = cc
+
+-- rows that are told after a change were told before
+told_by_puts : (f : List Row → List Row) (before now : Option (List Row))
+    → IfSome now (λ rows. option_map f before ≡ Some rows)
+    → IfSome now (λ _. IsTrue (is_some before))
+told_by_puts f before None is = tt
+told_by_puts f (Some rows) (Some now) is = tt
+told_by_puts f None (Some now) is = absurd (none_is_not_some now is)
+
+told_before : (before now : Option (List Row))
+    → IfSome now (λ rows. before ≡ Some rows)
+    → IfSome now (λ _. IsTrue (is_some before))
+told_before before None is = tt
+told_before (Some rows) (Some now) is = tt
+told_before None (Some now) is = absurd (none_is_not_some now is)
+
+told_still : (rows : Option (List Row)) → IfSome rows (λ _. IsTrue (is_some rows))
+told_still None = tt
+told_still (Some rows) = tt
+
+pub stays_same : (keeper : KeeperView) → StaysWith keeper keeper
+stays_same keeper = record { loads = refl; sure = refl; told = told_still keeper.rows }
+
+told_twice : (first then now : Option (List Row))
+    → IfSome then (λ _. IsTrue (is_some first))
+    → IfSome now (λ _. IsTrue (is_some then))
+    → IfSome now (λ _. IsTrue (is_some first))
+told_twice first then None one two = tt
+told_twice first (Some rows) (Some now) one two = one
+told_twice first None (Some now) one two = absurd two
+
+pub stays_twice : (first then now : KeeperView)
+    → StaysWith first then
+    → StaysWith then now
+    → StaysWith first now
+stays_twice first then now one two =
+    record {
+      loads = two.loads ∙ one.loads;
+      sure = two.sure ∙ one.sure;
+      told = told_twice first.rows then.rows now.rows one.told two.told;
+    }
+
+-- rows that are told after are those of the matter, if they were before
+kept_still : (m m' : Matter) (rows rows' : Option (List Row))
+    → m' ≡ m
+    → IfSome rows' (λ now. rows ≡ Some now)
+    → IfSome rows (λ r. r ≡ rows_of m)
+    → IfSome rows' (λ r. r ≡ rows_of m')
+kept_still m m' rows None same told kept = tt
+kept_still m m' rows (Some now) same told kept =
+    let P : Option (List Row) → Type 0 = λ o. IfSome o (λ r. r ≡ rows_of m) in
+    let kept' : now ≡ rows_of m = subst P told kept in
+    kept' ∙ ap rows_of (sym same)
+
+-- ---- the journal
+
+pub run_calls-push : (m : Matter) (calls : List Made) (made : Made)
+    → run_calls m (calls ++ made ∷ []) ≡ matter_with (run_calls m calls) made
+run_calls-push m [] made = refl
+run_calls-push m (x ∷ xs) made = run_calls-push (matter_with m x) xs made
+
+module _ (opening : Matter) (journal : List Made) (room : ℕ) (m : Matter) (k : KeeperView)
+    (made : Made) where
+  -- the matter after a call is that after the journal with the call
+  ran_more : (m' : Matter) → m ≡ run_calls opening journal → m' ≡ matter_with m made
+      → m' ≡ run_calls opening (journal ++ made ∷ [])
+  ran_more m' ran is =
+      is ∙ ap (λ n. matter_with n made) ran ∙ sym (run_calls-push opening journal made)
+
+  fits_more : length journal < room → length (journal ++ made ∷ []) ≤ room
+  fits_more less = omega (arith, less, length-append journal (made ∷ []))
+
+  -- a call that was made
+  entered : (m' : Matter) (k' : KeeperView) (reply : Reply) → IsBook opening journal room m k
+      → length journal < room → CallMade m made.key made.call k reply m' k'
+      → IsBook opening (journal ++ made ∷ []) room m' k'
+  entered m' k' reply is less c =
+      record {
+        ran = ran_more m' is.ran (c.made.matter ∙ sym (ap (matter_by m) c.answer));
+        kept = c.made.kept is.kept;
+        fits = fits_more less;
+        most = is.most;
+      }
+
+  -- a call that broke a rule
+  broken : (m' : Matter) (k' : KeeperView) (rule : Rule) → IsBook opening journal room m k
+      → length journal < room
+      → StepsCall m made.key made.call k (Err (stops.Rule rule)) m' k'
+      → IsBook opening (journal ++ made ∷ []) room m' k'
+  broken m' k' rule is less e =
+      record {
+        ran = ran_more m' is.ran (e.1 ∙ sym (ap (matter_by m) e.0));
+        kept = subst (λ (x : Matter × KeeperView). KeepsRows x.1 x.0) (λ i. (sym e.1 i, sym e.2 i))
+            is.kept;
+        fits = fits_more less;
+        most = is.most;
+      }
+
+  -- no call was made
+  unmade : (m' : Matter) (k' : KeeperView) (count : ℕ) → IsBook opening journal room m k
+      → Stays m k count m' k' → IsBook opening journal room m' k'
+  unmade m' k' count is s =
+      record {
+        ran = s.matter ∙ is.ran;
+        kept = kept_still m m' k.rows k'.rows s.matter s.rows is.kept;
+        fits = is.fits;
+        most = is.most;
+      }
+
+  -- whatever the step gave, it is a book
+  pub after_step : (m' : Matter) (k' : KeeperView) (stepped : Result Reply MatterRefusal)
+      → IsBook opening journal room m k → length journal < room
+      → StepsCall m made.key made.call k stepped m' k'
+      → IsBook opening (entered_if (is_made (answer_of_step stepped)) journal made) room m' k'
+  after_step m' k' (Ok reply) is less s = entered m' k' reply is less s
+  after_step m' k' (Err (stops.Rule rule)) is less s = broken m' k' rule is less s
+  after_step m' k' (Err stops.KeeperFault) is less s = unmade m' k' _ is s.1
+  after_step m' k' (Err stops.OutOfMemory) is less s = unmade m' k' _ is s
+
+  abbrev was : BookView
+  was = record { opening = opening; journal = journal; keeper = k; room = room }
+
+  abbrev then_is : Bool → KeeperView → BookView
+  then_is call k' =
+      record {
+        opening = opening;
+        journal = entered_if call journal made;
+        keeper = k';
+        room = room;
+      }
+
+  left : (m' : Matter) (k' : KeeperView) (count : ℕ) → length journal < room
+      → Stays m k count m' k' → Unmade was count (then_is false k')
+  left m' k' count less s =
+      record {
+        has_room = less;
+        opening = refl;
+        journal = refl;
+        rows = s.rows;
+        faults = s.faults;
+        commits = s.commits;
+        same_room = refl;
+      }
+
+  -- and this is what the call gave
+  pub calls_step : (m' : Matter) (k' : KeeperView) (stepped : Result Reply MatterRefusal)
+      → m ≡ run_calls opening journal → length journal < room
+      → StepsCall m made.key made.call k stepped m' k'
+      → BookCalls was made (answer_of_step stepped)
+      (then_is (is_made (answer_of_step stepped)) k')
+  calls_step m' k' (Ok reply) ran less s =
+      record {
+        has_room = less;
+        answered = ap (λ n. answer_to n made) (sym ran) ∙ ap answer_by s.answer;
+        opening = refl;
+        journal = refl;
+        faults = s.made.faults;
+        commits = s.made.commits;
+        same_room = refl;
+      }
+  calls_step m' k' (Err (stops.Rule rule)) ran less s =
+      record {
+        has_room = less;
+        answered = ap (λ n. answer_to n made) (sym ran) ∙ ap answer_by s.0;
+        opening = refl;
+        journal = refl;
+        faults = ap (λ (x : KeeperView). x.faults) s.2;
+        commits = never (ap (λ (x : KeeperView). x.commits) s.2);
+        same_room = refl;
+      }
+  calls_step m' k' (Err stops.KeeperFault) ran less s =
+      let P : Matter → Type 0 = λ n. IsOkAnd (step_with n made) (λ stepped. stepped.matter ≢ n) in
+      (subst P ran s.0, left m' k' _ less s.1)
+  calls_step m' k' (Err stops.OutOfMemory) ran less s = left m' k' _ less s
+
+  -- the keeper's count didn't fall
+  pub rises : (m' : Matter) (k' : KeeperView) (stepped : Result Reply MatterRefusal)
+      → k.faults < 2 ^ 64 → StepsCall m made.key made.call k stepped m' k'
+      → k.faults ≤ k'.faults
+  rises m' k' (Ok reply) low s = (let e = s.made.faults in omega arith)
+  rises m' k' (Err (stops.Rule rule)) low s =
+      (let e : k'.faults ≡ k.faults = ap (λ (x : KeeperView). x.faults) s.2 in omega arith)
+  rises m' k' (Err stops.KeeperFault) low s = (let e = s.1.faults in omega arith)
+  rises m' k' (Err stops.OutOfMemory) low s = (let e = s.faults in omega arith)
+
+  left_with : (m' : Matter) (k' : KeeperView) (count : ℕ) → Stays m k count m' k'
+      → StaysWith k k'
+  left_with m' k' count s =
+      record { loads = s.loads; sure = s.sure; told = told_before k.rows k'.rows s.rows }
+
+  -- nor was it asked to load
+  pub stays_with : (m' : Matter) (k' : KeeperView) (stepped : Result Reply MatterRefusal)
+      → StepsCall m made.key made.call k stepped m' k'
+      → StaysWith k k'
+  stays_with m' k' (Ok reply) s =
+      record {
+        loads = s.made.loads;
+        sure = s.made.sure;
+        told = told_by_puts (put_all (puts_of s.edit)) k.rows k'.rows s.made.puts;
+      }
+  stays_with m' k' (Err (stops.Rule rule)) s = subst (StaysWith k) (sym s.2) (stays_same k)
+  stays_with m' k' (Err stops.KeeperFault) s = left_with m' k' _ s.1
+  stays_with m' k' (Err stops.OutOfMemory) s = left_with m' k' _ s
+
+-- the same where the answer and the book after it are told otherwise
+pub calls_as : (before after after' : BookView) (made : Made)
+    (answer answer' : Result Reply DeskRefusal)
+    → answer ≡ answer'
+    → after ≡ after'
+    → BookCalls before made answer' after'
+    → BookCalls before made answer after
+calls_as before after after' made answer answer' e same h =
+    subst (λ (x : Result Reply DeskRefusal × BookView). BookCalls before made x.0 x.1)
+    (λ i. (sym e i, sym same i)) h
+
+-- ---- the calls of a book by its history
+
+-- the history with the call, behind no others
+entered_history : (before after : BookView) (made : Made) (answer : Result Reply Rule)
+    → Entered before made answer after
+    → before.keeper.faults ≤ after.keeper.faults
+    → Answers (history_of before) made answer (history_of after)
+entered_history before after made answer is rose =
+    let longer : length after.journal ≡ length before.journal + 1 =
+    ap length is.journal ∙ length-append before.journal (made ∷ []) in
+    record {
+      others = [];
+      apart = tt;
+      given = is.answered;
+      grew = record {
+        opening = is.opening;
+        calls = is.journal;
+        room = is.same_room;
+        faults = rose;
+      };
+      within = omega (arith, longer, is.has_room, is.same_room);
+    }
+
+-- the history as it was
+same_history : (before after : BookView) (seat : ℕ)
+    → after.opening ≡ before.opening
+    → after.journal ≡ before.journal
+    → after.room ≡ before.room
+    → length before.journal ≤ before.room
+    → before.keeper.faults ≤ after.keeper.faults
+    → Refuses (history_of before) seat (history_of after)
+same_history before after seat opening journal room fits rose =
+    record {
+      others = [];
+      apart = tt;
+      grew = record {
+        opening = opening;
+        calls = journal ∙ sym (append-nil before.journal);
+        room = room;
+        faults = rose;
+      };
+      within = omega (arith, ap (λ (calls : List Made). length calls) journal, fits, room);
+    }
+
+unmade_history : (before after : BookView) (seat count : ℕ)
+    → Unmade before count after
+    → before.keeper.faults ≤ after.keeper.faults
+    → Refuses (history_of before) seat (history_of after)
+unmade_history before after seat count is rose =
+    let fits : length before.journal ≤ before.room = omega (arith, is.has_room) in
+    same_history before after seat is.opening is.journal is.same_room fits rose
+
+pub history_calls : (before after : BookView) (made : Made) (given : Result Reply DeskRefusal)
+    → BookCalls before made given after
+    → before.keeper.faults ≤ after.keeper.faults
+    → CallsAt (history_of before) made given (history_of after)
+history_calls before after made (Ok reply) is rose =
+    entered_history before after made (Ok reply) is rose
+history_calls before after made (Err (desk_refusals.Rule rule)) is rose =
+    entered_history before after made (Err rule) is rose
+history_calls before after made (Err desk_refusals.KeeperFault) is rose = (
+  unmade_history before after made.seat _ is.1 rose,
+  let count = is.1.faults in omega (arith, count),
+)
+history_calls before after made (Err (desk_refusals.JournalFull count)) is rose =
+    let journal : after.journal ≡ before.journal = ap (λ (b : BookView). b.journal) is.same in
+    let opening : after.opening ≡ before.opening = ap (λ (b : BookView). b.opening) is.same in
+    let room : after.room ≡ before.room = ap (λ (b : BookView). b.room) is.same in
+    let at : length after.journal ≡ before.room = ap length journal ∙ is.full in
+    let fits : length before.journal ≤ before.room = omega (arith, is.full) in (
+      same_history before after made.seat opening journal room fits rose,
+      at ∙ sym room,
+      is.counted ∙ is.full ∙ sym room,
+    )
+history_calls before after made (Err desk_refusals.OutOfMemory) is rose =
+    unmade_history before after made.seat _ is rose

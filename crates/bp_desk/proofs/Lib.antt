@@ -1,4 +1,5 @@
 pub mod BookLemmas
+mod Examples
 pub mod ExchangeLemmas
 pub mod HistoryLemmas
 pub mod RunLemmas

@@ -1,22 +1,19 @@
 -- Carry a step to a book with one more call, or none.
-use Rattle.std.proofs.Common.{◌≡◌, ℕ, ◌+◌, ◌^◌, ◌<◌, ◌≤◌, Bool, true, false, List, [], ◌∷◌, ◌++◌, length, refl, sym, ap, subst, ◌∙◌, arith, length-append, Result}
+use Rattle.std.proofs.Common.{◌≡◌, ℕ, ◌+◌, ◌^◌, ◌<◌, ◌≤◌, Bool, true, false, List, [], ◌∷◌, ◌++◌, length, refl, sym, ap, subst, ◌∙◌, append_assoc, arith, length-append, Result}
 use Rattle.std.specs.Prelude.{◌≢◌, Option, Some, None, Ok, Err, IfSome, IsOkAnd, IsTrue, is_some}
-use Rattle.std.specs.Option.{option_map}
+use Rattle.std.proofs.lemmas.Bool.{false≢true}
 use Rattle.std.proofs.lemmas.List.{append-nil}
 use Rattle.bp_core.specs.Counts.{risen}
 use Rattle.bp_core.specs.declared.kept.Row.{Row}
 use Rattle.bp_core.specs.declared.rules.Rule.{Rule}
 use Rattle.bp_keep.specs.Keeper.{KeeperView}
-use Rattle.bp_keep.specs.Puts.{put_all}
 use Rattle.bp_matter.specs.KeptRows.{rows_of}
 use Rattle.bp_matter.specs.Matter.{Matter}
 use Rattle.bp_matter.specs.declared.calls.Reply.{Reply}
-use Rattle.bp_rules.specs.Changes.{puts_of}
-use Rattle.bp_rules.specs.Steps.AtMostOnce.{never}
 use Rattle.bp_rules.specs.Steps.{CallMade, KeepsRows, Stays, StepsCall}
 use Rattle.bp_rules.specs.declared.refusals.MatterRefusal.{MatterRefusal}
 use Rattle.bp_rules.specs.declared.refusals.MatterRefusal.TheVariants as stops
-use Rattle.bp_desk.specs.Books.{Alters, BookCalls, Entered, Full, StaysWith, Unmade, answer_of_step, entered_if, is_made}
+use Rattle.bp_desk.specs.Books.{Alters, AreBy, BookCalls, Entered, Full, GrewBy, StaysWith, Unmade, answer_of_step, entered_if, is_made}
 use Rattle.bp_desk.specs.Calls.{answer_by, answer_to, matter_by, matter_with, run_calls, step_with}
 use Rattle.bp_desk.specs.Exchanges.{Answers, CallsAt, Refuses}
 use Rattle.bp_desk.specs.History.{Grew, history_of}
@@ -27,27 +24,9 @@ use Rattle.bp_desk.specs.declared.refusals.DeskRefusal.TheVariants as desk_refus
 
 -- ---- the keeper
 
-none_is_not_some : {A : Type 0} (x : A) → None ≡ Some x → ⊥
-none_is_not_some x is = cc
-
--- rows that are told after a change were told before
-told_by_puts : (f : List Row → List Row) (before now : Option (List Row))
-    → IfSome now (λ rows. option_map f before ≡ Some rows)
-    → IfSome now (λ _. IsTrue (is_some before))
-told_by_puts f before None is = tt
-told_by_puts f (Some rows) (Some now) is = tt
-told_by_puts f None (Some now) is = absurd (none_is_not_some now is)
-
-told_before : (before now : Option (List Row))
-    → IfSome now (λ rows. before ≡ Some rows)
-    → IfSome now (λ _. IsTrue (is_some before))
-told_before before None is = tt
-told_before (Some rows) (Some now) is = tt
-told_before None (Some now) is = absurd (none_is_not_some now is)
-
 told_still : (rows : Option (List Row)) → IfSome rows (λ _. IsTrue (is_some rows))
 told_still None = tt
-told_still (Some rows) = tt
+told_still (Some rows) = refl
 
 pub stays_same : (keeper : KeeperView) → StaysWith keeper keeper
 stays_same keeper = record { loads = refl; sure = refl; told = told_still keeper.rows }
@@ -58,7 +37,7 @@ told_twice : (first then now : Option (List Row))
     → IfSome now (λ _. IsTrue (is_some first))
 told_twice first then None one two = tt
 told_twice first (Some rows) (Some now) one two = one
-told_twice first None (Some now) one two = absurd two
+told_twice first None (Some now) one two = absurd (false≢true two)
 
 pub stays_twice : (first then now : KeeperView)
     → StaysWith first then
@@ -71,6 +50,70 @@ stays_twice first then now one two =
       told = told_twice first.rows then.rows now.rows one.told two.told;
     }
 
+-- ---- calls of one seat
+
+are_by_both : (seat : ℕ) (xs ys : List Made) → AreBy seat xs → AreBy seat ys → AreBy seat (xs ++ ys)
+are_by_both seat [] ys one two = two
+are_by_both seat (made ∷ xs) ys one two = (one.0, are_by_both seat xs ys one.1 two)
+
+pub grew_by_none : (seat : ℕ) (book : BookView) → GrewBy seat book book
+grew_by_none seat book =
+    record {
+      made = [];
+      journal = sym (append-nil book.journal);
+      own = tt;
+      keeper = stays_same book.keeper;
+    }
+
+pub grew_by_twice : (seat : ℕ) (first then now : BookView)
+    → GrewBy seat first then
+    → GrewBy seat then now
+    → GrewBy seat first now
+grew_by_twice seat first then now one two =
+    record {
+      made = one.made ++ two.made;
+      journal = two.journal ∙ ap (λ calls. calls ++ two.made) one.journal
+          ∙ append_assoc first.journal one.made two.made;
+      own = are_by_both seat one.made two.made one.own two.own;
+      keeper = stays_twice first.keeper then.keeper now.keeper one.keeper two.keeper;
+    }
+
+grew_by_one : (before after : BookView) (made : Made)
+    → after.journal ≡ before.journal ++ made ∷ []
+    → StaysWith before.keeper after.keeper
+    → GrewBy made.seat before after
+grew_by_one before after made journal keeper =
+    record { made = made ∷ []; journal = journal; own = (refl, tt); keeper = keeper }
+
+grew_by_nothing : (seat : ℕ) (before after : BookView)
+    → after.journal ≡ before.journal
+    → StaysWith before.keeper after.keeper
+    → GrewBy seat before after
+grew_by_nothing seat before after journal keeper =
+    record {
+      made = [];
+      journal = journal ∙ sym (append-nil before.journal);
+      own = tt;
+      keeper = keeper;
+    }
+
+pub grew_by_call : (before after : BookView) (made : Made) (given : Result Reply DeskRefusal)
+    → BookCalls before made given after
+    → StaysWith before.keeper after.keeper
+    → GrewBy made.seat before after
+grew_by_call before after made (Ok reply) is keeper =
+    grew_by_one before after made is.journal keeper
+grew_by_call before after made (Err (desk_refusals.Rule rule)) is keeper =
+    grew_by_one before after made is.journal keeper
+grew_by_call before after made (Err desk_refusals.KeeperFault) is keeper =
+    grew_by_nothing made.seat before after is.1.journal keeper
+grew_by_call before after made (Err (desk_refusals.JournalFull count)) is keeper =
+    grew_by_nothing made.seat before after (ap (λ (b : BookView). b.journal) is.same) keeper
+grew_by_call before after made (Err desk_refusals.OutOfMemory) is keeper =
+    grew_by_nothing made.seat before after is.journal keeper
+
+-- ---- the journal
+
 -- rows that are told after are those of the matter, if they were before
 kept_still : (m m' : Matter) (rows rows' : Option (List Row))
     → m' ≡ m
@@ -82,8 +125,6 @@ kept_still m m' rows (Some now) same told kept =
     let P : Option (List Row) → Type 0 = λ o. IfSome o (λ r. r ≡ rows_of m) in
     let kept' : now ≡ rows_of m = subst P told kept in
     kept' ∙ ap rows_of (sym same)
-
--- ---- the journal
 
 pub run_calls-push : (m : Matter) (calls : List Made) (made : Made)
     → run_calls m (calls ++ made ∷ []) ≡ matter_with (run_calls m calls) made
@@ -147,102 +188,6 @@ module _ (opening : Matter) (journal : List Made) (room : ℕ) (m : Matter) (k :
   after_step m' k' (Err (stops.Rule rule)) is less s = broken m' k' rule is less s
   after_step m' k' (Err stops.KeeperFault) is less s = unmade m' k' _ is s.1
   after_step m' k' (Err stops.OutOfMemory) is less s = unmade m' k' _ is s
-
-  abbrev was : BookView
-  was = record { opening = opening; journal = journal; keeper = k; room = room }
-
-  abbrev then_is : Bool → KeeperView → BookView
-  then_is call k' =
-      record {
-        opening = opening;
-        journal = entered_if call journal made;
-        keeper = k';
-        room = room;
-      }
-
-  left : (m' : Matter) (k' : KeeperView) (count : ℕ) → length journal < room
-      → Stays m k count m' k' → Unmade was count (then_is false k')
-  left m' k' count less s =
-      record {
-        has_room = less;
-        opening = refl;
-        journal = refl;
-        rows = s.rows;
-        faults = s.faults;
-        commits = s.commits;
-        same_room = refl;
-      }
-
-  -- and this is what the call gave
-  pub calls_step : (m' : Matter) (k' : KeeperView) (stepped : Result Reply MatterRefusal)
-      → m ≡ run_calls opening journal → length journal < room
-      → StepsCall m made.key made.call k stepped m' k'
-      → BookCalls was made (answer_of_step stepped)
-      (then_is (is_made (answer_of_step stepped)) k')
-  calls_step m' k' (Ok reply) ran less s =
-      record {
-        has_room = less;
-        answered = ap (λ n. answer_to n made) (sym ran) ∙ ap answer_by s.answer;
-        opening = refl;
-        journal = refl;
-        faults = s.made.faults;
-        commits = s.made.commits;
-        same_room = refl;
-      }
-  calls_step m' k' (Err (stops.Rule rule)) ran less s =
-      record {
-        has_room = less;
-        answered = ap (λ n. answer_to n made) (sym ran) ∙ ap answer_by s.0;
-        opening = refl;
-        journal = refl;
-        faults = ap (λ (x : KeeperView). x.faults) s.2;
-        commits = never (ap (λ (x : KeeperView). x.commits) s.2);
-        same_room = refl;
-      }
-  calls_step m' k' (Err stops.KeeperFault) ran less s =
-      let P : Matter → Type 0 = λ n. IsOkAnd (step_with n made) (λ stepped. stepped.matter ≢ n) in
-      (subst P ran s.0, left m' k' _ less s.1)
-  calls_step m' k' (Err stops.OutOfMemory) ran less s = left m' k' _ less s
-
-  -- the keeper's count didn't fall
-  pub rises : (m' : Matter) (k' : KeeperView) (stepped : Result Reply MatterRefusal)
-      → k.faults < 2 ^ 64 → StepsCall m made.key made.call k stepped m' k'
-      → k.faults ≤ k'.faults
-  rises m' k' (Ok reply) low s = (let e = s.made.faults in omega arith)
-  rises m' k' (Err (stops.Rule rule)) low s =
-      (let e : k'.faults ≡ k.faults = ap (λ (x : KeeperView). x.faults) s.2 in omega arith)
-  rises m' k' (Err stops.KeeperFault) low s = (let e = s.1.faults in omega arith)
-  rises m' k' (Err stops.OutOfMemory) low s = (let e = s.faults in omega arith)
-
-  left_with : (m' : Matter) (k' : KeeperView) (count : ℕ) → Stays m k count m' k'
-      → StaysWith k k'
-  left_with m' k' count s =
-      record { loads = s.loads; sure = s.sure; told = told_before k.rows k'.rows s.rows }
-
-  -- nor was it asked to load
-  pub stays_with : (m' : Matter) (k' : KeeperView) (stepped : Result Reply MatterRefusal)
-      → StepsCall m made.key made.call k stepped m' k'
-      → StaysWith k k'
-  stays_with m' k' (Ok reply) s =
-      record {
-        loads = s.made.loads;
-        sure = s.made.sure;
-        told = told_by_puts (put_all (puts_of s.edit)) k.rows k'.rows s.made.puts;
-      }
-  stays_with m' k' (Err (stops.Rule rule)) s = subst (StaysWith k) (sym s.2) (stays_same k)
-  stays_with m' k' (Err stops.KeeperFault) s = left_with m' k' _ s.1
-  stays_with m' k' (Err stops.OutOfMemory) s = left_with m' k' _ s
-
--- the same where the answer and the book after it are told otherwise
-pub calls_as : (before after after' : BookView) (made : Made)
-    (answer answer' : Result Reply DeskRefusal)
-    → answer ≡ answer'
-    → after ≡ after'
-    → BookCalls before made answer' after'
-    → BookCalls before made answer after
-calls_as before after after' made answer answer' e same h =
-    subst (λ (x : Result Reply DeskRefusal × BookView). BookCalls before made x.0 x.1)
-    (λ i. (sym e i, sym same i)) h
 
 -- ---- the calls of a book by its history
 

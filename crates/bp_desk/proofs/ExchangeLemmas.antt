@@ -1,7 +1,8 @@
 -- Carry what a call gave, what was read and what was sent to one exchange.
 use Rattle.std.proofs.Common.{◌≡◌, ℕ, ◌+◌, ◌≤◌, ◌==◌, eq-eqb, Bool, true, false, List, [], ◌∷◌, ◌++◌, length, take, drop, refl, sym, ap, subst, ◌∙◌, arith, inl, inr, IfOk, Result}
-use Rattle.std.specs.Prelude.{◌⊎◌, ◌≢◌, Ok, Err, IsTrue}
+use Rattle.std.specs.Prelude.{◌⊎◌, Ok, Err, IsTrue}
 use Rattle.std.specs.Option.{option_map}
+use Rattle.std.proofs.lemmas.Bool.{false≢true}
 use Rattle.std.proofs.lemmas.List.{take-append-drop}
 use Rattle.bp_core.specs.Counts.{risen}
 use Rattle.bp_core.specs.declared.refusals.OutOfMemory.{OutOfMemory}
@@ -21,7 +22,7 @@ use Rattle.bp_web.specs.declared.refusals.WebRefusal.TheVariants as web_refusals
 use Rattle.bp_web.specs.declared.replies.Answer.{Answer}
 use Rattle.bp_web.specs.declared.replies.Answer.TheVariants as answers
 use Rattle.bp_web.specs.declared.requests.Asked.{Asked}
-use Rattle.bp_desk.specs.Exchanges.{Answers, AnswersBytes, AnswersRead, CallsAt, Changes, Deals, IsRefusalText, Refuses, Talks, TellsRequest, answer_from, text_of}
+use Rattle.bp_desk.specs.Exchanges.{Answers, AnswersBytes, AnswersRead, CallsAt, Changes, Deals, IsRefusalText, ReadsAs, Refuses, Talks, TellsRequest, answer_from, text_of}
 use Rattle.bp_desk.specs.Exchanges.Deals.{made_none, made_one}
 use Rattle.bp_desk.specs.History.{AreOthers, HistoryView, asked_by, is_full, sent_for}
 use Rattle.bp_desk.specs.Served.{Asks, IsEnough, Sent, TextOfNone, WasRead, memory_text}
@@ -181,8 +182,9 @@ pub tells : (bytes : List ℕ) (answer : Bool)
     → (IsTrue answer → IsEnough bytes)
     → (NeverBegins (start_of bytes) → IsTrue answer)
     → TellsRequest bytes answer
-tells bytes true whole alike never = alike tt
-tells bytes false whole alike never = (λ is. whole is, λ is. never is)
+tells bytes true needs alike nothing = alike refl
+tells bytes false needs alike nothing =
+    (λ is. false≢true (needs is), λ is. false≢true (nothing is))
 
 -- ---- what answers a request
 
@@ -293,7 +295,7 @@ text_is answer (Ok text) is = inl is
 text_is answer (Err none) is = inr refl
 
 was_asked : (bytes : List ℕ) (asked : Asked)
-    → (Ok asked ≢ Err web_refusals.OutOfMemory → HttpReads bytes (Ok asked))
+    → ReadsAs bytes (Ok asked)
     → HttpReads bytes (Ok asked)
 was_asked bytes asked reads = reads (λ same. cc)
 
@@ -313,7 +315,7 @@ answer_call seat before after made given answer result own is from text x reads 
 
 was_refused : (bytes : List ℕ) (why : WebRefusal)
     → (why ≡ web_refusals.OutOfMemory → ⊥)
-    → (Err why ≢ Err web_refusals.OutOfMemory → HttpReads bytes (Err why))
+    → ReadsAs bytes (Err why)
     → HttpReads bytes (Err why)
 was_refused bytes why other reads =
     reads (λ same. let memory : why ≡ web_refusals.OutOfMemory = cc in other memory)
@@ -330,10 +332,20 @@ answer_refusal seat history why text (inr t) x reads stopped s =
     (refusal why (was_refused x.read why t.0 reads) stopped t.1) s
     (grew_not history) (grew_not history).faults
 
+-- the same of what was read, told otherwise
+pub answer_as : (seat : ℕ) (before after : HistoryView) (request read : Result Asked WebRefusal)
+    (text : List ℕ)
+    → request ≡ read
+    → AnswersRead seat before read text after
+    → AnswersRead seat before request text after
+answer_as seat before after request read text is deals =
+    let P : Result Asked WebRefusal → Type 0 = λ r. AnswersRead seat before r text after in
+    subst P (sym is) deals
+
 -- the bytes were read so
 pub answer_bytes : (seat : ℕ) (before after : HistoryView) (bytes text : List ℕ)
     (request : Result Asked WebRefusal)
-    → (request ≢ Err web_refusals.OutOfMemory → HttpReads bytes request)
+    → ReadsAs bytes request
     → AnswersRead seat before request text after
     → AnswersBytes seat before bytes text after
 answer_bytes seat before after bytes text request reads is x read stopped s =

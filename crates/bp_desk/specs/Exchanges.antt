@@ -75,6 +75,10 @@ abbrev pub TellsRequest : List ℕ → Bool → Type 0
 TellsRequest bytes true = IsEnough bytes
 TellsRequest bytes false = ¬ (IsWhole bytes) × ¬ (NeverBegins (start_of bytes))
 
+-- bytes were read so, unless memory ran out
+abbrev pub ReadsAs : List ℕ → Result Asked WebRefusal → Type 0
+ReadsAs bytes request = request ≢ Err web_refusals.OutOfMemory → HttpReads bytes request
+
 -- the text that is sent
 abbrev pub text_of : Result (List ℕ) OutOfMemory → List ℕ
 text_of (Ok text) = text
@@ -109,8 +113,7 @@ AnswersBytes seat before bytes text after =
 -- an answer to what was read of bytes deals so in every exchange that read them whole and was sent it
 abbrev pub AnswersRead : ℕ → HistoryView → Result Asked WebRefusal → List ℕ → HistoryView → Type 0
 AnswersRead seat before request text after =
-    (x : Exchange) → (request ≢ Err web_refusals.OutOfMemory → HttpReads x.read request)
-    → WasRead x → Sent x text → Deals seat before x after
+    (x : Exchange) → ReadsAs x.read request → WasRead x → Sent x text → Deals seat before x after
 
 -- a door with its last exchange changed
 pub record Changes (change : Exchange → Exchange) (door door' : DoorView) : Type 0 where

@@ -1,6 +1,6 @@
 // Serving a door, accept by accept.
 ghost use Rattle.std.specs.Prelude.{◌≡◌, true, false};
-ghost use Rattle.bp_desk.specs.Books.{StaysWith};
+ghost use Rattle.bp_desk.specs.Books.{GrewBy};
 ghost use Rattle.bp_desk.specs.History.{history_of};
 ghost use Rattle.bp_desk.specs.Serving.{Serves, ServesDoor};
 
@@ -23,7 +23,7 @@ pub fn serve_one<K: Keeper, D: Door>(
 )
     ensures served { ServesDoor DOOR_SEAT connections (history_of book.old) (D.shows door.old)
         (history_of book.new) (D.shows door.new) }
-    ensures keeper { StaysWith book.old.keeper book.new.keeper }
+    ensures book { GrewBy DOOR_SEAT book.old book.new }
 {
     let mut tried = 0;
     'serving: while tried < connections {
@@ -38,7 +38,7 @@ pub fn serve_one<K: Keeper, D: Door>(
 fn serve_next<K: Keeper, D: Door>(alloc: Global, book: &mut Book<K>, door: &mut D) -> bool
     ensures serves { Serves DOOR_SEAT 1 (history_of book.old) (D.shows door.old)
         (history_of book.new) (D.shows door.new) }
-    ensures keeper { StaysWith book.old.keeper book.new.keeper }
+    ensures book { GrewBy DOOR_SEAT book.old book.new }
     ensures closed { result ≡ false → (D.shows door.new).closed ≡ true }
 {
     match door.accept(alloc) {

@@ -1,6 +1,6 @@
 // One exchange at a door.
 ghost use Rattle.std.specs.Prelude.{◌≡◌, true};
-ghost use Rattle.bp_desk.specs.Books.{StaysWith};
+ghost use Rattle.bp_desk.specs.Books.{GrewBy};
 ghost use Rattle.bp_desk.specs.Exchanges.{Talks};
 ghost use Rattle.bp_desk.specs.History.{history_of};
 
@@ -38,7 +38,7 @@ pub(crate) fn converse<K: Keeper, D: Door>(alloc: Global, book: &mut Book<K>, do
     requires { (D.shows door.old).under_way ≡ true }
     ensures talks { Talks DOOR_SEAT (history_of book.old) (D.shows door.old)
         (history_of book.new) (D.shows door.new) }
-    ensures keeper { StaysWith book.old.keeper book.new.keeper }
+    ensures book { GrewBy DOOR_SEAT book.old book.new }
 {
     match read_input(alloc, door, &WholeRequest) {
         Ok(bytes) => {

@@ -1,6 +1,6 @@
 // From the bytes of a request to the text of its reply.
 ghost use Rattle.std.specs.Prelude.{◌≡◌, Result, Err, IfOk};
-ghost use Rattle.bp_desk.specs.Books.{StaysWith};
+ghost use Rattle.bp_desk.specs.Books.{GrewBy};
 ghost use Rattle.bp_desk.specs.Calls.{made_by};
 ghost use Rattle.bp_desk.specs.Exchanges.{AnswersBytes, AnswersCall, AnswersRead, IsRefusalText, answer_from, text_of};
 ghost use Rattle.bp_desk.specs.History.{history_of};
@@ -23,7 +23,7 @@ pub(crate) fn answer_bytes<K: Keeper>(
 ) -> Result<Bytes, OutOfMemory>
     ensures answers { AnswersBytes DOOR_SEAT (history_of book.old) bytes.now (text_of result)
         (history_of book.new) }
-    ensures keeper { StaysWith book.old.keeper book.new.keeper }
+    ensures book { GrewBy DOOR_SEAT book.old book.new }
 {
     let request = read_request(alloc, bytes);
     answer_read(alloc, book, &request)
@@ -37,7 +37,7 @@ fn answer_read<K: Keeper>(
 ) -> Result<Bytes, OutOfMemory>
     ensures answers { AnswersRead DOOR_SEAT (history_of book.old) request.now (text_of result)
         (history_of book.new) }
-    ensures keeper { StaysWith book.old.keeper book.new.keeper }
+    ensures book { GrewBy DOOR_SEAT book.old book.new }
 {
     match request {
         Ok(asked) => answer_asked(alloc, book, asked),
@@ -53,7 +53,7 @@ fn answer_asked<K: Keeper>(
 ) -> Result<Bytes, OutOfMemory>
     ensures answers { AnswersRead DOOR_SEAT (history_of book.old) (Result.Ok asked.now)
         (text_of result) (history_of book.new) }
-    ensures keeper { StaysWith book.old.keeper book.new.keeper }
+    ensures book { GrewBy DOOR_SEAT book.old book.new }
 {
     let given = book.call(alloc, DOOR_SEAT, &asked.key, &asked.call);
     let answer = answer_from(given);

@@ -1,9 +1,8 @@
 -- Carry a step to a book with one more call, or none.
-use Rattle.std.proofs.Common.{◌≡◌, ℕ, ◌+◌, ◌^◌, ◌<◌, ◌≤◌, Bool, true, false, List, [], ◌∷◌, ◌++◌, length, refl, sym, ap, subst, ◌∙◌, append_assoc, arith, length-append, Result}
-use Rattle.std.specs.Prelude.{◌≢◌, Option, Some, None, Ok, Err, IfSome, IsOkAnd, IsTrue, is_some}
+use Rattle.std.proofs.Common.{◌≡◌, ℕ, ◌+◌, ◌<◌, ◌≤◌, true, false, List, [], ◌∷◌, ◌++◌, length, refl, sym, ap, subst, ◌∙◌, append_assoc, arith, length-append, Result}
+use Rattle.std.specs.Prelude.{Option, Some, None, Ok, Err, IfSome, IsTrue, is_some}
 use Rattle.std.proofs.lemmas.Bool.{false≢true}
 use Rattle.std.proofs.lemmas.List.{append-nil}
-use Rattle.bp_core.specs.Counts.{risen}
 use Rattle.bp_core.specs.declared.kept.Row.{Row}
 use Rattle.bp_core.specs.declared.rules.Rule.{Rule}
 use Rattle.bp_keep.specs.Keeper.{KeeperView}
@@ -13,11 +12,11 @@ use Rattle.bp_matter.specs.declared.calls.Reply.{Reply}
 use Rattle.bp_rules.specs.Steps.{CallMade, KeepsRows, Stays, StepsCall}
 use Rattle.bp_rules.specs.declared.refusals.MatterRefusal.{MatterRefusal}
 use Rattle.bp_rules.specs.declared.refusals.MatterRefusal.TheVariants as stops
-use Rattle.bp_desk.specs.Books.{Alters, AreBy, BookCalls, Entered, Full, GrewBy, StaysWith, Unmade, answer_of_step, entered_if, is_made}
-use Rattle.bp_desk.specs.Calls.{answer_by, answer_to, matter_by, matter_with, run_calls, step_with}
+use Rattle.bp_desk.specs.Books.{AreBy, BookCalls, Entered, GrewBy, StaysWith, Unmade, answer_of_step, entered_if, is_made}
+use Rattle.bp_desk.specs.Calls.{matter_by, matter_with, run_calls}
 use Rattle.bp_desk.specs.Exchanges.{Answers, CallsAt, Refuses}
-use Rattle.bp_desk.specs.History.{Grew, history_of}
-use Rattle.bp_desk.specs.Shown.{BookView, IsBook, tables_of}
+use Rattle.bp_desk.specs.History.{history_of}
+use Rattle.bp_desk.specs.Shown.{BookView, IsBook}
 use Rattle.bp_desk.specs.declared.history.Made.{Made}
 use Rattle.bp_desk.specs.declared.refusals.DeskRefusal.{DeskRefusal}
 use Rattle.bp_desk.specs.declared.refusals.DeskRefusal.TheVariants as desk_refusals
@@ -52,7 +51,10 @@ stays_twice first then now one two =
 
 -- ---- calls of one seat
 
-are_by_both : (seat : ℕ) (xs ys : List Made) → AreBy seat xs → AreBy seat ys → AreBy seat (xs ++ ys)
+are_by_both : (seat : ℕ) (xs ys : List Made)
+    → AreBy seat xs
+    → AreBy seat ys
+    → AreBy seat (xs ++ ys)
 are_by_both seat [] ys one two = two
 are_by_both seat (made ∷ xs) ys one two = (one.0, are_by_both seat xs ys one.1 two)
 
@@ -134,7 +136,9 @@ run_calls-push m (x ∷ xs) made = run_calls-push (matter_with m x) xs made
 module _ (opening : Matter) (journal : List Made) (room : ℕ) (m : Matter) (k : KeeperView)
     (made : Made) where
   -- the matter after a call is that after the journal with the call
-  ran_more : (m' : Matter) → m ≡ run_calls opening journal → m' ≡ matter_with m made
+  ran_more : (m' : Matter)
+      → m ≡ run_calls opening journal
+      → m' ≡ matter_with m made
       → m' ≡ run_calls opening (journal ++ made ∷ [])
   ran_more m' ran is =
       is ∙ ap (λ n. matter_with n made) ran ∙ sym (run_calls-push opening journal made)
@@ -143,8 +147,10 @@ module _ (opening : Matter) (journal : List Made) (room : ℕ) (m : Matter) (k :
   fits_more less = omega (arith, less, length-append journal (made ∷ []))
 
   -- a call that was made
-  entered : (m' : Matter) (k' : KeeperView) (reply : Reply) → IsBook opening journal room m k
-      → length journal < room → CallMade m made.key made.call k reply m' k'
+  entered : (m' : Matter) (k' : KeeperView) (reply : Reply)
+      → IsBook opening journal room m k
+      → length journal < room
+      → CallMade m made.key made.call k reply m' k'
       → IsBook opening (journal ++ made ∷ []) room m' k'
   entered m' k' reply is less c =
       record {
@@ -155,7 +161,8 @@ module _ (opening : Matter) (journal : List Made) (room : ℕ) (m : Matter) (k :
       }
 
   -- a call that broke a rule
-  broken : (m' : Matter) (k' : KeeperView) (rule : Rule) → IsBook opening journal room m k
+  broken : (m' : Matter) (k' : KeeperView) (rule : Rule)
+      → IsBook opening journal room m k
       → length journal < room
       → StepsCall m made.key made.call k (Err (stops.Rule rule)) m' k'
       → IsBook opening (journal ++ made ∷ []) room m' k'
@@ -169,8 +176,10 @@ module _ (opening : Matter) (journal : List Made) (room : ℕ) (m : Matter) (k :
       }
 
   -- no call was made
-  unmade : (m' : Matter) (k' : KeeperView) (count : ℕ) → IsBook opening journal room m k
-      → Stays m k count m' k' → IsBook opening journal room m' k'
+  unmade : (m' : Matter) (k' : KeeperView) (count : ℕ)
+      → IsBook opening journal room m k
+      → Stays m k count m' k'
+      → IsBook opening journal room m' k'
   unmade m' k' count is s =
       record {
         ran = s.matter ∙ is.ran;
@@ -181,7 +190,8 @@ module _ (opening : Matter) (journal : List Made) (room : ℕ) (m : Matter) (k :
 
   -- whatever the step gave, it is a book
   pub after_step : (m' : Matter) (k' : KeeperView) (stepped : Result Reply MatterRefusal)
-      → IsBook opening journal room m k → length journal < room
+      → IsBook opening journal room m k
+      → length journal < room
       → StepsCall m made.key made.call k stepped m' k'
       → IsBook opening (entered_if (is_made (answer_of_step stepped)) journal made) room m' k'
   after_step m' k' (Ok reply) is less s = entered m' k' reply is less s

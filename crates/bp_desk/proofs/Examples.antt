@@ -1,6 +1,6 @@
 -- Worked examples of the definitions in specs/, each run by the check: two seats of which one asks
 -- twice, an exchange of each case, and exchanges that fit no case.
-use Rattle.std.proofs.Common.{◌≡◌, ℕ, true, false, List, [], ◌∷◌, codes, get_or, length, replicate, refl, sym, ap, ◌∙◌, arith, inl, inr, Ok, Err}
+use Rattle.std.proofs.Common.{◌≡◌, ℕ, true, false, List, [], ◌∷◌, codes, get_or, replicate, refl, sym, ap, ◌∙◌, arith, inl, inr, Ok, Err}
 use Rattle.std.specs.Str.{chars, is_utf8}
 use Rattle.std.proofs.Math.Utf8.{encode}
 use Rattle.std.proofs.lemmas.List.Elements.{All-cons, All-nil}

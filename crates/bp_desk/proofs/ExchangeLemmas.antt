@@ -1,5 +1,5 @@
 -- Carry what a call gave, what was read and what was sent to one exchange.
-use Rattle.std.proofs.Common.{◌≡◌, ℕ, ◌+◌, ◌≤◌, ◌==◌, eq-eqb, Bool, true, false, List, [], ◌∷◌, ◌++◌, length, take, drop, refl, sym, ap, subst, ◌∙◌, arith, inl, inr, IfOk, Result}
+use Rattle.std.proofs.Common.{◌≡◌, ℕ, ◌≤◌, eq-eqb, Bool, true, false, List, [], length, take, drop, refl, sym, ap, subst, ◌∙◌, inl, inr, IfOk, Result}
 use Rattle.std.specs.Prelude.{◌⊎◌, Ok, Err, IsTrue}
 use Rattle.std.specs.Option.{option_map}
 use Rattle.std.proofs.lemmas.Bool.{false≢true}
@@ -38,7 +38,8 @@ use Rattle.bp_desk.proofs.HistoryLemmas.{grew_not, no_others, not_full}
 -- ---- what passes in an exchange
 
 changes_of : (change : Exchange → Exchange) (door after : DoorView)
-    → after ≡ changed change door → Changes change door after
+    → after ≡ changed change door
+    → Changes change door after
 changes_of change door after is =
     record {
       exchanges = ap (λ d. d.exchanges) is;
@@ -48,7 +49,8 @@ changes_of change door after is =
     }
 
 changes_twice : (f g : Exchange → Exchange) (door between after : DoorView)
-    → Changes f door between → Changes g between after
+    → Changes f door between
+    → Changes g between after
     → Changes (λ x. g (f x)) door after
 changes_twice f g door between after first then =
     record {
@@ -77,7 +79,8 @@ pub talk_sent : (seat : ℕ) (history history' : HistoryView) (door between afte
     (bytes : List ℕ) (ended : Bool) (text : List ℕ) (result : Result (Unit {0}) DoorRefusal)
     → between ≡ changed (took bytes ended) door
     → Sends between text result after
-    → ((x : Exchange) → x.read ≡ bytes → x.ended ≡ ended → Sent x text → Deals seat history x history')
+    → ((x : Exchange) → x.read ≡ bytes → x.ended ≡ ended → Sent x text
+    → Deals seat history x history')
     → Talks seat history door history' after
 talk_sent seat history history' door between after bytes ended text (Ok done) read sent_ deal =
     record {
@@ -110,7 +113,8 @@ talk_sent seat history history' door between after bytes ended text (Err door_re
     }
 
 -- an exchange that was answered that memory ran out, or cut off before it was answered
-deal_memory : (seat : ℕ) (history : HistoryView) (x : Exchange) → Sent x memory_text
+deal_memory : (seat : ℕ) (history : HistoryView) (x : Exchange)
+    → Sent x memory_text
     → Deals seat history x history
 deal_memory seat history x s =
     made_none [] 0 memory_text tt (λ _. refl) (no_memory refl) s (grew_not history)

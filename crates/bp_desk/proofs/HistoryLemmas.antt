@@ -54,21 +54,26 @@ turns_of-last seat m others made apart own =
 -- ---- a history that grew
 
 -- the matter after a history that grew
-pub matter_after : (history history' : HistoryView) (made : List Made) → Grew history made history'
+pub matter_after : (history history' : HistoryView) (made : List Made)
+    → Grew history made history'
     → matter_of history' ≡ run_calls (matter_of history) made
 matter_after history history' made grew =
     ap (λ m. run_calls m history'.calls) grew.opening ∙ ap (run_calls history.opening) grew.calls
     ∙ run_calls-append history.opening history.calls made
 
 -- one that didn't grow is as full as it was
-pub as_full : (history history' : HistoryView) (made : List Made) → Grew history made history' → made ≡ []
+pub as_full : (history history' : HistoryView) (made : List Made)
+    → Grew history made history'
+    → made ≡ []
     → is_full history' ≡ is_full history
 as_full history history' made grew none =
     let same : history'.calls ≡ history.calls =
     grew.calls ∙ ap (λ ms. history.calls ++ ms) none ∙ append-nil history.calls in
     ap (λ ms. length ms == history'.room) same ∙ ap (λ r. length history.calls == r) grew.room
 
-pub grew_twice : (b c d : HistoryView) (xs ys : List Made) → Grew b xs c → Grew c ys d
+pub grew_twice : (b c d : HistoryView) (xs ys : List Made)
+    → Grew b xs c
+    → Grew c ys d
     → Grew b (xs ++ ys) d
 grew_twice b c d xs ys first then =
     record {
@@ -87,12 +92,17 @@ grew_not history =
       faults = omega arith;
     }
 
-pub is_at_room : (history : HistoryView) → is_full history ≡ true → length history.calls ≡ history.room
+pub is_at_room : (history : HistoryView)
+    → is_full history ≡ true
+    → length history.calls ≡ history.room
 is_at_room history full = (Decides-eqb (length history.calls) history.room).0 full
 
 -- where it was full, no call came
-none_came : (before after : HistoryView) (made : List Made) → Grew before made after
-    → length after.calls ≤ after.room → is_full before ≡ true → length made ≡ 0
+none_came : (before after : HistoryView) (made : List Made)
+    → Grew before made after
+    → length after.calls ≤ after.room
+    → is_full before ≡ true
+    → length made ≡ 0
 none_came before after made grew within full =
     let at = is_at_room before full in
     let longer : length after.calls ≡ length before.calls + length made =
@@ -105,13 +115,18 @@ empty_list [] none = refl
 empty_list (one ∷ made) none = absurd (omega (arith, none))
 
 pub not_full : (before after : HistoryView) (others : List Made) (made : Made)
-    → Grew before (others ++ made ∷ []) after → length after.calls ≤ after.room
-    → is_full before ≡ true → ⊥
+    → Grew before (others ++ made ∷ []) after
+    → length after.calls ≤ after.room
+    → is_full before ≡ true
+    → ⊥
 not_full before after others made grew within full =
     let none = none_came before after (others ++ made ∷ []) grew within full in
     omega (arith, none, length-append others (made ∷ []))
 
-pub no_others : (before after : HistoryView) (others : List Made) → Grew before others after
-    → length after.calls ≤ after.room → is_full before ≡ true → others ≡ []
+pub no_others : (before after : HistoryView) (others : List Made)
+    → Grew before others after
+    → length after.calls ≤ after.room
+    → is_full before ≡ true
+    → others ≡ []
 no_others before after others grew within full =
     empty_list others (none_came before after others grew within full)

@@ -1,8 +1,8 @@
 -- Carry what a door was served for its seat to the whole history.
-use Rattle.std.proofs.Common.{◌≡◌, ℕ, ◌+◌, ◌≤◌, ◌==◌, eq-eqb, Bool, true, false, List, [], ◌∷◌, ◌++◌, length, sym, ap, subst, ◌∙◌, arith, length-append}
+use Rattle.std.proofs.Common.{◌≡◌, ℕ, ◌+◌, ◌≤◌, eq-eqb, true, List, ◌++◌, length, sym, ap, subst, ◌∙◌, arith, length-append}
 use Rattle.bp_desk.specs.Calls.{run_calls}
 use Rattle.bp_desk.specs.History.{HistoryView, Turn, is_full, matter_of, turns_of}
-use Rattle.bp_desk.specs.Run.{DoorServed, SeatLaw, fills}
+use Rattle.bp_desk.specs.Run.{SeatLaw, fills}
 use Rattle.bp_desk.specs.Served.{Served}
 use Rattle.bp_desk.specs.declared.history.Made.{Made}
 use Rattle.bp_desk.proofs.HistoryLemmas.{is_at_room, turns_of-others}

@@ -26,7 +26,8 @@ no_more left more l m = ap (λ turns. turns ++ more) l ∙ m
 
 pub text_later : (full full' : Bool) (room : ℕ) (left more : List Turn) (x : Exchange)
     (text : List ℕ) (here : ℕ)
-    → (full ≡ true → full' ≡ true) → (full ≡ true → more ≡ [])
+    → (full ≡ true → full' ≡ true)
+    → (full ≡ true → more ≡ [])
     → TextOfNone full room left x text here
     → TextOfNone full' room (left ++ more) x text here
 text_later full full' room left more x text here up none (refusal why is read t) =
@@ -40,8 +41,10 @@ text_later full full' room left more x text here up none (no_memory t) = no_memo
 -- exchanges that go on, over a history that goes on
 pub served_append : (full full' : Bool) (room : ℕ) (turns more : List Turn) (n k : ℕ)
     (xs ys : List Exchange)
-    → (full ≡ true → full' ≡ true) → (full ≡ true → more ≡ [])
-    → Served full room turns n xs → Served full' room more k ys
+    → (full ≡ true → full' ≡ true)
+    → (full ≡ true → more ≡ [])
+    → Served full room turns n xs
+    → Served full' room more k ys
     → Served full' room (turns ++ more) (n + k) (xs ++ ys)
 served_append full full' room turns more n k xs ys up none nobody after =
     let P : ℕ → Type 0 = λ count. Served full' room more count ys in subst P (sym (zero-add k)) after
@@ -70,7 +73,8 @@ fuller full full' room left x text here up (no_memory t) = no_memory t
 pub served_later : (full full' : Bool) (room : ℕ) (turns : List Turn) (n : ℕ)
     (xs : List Exchange)
     → (full ≡ true → full' ≡ true)
-    → Served full room turns n xs → Served full' room turns n xs
+    → Served full room turns n xs
+    → Served full' room turns n xs
 served_later full full' room turns n xs up nobody = nobody
 served_later full full' room turns n xs up (called turn left faults x others text h t s rest) =
     called turn left faults x others text h t s
@@ -101,13 +105,18 @@ unrefused : (x : Exchange) → x.failed ≡ false → x.lacked ≡ false → Was
 unrefused x f l (inl failed) = false≢true (sym f ∙ failed)
 unrefused x f l (inr lacked) = false≢true (sym l ∙ lacked)
 
-sent_whole : (x : Exchange) (text : List ℕ) → x.failed ≡ false → x.lacked ≡ false → Sent x text
+sent_whole : (x : Exchange) (text : List ℕ)
+    → x.failed ≡ false
+    → x.lacked ≡ false
+    → Sent x text
     → x.written ≡ text
 sent_whole x text f l (whole w) = w
 sent_whole x text f l (cut was rest w) = absurd (unrefused x f l was)
 
 call_answered : (turn : Turn) (left : List Turn) (x : Exchange) (text : List ℕ)
-    → TextOfCall turn x text → x.written ≡ text → x.written ≢ memory_text
+    → TextOfCall turn x text
+    → x.written ≡ text
+    → x.written ≢ memory_text
     → IsAnswered (turn ∷ left) x
 call_answered turn left x text (reply asks read t) w other =
     record { place = 0; turn = turn; there = refl; asked = asks; read = read; written = w ∙ t }
@@ -122,8 +131,11 @@ ok_or_err asked why x asks refused =
 
 none_answered : (room : ℕ) (left : List Turn) (x : Exchange) (text : List ℕ) (here : ℕ)
     (asked : Asked) → here ≡ 0
-    → TextOfNone false room left x text here → Asks x asked → x.written ≡ text
-    → x.written ≢ memory_text → IsAnswered left x
+    → TextOfNone false room left x text here
+    → Asks x asked
+    → x.written ≡ text
+    → x.written ≢ memory_text
+    → IsAnswered left x
 none_answered room left x text here asked zero_is (refusal why is read t) asks w other =
     absurd (ok_or_err asked why x asks is)
 none_answered room left x text here asked zero_is (no_room a q read f l t) asks w other =
@@ -134,7 +146,8 @@ none_answered room left x text here asked zero_is (no_memory t) asks w other =
     absurd (other (w ∙ t))
 
 later_answered : (turn : Turn) (left : List Turn) (x : Exchange)
-    → IsAnswered left x → IsAnswered (turn ∷ left) x
+    → IsAnswered left x
+    → IsAnswered (turn ∷ left) x
 later_answered turn left x is =
     record {
       place = suc is.place;
@@ -147,7 +160,10 @@ later_answered turn left x is =
 
 -- where the history isn't full and no exchange was answered that the keeper failed
 pub served_complete : (full : Bool) (room : ℕ) (turns : List Turn) (n : ℕ) (xs : List Exchange)
-    → full ≡ false → n ≡ 0 → Served full room turns n xs → AreAnswered turns xs
+    → full ≡ false
+    → n ≡ 0
+    → Served full room turns n xs
+    → AreAnswered turns xs
 served_complete full room turns n xs unfull zero_is nobody k x asked at asks f l other = cc
 served_complete full room turns n xs unfull zero_is (called turn left faults y others text h t s rest) zero x asked at asks f l other =
     let same : y ≡ x = cc in

@@ -1,5 +1,5 @@
 -- Carry one accept after the other to serving a door.
-use Rattle.std.proofs.Common.{◌≡◌, ℕ, zero, suc, ◌+◌, ◌-◌, ◌^◌, ◌<◌, ◌≤◌, ◌==◌, Bool, true, false, List, [], ◌∷◌, ◌++◌, length, refl, sym, ap, subst, ◌∙◌, append_assoc, add-zero, arith, length-append, inl, inr}
+use Rattle.std.proofs.Common.{◌≡◌, ℕ, zero, suc, ◌+◌, ◌-◌, ◌^◌, ◌<◌, ◌≤◌, true, false, List, [], ◌∷◌, ◌++◌, refl, sym, ap, subst, ◌∙◌, append_assoc, add-zero, arith, inl, inr}
 use Rattle.std.specs.Prelude.{Option, Some, None, Ok}
 use Rattle.std.specs.Option.{option_map}
 use Rattle.std.proofs.lemmas.List.{append-nil}
@@ -10,11 +10,10 @@ use Rattle.bp_outside.specs.declared.exchange.Exchange.{Exchange}
 use Rattle.bp_desk.specs.Calls.{run_calls}
 use Rattle.bp_desk.specs.Exchanges.{Deals, Talks}
 use Rattle.bp_desk.specs.Exchanges.Deals.{made_none, made_one}
-use Rattle.bp_desk.specs.History.{Grew, HistoryView, Turn, is_full, matter_of, turn_of, turns_of}
+use Rattle.bp_desk.specs.History.{HistoryView, Turn, is_full, matter_of, turn_of, turns_of}
 use Rattle.bp_desk.specs.Served.{Served}
 use Rattle.bp_desk.specs.Served.Served.{called, nobody, uncalled}
 use Rattle.bp_desk.specs.Serving.{AreAnswered, RoseBy, Serves, ServesDoor, raised}
-use Rattle.bp_desk.specs.declared.history.Made.{Made}
 use Rattle.bp_desk.proofs.HistoryLemmas.{as_full, grew_not, grew_twice, matter_after, turns_of-append, turns_of-last, turns_of-others}
 use Rattle.bp_desk.proofs.ServedLemmas.{served_append, served_complete}
 
@@ -62,7 +61,8 @@ raised_grows (suc k) a fits =
 
 -- no exchange came
 pub serves_none : (seat tried : ℕ) (history : HistoryView) (door door' : DoorView)
-    → door'.exchanges ≡ door.exchanges → door'.accepts ≡ raised tried door.accepts
+    → door'.exchanges ≡ door.exchanges
+    → door'.accepts ≡ raised tried door.accepts
     → Serves seat tried history door history door'
 serves_none seat tried history door door' same accepts =
     record {
@@ -79,7 +79,9 @@ serves_none seat tried history door door' same accepts =
 
 -- a door was served, and then served again
 pub serves_twice : (seat k l : ℕ) (b c d : HistoryView) (u v w : DoorView)
-    → Serves seat k b u c v → Serves seat l c v d w → Serves seat (k + l) b u d w
+    → Serves seat k b u c v
+    → Serves seat l c v d w
+    → Serves seat (k + l) b u d w
 serves_twice seat k l b c d u v w first then =
     let turns = turns_of-append seat (matter_of b) first.made then.made in
     let between = matter_after b c first.made first.grew in
@@ -146,7 +148,8 @@ serves_deal seat history history' door door' x h told accepts (made_one others m
     }
 serves_deal seat history history' door door' x h told accepts (made_none others faults text apart last t s grew rose) =
     let P : ℕ → Type 0 = λ n. RoseBy n history.faults history'.faults in
-    let Q : List Turn → Type 0 = λ ts. Served (is_full history') history'.room ts (faults + 0) (x ∷ []) in
+    let Q : List Turn → Type 0 = λ ts.
+    Served (is_full history') history'.room ts (faults + 0) (x ∷ []) in
     record {
       exchanges = x ∷ [];
       made = others;
@@ -182,7 +185,8 @@ no_fault (suc n) before now rose not =
 
 pub serves_complete : (seat tried : ℕ) (b c : HistoryView) (u v : DoorView)
     (serves : Serves seat tried b u c v)
-    → is_full c ≡ false → (Rose b.faults c.faults → ⊥)
+    → is_full c ≡ false
+    → (Rose b.faults c.faults → ⊥)
     → AreAnswered (turns_of seat (matter_of b) serves.made) serves.exchanges
 serves_complete seat tried b c u v serves unfull not =
     served_complete (is_full c) c.room (turns_of seat (matter_of b) serves.made) serves.faults
@@ -191,7 +195,8 @@ serves_complete seat tried b c u v serves unfull not =
 -- ---- a door served
 
 pub serves_all : (seat connections tried : ℕ) (b c : HistoryView) (u v : DoorView)
-    → Serves seat tried b u c v → tried ≡ connections
+    → Serves seat tried b u c v
+    → tried ≡ connections
     → ServesDoor seat connections b u c v
 serves_all seat connections tried b c u v serves all =
     record {
@@ -202,7 +207,10 @@ serves_all seat connections tried b c u v serves all =
     }
 
 pub serves_to_close : (seat connections tried : ℕ) (b c : HistoryView) (u v : DoorView)
-    → Serves seat tried b u c v → 0 < tried → tried ≤ connections → v.closed ≡ true
+    → Serves seat tried b u c v
+    → 0 < tried
+    → tried ≤ connections
+    → v.closed ≡ true
     → ServesDoor seat connections b u c v
 serves_to_close seat connections tried b c u v serves some few closed =
     record {

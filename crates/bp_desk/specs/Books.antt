@@ -23,7 +23,8 @@ pub record Opens (keeper : KeeperView) (room : ℕ) (book : BookView) : Type 0 w
   pub journal : book.journal ≡ []
   pub roomy : book.room ≡ room
 
--- a keeper wasn't asked to load, is as sure as it was, and tells rows only where it told them before
+-- a keeper wasn't asked to load, is as sure as it was, and tells rows only where it told them
+-- before
 pub record StaysWith (before after : KeeperView) : Type 0 where
   pub loads : after.loads ≡ before.loads
   pub sure : after.sure ≡ before.sure

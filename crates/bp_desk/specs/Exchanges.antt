@@ -16,7 +16,7 @@ use Rattle.bp_web.specs.declared.replies.Answer.{Answer}
 use Rattle.bp_web.specs.declared.replies.Answer.TheVariants as answers
 use Rattle.bp_web.specs.declared.requests.Asked.{Asked}
 use Rattle.bp_desk.specs.Calls.{answer_to, run_calls}
-use Rattle.bp_desk.specs.History.{AreOthers, Grew, HistoryView, is_full, matter_of, sent_for, turn_of}
+use Rattle.bp_desk.specs.History.{AreOthers, Grew, HistoryView, is_full, matter_of, turn_of}
 use Rattle.bp_desk.specs.Served.{IsEnough, Sent, TextOfCall, TextOfNone, WasRead, memory_text}
 use Rattle.bp_desk.specs.Serving.{RoseBy}
 use Rattle.bp_desk.specs.declared.history.Made.{Made}
@@ -61,13 +61,6 @@ answer_from (Err desk_refusals.KeeperFault) = answers.KeeperFault
 answer_from (Err (desk_refusals.JournalFull count)) = answers.JournalFull count
 answer_from (Err desk_refusals.OutOfMemory) = answers.OutOfMemory
 
--- a call was made or refused, and this is sent for it
-pub record AnswersCall (before : HistoryView) (made : Made) (answer : Answer)
-    (after : HistoryView) : Type 0 where
-  pub given : Result Reply DeskRefusal
-  pub calls : CallsAt before made given after
-  pub from : answer ≡ answer_from given
-
 -- ---- a request
 
 -- what is told of bytes: no more are needed; or no whole request is there, and one can come
@@ -110,7 +103,8 @@ abbrev pub AnswersBytes : ℕ → HistoryView → List ℕ → List ℕ → Hist
 AnswersBytes seat before bytes text after =
     (x : Exchange) → x.read ≡ bytes → WasRead x → Sent x text → Deals seat before x after
 
--- an answer to what was read of bytes deals so in every exchange that read them whole and was sent it
+-- an answer to what was read of bytes deals so in every exchange that read them whole and was sent
+-- it
 abbrev pub AnswersRead : ℕ → HistoryView → Result Asked WebRefusal → List ℕ → HistoryView → Type 0
 AnswersRead seat before request text after =
     (x : Exchange) → ReadsAs x.read request → WasRead x → Sent x text → Deals seat before x after

@@ -28,8 +28,8 @@ pub record DoorServed (opening : Matter) (history : List Made) (room seat connec
   pub complete : fills history room ≡ false → faults ≡ 0
       → AreAnswered (turns_of seat opening history) exchanges
 
--- who had seen no call served a door for a seat; what was seen then begins the history, which has no
--- other call of the seat
+-- who had seen no call served a door for a seat; what was seen then begins the history, which has
+-- no other call of the seat
 abbrev pub SeatLaw : Type 0
 SeatLaw = (seat connections room : ℕ) (before after : HistoryView) (door door' : DoorView)
     (history rest : List Made) (serves : ServesDoor seat connections before door after door')

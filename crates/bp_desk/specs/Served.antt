@@ -33,9 +33,9 @@ pub data TextOfCall (turn : Turn) (x : Exchange) (text : List ℕ) : Type 0 wher
   reply : Asks x turn.asked → WasRead x → text ≡ reply_text turn.answer → TextOfCall turn x text
   no_reply : Asks x turn.asked → WasRead x → text ≡ memory_text → TextOfCall turn x text
 
--- What may be sent in one that made no call: why the bytes are no request; that the history is full,
--- where no call of the seat is left; that the keeper failed, which counts as one; or that memory ran
--- out.
+-- What may be sent in one that made no call: why the bytes are no request; that the history is
+-- full, where no call of the seat is left; that the keeper failed, which counts as one; or that
+-- memory ran out.
 pub data TextOfNone (full : Bool) (room : ℕ) (left : List Turn) (x : Exchange) (text : List ℕ)
     : ℕ → Type 0 where
   refusal : (why : WebRefusal) → HttpReads x.read (Err why) → WasRead x

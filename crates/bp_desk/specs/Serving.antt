@@ -1,5 +1,5 @@
 -- Serving a door, accept by accept: what it comes to for who serves it, a book or a seat.
-use Rattle.std.specs.Prelude.{◌≡◌, ◌≢◌, ◌⊎◌, ℕ, zero, suc, ◌<◌, ◌≤◌, true, false, List, [], ◌∷◌, ◌++◌, slice_get, Some}
+use Rattle.std.specs.Prelude.{◌≡◌, ◌≢◌, ◌⊎◌, ℕ, zero, suc, ◌<◌, ◌≤◌, true, false, List, [], ◌++◌, slice_get, Some}
 use Rattle.std.specs.Option.{option_map}
 use Rattle.bp_core.specs.Counts.{Rose, risen}
 use Rattle.bp_outside.specs.Door.{DoorView}
@@ -19,9 +19,9 @@ raised (suc more) count = raised more (risen count)
 abbrev pub RoseBy : ℕ → ℕ → ℕ → Type 0
 RoseBy more before now = raised more before ≤ now
 
--- So many accepts were tried: the door has these new exchanges, the history these new calls, and the
--- exchanges use up those of the seat. The keeper failed at least as often as was answered. A full
--- history has no new calls.
+-- So many accepts were tried: the door has these new exchanges, the history these new calls, and
+-- the exchanges use up those of the seat. The keeper failed at least as often as was answered. A
+-- full history has no new calls.
 pub record Serves (seat tried : ℕ) (before : HistoryView) (door : DoorView) (after : HistoryView)
     (door' : DoorView) : Type 0 where
   pub exchanges : List Exchange

@@ -11,10 +11,10 @@ use bp_keep::Keeper;
 use bp_outside::Door;
 use std::alloc::Global;
 
-/// Serves one door by a book, as seat `DOOR_SEAT`: each peer's request is read and answered
-/// (RFC 9112), and the exchange hung up. It returns only where an accept found the door closed, or so
-/// many accepts were tried. A refusal of the door ends its exchange alone; a call that was made stays
-/// made.
+/// Serves one door by a book, as seat `DOOR_SEAT`: the request of each peer is read and answered
+/// (RFC 9112), and the exchange hung up. It returns only where an accept found the door closed, or
+/// so many accepts were tried, and may wait for ever for a peer. A refusal of the door ends its
+/// exchange alone; a call that was made stays made.
 pub fn serve_one<K: Keeper, D: Door>(
     alloc: Global,
     book: &mut Book<K>,

@@ -61,8 +61,8 @@ pub struct NotStarted<K> {
 }
 
 impl<K: Keeper> Book<K> {
-    /// Opens a book over the tables that the keeper has the rows of: an empty journal, with room for
-    /// so many calls, at most `MOST_CALLS`. It is refused as `load_tables` is.
+    /// Opens a book over the tables that the keeper has the rows of: an empty journal, with room
+    /// for so many calls, at most `MOST_CALLS`. It is refused as `load_tables` is.
     pub fn start(alloc: Global, keeper: K, room: u64) -> Result<Book<K>, NotStarted<K>>
         requires { (0 < room) × (room ≤ MOST_CALLS) }
         ensures ok { IfOk result (λ book. Opens (K.shows keeper) room book) }
@@ -85,11 +85,12 @@ impl<K: Keeper> Book<K> {
         }
     }
 
-    /// Makes a call at a seat, with the SHA-256 of its key. A reply or a broken rule is the answer on
-    /// the tables after the journal, which then ends with the call. After each other refusal the call
-    /// doesn't stand in it, and the book is as it was: JournalFull exactly where the journal has as
-    /// many calls as there is room for, KeeperFault only where the keeper failed. Room is tested
-    /// first, memory is taken next, and the keeper's commit comes last.
+    /// Makes a call at a seat, with the SHA-256 of its key. A reply or a broken rule is the answer
+    /// on the tables after the journal, which then ends with the call. After each other refusal the
+    /// call doesn't stand in it, and journal and rows are as they were: JournalFull exactly where
+    /// the journal has as many calls as there is room for, KeeperFault only where the keeper failed
+    /// at a call that changes the tables. Room is tested first, memory is taken next, and the
+    /// keeper's commit comes last.
     pub fn call(
         &mut self,
         alloc: Global,

@@ -1,8 +1,8 @@
 //! The desk: calls to one history, and the doors that they come through.
 //!
 //! A `Book` has the tables of a matter, their keeper and the journal of the calls that were made:
-//! `Book::start` first, then `Book::call` or `serve_one`, which serves a door, and `Book::end`. What
-//! a call does is `BookCalls` of specs/Books.antt; what serving comes to is `ServesDoor` of
+//! `Book::start` first, then `Book::call` or `serve_one`, which serves a door, and `Book::end`.
+//! What a call does is `BookCalls` of specs/Books.antt; what serving comes to is `ServesDoor` of
 //! specs/Serving.antt, whose heart is `Served` of specs/Served.antt.
 #![tactic(auto)]
 

@@ -1,8 +1,7 @@
 // From the bytes of a request to the text of its reply.
-ghost use Rattle.std.specs.Prelude.{◌≡◌, Result, Err, IfOk};
+ghost use Rattle.std.specs.Prelude.{◌≡◌, Result, Err};
 ghost use Rattle.bp_desk.specs.Books.{GrewBy};
-ghost use Rattle.bp_desk.specs.Calls.{made_by};
-ghost use Rattle.bp_desk.specs.Exchanges.{AnswersBytes, AnswersCall, AnswersRead, IsRefusalText, answer_from, text_of};
+ghost use Rattle.bp_desk.specs.Exchanges.{AnswersBytes, AnswersRead, IsRefusalText, answer_from, text_of};
 ghost use Rattle.bp_desk.specs.History.{history_of};
 ghost use Rattle.bp_desk.specs.Served.{memory_text};
 

@@ -7,27 +7,30 @@ use Rattle.std.proofs.lemmas.Bool.{false≢true}
 use Rattle.bp_cli.specs.declared.stops.Stop.{Stop}
 use Rattle.bp_outside.specs.Source.{SourceView}
 use Rattle.bp_outside.specs.Folder.{FolderView}
+use Rattle.bp_desk.specs.declared.history.Made.{Made}
+use Rattle.bp_outside.specs.Door.{DoorView}
 use Rattle.bp_outside.specs.Out.{OutView}
 use Rattle.bp_keep.specs.Keeper.{KeeperView}
 use Rattle.bp_cli.specs.Arguments.{Answer, TakesWords, StopsAtOnce, RunsArguments, RunsFrom, EndsStopped, beginning}
-use Rattle.bp_cli.specs.Commands.{command_of}
 use Rattle.bp_cli.specs.Words.{word_bytes}
 use Rattle.bp_cli.specs.Endings.{status_of, text_of}
 use Rattle.bp_cli.specs.Printing.{Prints}
 use Rattle.bp_outside.specs.Untold.{untold_out}
-use Rattle.bp_cli.specs.Runs.{Outside, outside, Runs}
+use Rattle.bp_cli.specs.Running.{Moment, RunsWords, moment}
+use Rattle.bp_cli.specs.Runs.{outside}
 
-pub stopped_at_once : (before after : Outside) (stop : Stop) (status : ℕ) (answer : Answer) → TakesWords answer (Err stop) → StopsAtOnce stop before after status → RunsArguments answer before after status
-stopped_at_once before after stop status (Ok arguments) is stopped = inr (subst (λ (s : Stop). StopsAtOnce s before after status) is stopped)
-stopped_at_once before after stop status (Err error) is stopped = subst (λ (s : Stop). StopsAtOnce s before after status) is stopped
+pub stopped_at_once : {D : Type 0} (shows : D → DoorView) (before : Moment D) (history : Option (List Made)) (after : Moment D) (stop : Stop) (status : ℕ) (answer : Answer) → TakesWords answer (Err stop) → StopsAtOnce stop before history after status → RunsArguments shows answer before history after status
+stopped_at_once shows before history after stop status (Ok arguments) is stopped = inr (subst (λ (s : Stop). StopsAtOnce s before history after status) is stopped)
+stopped_at_once shows before history after stop status (Err error) is stopped = subst (λ (s : Stop). StopsAtOnce s before history after status) is stopped
 
 -- a run of the words that were taken
-pub took_words : {K : Type 0} (answer : Answer) (words : Vec (String Global) Global) (kept : Option K) (before : Outside) (after : K → Outside) (status : ℕ) → TakesWords answer (Ok words) → IsSomeAnd kept (λ k. Runs (command_of (word_bytes words.items)) before (after k) status)
-    → IsSomeAnd kept (λ k. RunsArguments answer before (after k) status)
-took_words answer words None before after status took runs = absurd runs
-took_words (Ok arguments) words (Some k) before after status took runs =
-    inl (subst (λ (ws : List (String Global)). Runs (command_of (word_bytes ws)) before (after k) status) took runs)
-took_words (Err error) words (Some k) before after status took runs = absurd took
+pub took_words : {D K : Type 0} (shows : D → DoorView) (answer : Answer) (words : Vec (String Global) Global) (kept : Option K) (before : Moment D) (history : Option (List Made)) (after : K → Moment D) (status : ℕ) → TakesWords answer (Ok words)
+    → IsSomeAnd kept (λ k. RunsWords shows (word_bytes words.items) before history (after k) status)
+    → IsSomeAnd kept (λ k. RunsArguments shows answer before history (after k) status)
+took_words shows answer words None before history after status took runs = absurd runs
+took_words shows (Ok arguments) words (Some k) before history after status took runs =
+    inl (subst (λ (ws : List (String Global)). RunsWords shows (word_bytes ws) before history (after k) status) took runs)
+took_words shows (Err error) words (Some k) before history after status took runs = absurd took
 
 -- what is left after the first item was taken
 pub left_after_first : {X : Type 0} (old new : List X) (n : ℕ) (first : Option X) → n ≡ length old → old ≡ option_to_list first ++ new → IsSome first ↔ (0 < n) → drop 1 old ≡ new
@@ -38,14 +41,16 @@ left_after_first (x ∷ xs) new n None long e some = absurd (false≢true (some.
 -- ---- the program
 
 -- a run over this keeper, where nothing is known of the system
-pub runs_from : (answer : Answer) (keeper : KeeperView) (s : SourceView) (k : KeeperView) (f : FolderView) (o : OutView) (after : Outside) (status : ℕ) → s ≡ (beginning keeper).world.source → k ≡ keeper → f ≡ (beginning keeper).world.folder → o ≡ (beginning keeper).out → RunsArguments answer (outside s k f o) after status
-    → RunsFrom answer keeper status
-runs_from answer keeper s k f o after status same_s same_k same_f same_o runs = record {
+pub runs_from : {D : Type 0} (shows : D → DoorView) (answer : Answer) (keeper : KeeperView) (doors : List D) (s : SourceView) (k : KeeperView) (f : FolderView) (o : OutView) (history : Option (List Made)) (after : Moment D) (status : ℕ) → s ≡ (beginning keeper).world.source → k ≡ keeper → f ≡ (beginning keeper).world.folder → o ≡ (beginning keeper).out
+    → RunsArguments shows answer (moment (outside s k f o) doors) history after status
+    → RunsFrom shows answer keeper doors status
+runs_from shows answer keeper doors s k f o history after status same_s same_k same_f same_o runs = record {
   after = after;
-  runs = subst (λ (x : SourceView). RunsArguments answer (outside x keeper (beginning keeper).world.folder (beginning keeper).out) after status) same_s
-      (subst (λ (x : KeeperView). RunsArguments answer (outside s x (beginning keeper).world.folder (beginning keeper).out) after status) same_k
-      (subst (λ (x : FolderView). RunsArguments answer (outside s k x (beginning keeper).out) after status) same_f
-      (subst (λ (x : OutView). RunsArguments answer (outside s k f x) after status) same_o runs)));
+  history = history;
+  runs = subst (λ (x : SourceView). RunsArguments shows answer (moment (outside x keeper (beginning keeper).world.folder (beginning keeper).out) doors) history after status) same_s
+      (subst (λ (x : KeeperView). RunsArguments shows answer (moment (outside s x (beginning keeper).world.folder (beginning keeper).out) doors) history after status) same_k
+      (subst (λ (x : FolderView). RunsArguments shows answer (moment (outside s k x (beginning keeper).out) doors) history after status) same_f
+      (subst (λ (x : OutView). RunsArguments shows answer (moment (outside s k f x) doors) history after status) same_o runs)));
 }
 
 -- a keeper that was handed back

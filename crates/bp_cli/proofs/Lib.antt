@@ -14,6 +14,9 @@ mod PrintingLemmas
 mod ProduceLemmas
 mod RowsLemmas
 mod RunLemmas
+mod RunningLemmas
+mod ServeLemmas
+mod ServingLemmas
 mod StatusLemmas
 mod WordLemmas
 mod WorkLemmas

@@ -11,6 +11,9 @@ pub mod Press
 pub mod Printing
 pub mod Produce
 pub mod Producing
+pub mod Running
 pub mod Runs
+pub mod Serve
+pub mod Serving
 pub mod Stops
 pub mod Words

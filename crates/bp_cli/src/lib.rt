@@ -8,7 +8,6 @@ mod arguments;
 mod burn;
 mod commands;
 pub mod doors;
-mod history;
 mod import;
 mod init;
 mod operands;
@@ -17,9 +16,8 @@ mod printing;
 mod produce;
 pub mod program;
 pub mod run;
+mod serve;
 mod statuses;
 mod stops;
 mod volumes;
 mod words;
-
-pub use history::{History, Made};

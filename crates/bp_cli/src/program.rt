@@ -49,7 +49,12 @@ pub fn hold_descriptors<S: Files>(system: &S) -> Descriptors<S::File> {
 /// `out`, and prints to the standard output. Where no database could be opened, or no doors could
 /// be made, the program says so before it looks at the words, and ends with 6 for want of memory,
 /// else 5.
-pub fn program<S: Files + Print, T: Threads + Sync, A: Alter + Drop, D: Door + Send + Drop>(
+pub fn program<
+    S: Files + Print,
+    T: Threads + Sync,
+    A: Alter + Drop,
+    D: Door + Send + Drop,
+>(
     system: &S,
     threads: &T,
     alloc: Global,
@@ -57,7 +62,7 @@ pub fn program<S: Files + Print, T: Threads + Sync, A: Alter + Drop, D: Door + S
     doors: Doors<D>,
     answer: io::Result<Args>,
 ) -> Ran<A>
-    ensures { EndsOpened A.Store answer opened doors result.status }
+    ensures { EndsOpened A.Store D.shows answer opened doors result.status }
 {
     match opened {
         Ok(connection) => with_doors(system, threads, alloc, connection, doors, answer),
@@ -76,7 +81,7 @@ fn with_doors<S: Files + Print, T: Threads + Sync, A: Alter + Drop, D: Door + Se
     doors: Doors<D>,
     answer: io::Result<Args>,
 ) -> Ran<A>
-    ensures { EndsWithDoors answer (opened_keeper A.Store connection) doors result.status }
+    ensures { EndsWithDoors D.shows answer (opened_keeper A.Store connection) doors result.status }
 {
     match doors {
         Ok(doors) => over_database(system, threads, alloc, connection, doors, answer),
@@ -95,7 +100,8 @@ fn over_database<S: Files + Print, T: Threads + Sync, A: Alter + Drop, D: Door +
     doors: Vec<D>,
     answer: io::Result<Args>,
 ) -> Ran<A>
-    ensures { RunsFrom answer (opened_keeper A.Store connection) result.status }
+    ensures { RunsFrom D.shows answer (opened_keeper A.Store connection) doors.items
+        result.status }
 {
     let mut source = FileSource::below(system, ".");
     let mut folder = FileFolder::below(system, "out");

@@ -1,22 +1,27 @@
 // The top call.
-ghost use Rattle.std.specs.Prelude.{◌≡◌, IsSomeAnd, None, Some};
+ghost use Rattle.std.specs.Prelude.{◌≡◌, ◌<◌, IsSomeAnd, length};
 ghost use Rattle.bp_cli.specs.Words.{word_bytes};
 ghost use Rattle.bp_cli.specs.Commands.{command_of, ReadsAndWorks, ReadsAsOften};
 ghost use Rattle.bp_cli.specs.Endings.{world};
 ghost use Rattle.bp_cli.specs.Runs.{Runs, outside};
 ghost use Rattle.bp_cli.specs.Arguments.{RunsArguments};
+ghost use Rattle.bp_cli.specs.Running.{RunsWords, moment};
+ghost use Rattle.bp_cli.specs.Serve.{ServesOver, hall};
+ghost use Rattle.bp_cli.specs.Serving.{HandsOn};
 
 use crate::arguments::words_of;
 use crate::burn::burn_box;
 use crate::commands::{Command, command_in};
-use crate::history::History;
 use crate::import::import_batch;
 use crate::init::make_matter;
 use crate::press::{log_kept, press_kept};
 use crate::printing::finish;
 use crate::produce::produce_volume;
+use crate::serve::{serve, serve_in};
+use crate::statuses::OUT_OF_MEMORY;
 use crate::stops::Stop;
 use bp_core::Bytes;
+use bp_desk::History;
 use bp_import::one_batch;
 use bp_keep::Keeper;
 use bp_matter::laws::rows_law;
@@ -55,14 +60,13 @@ pub fn run_arguments<
     out: &mut O,
     doors: Vec<D>,
 ) -> Ended<K, D>
-    ensures runs { let before = outside (S.shows source.old) (K.shows keeper) (F.shows folder.old)
+    ensures { let before = outside (S.shows source.old) (K.shows keeper) (F.shows folder.old)
         (O.shows out.old) in
         IsSomeAnd result.keeper (λ kept.
         let after = outside (S.shows source.new) (K.shows kept) (F.shows folder.new)
         (O.shows out.new) in
-        RunsArguments answer before after result.status) }
-    ensures doors { result.doors ≡ doors }
-    ensures history { result.history ≡ None }
+        RunsArguments D.shows answer (moment before doors.items) result.history
+        (moment after result.doors.items) result.status) }
 {
     match words_of(alloc, answer) {
         Ok(words) => run(
@@ -88,13 +92,83 @@ pub fn run_arguments<
 }
 
 /// Carries out the command that the words are a line of: it reads from the source, loads the rows
-/// of the keeper and commits to it, writes to the folder and prints its line. The words don't have
-/// the program's name. Keeper and doors are handed back. The status: 0 where all was done, 1 where
-/// the words are no command line, 2 where a rule is broken, 3 at a fault of the source, 4 of the
-/// folder, 5 of the keeper, 6 where memory ran out, 7 at a fault of the out. The runtime and the
-/// doors are for commands that serve.
-pub fn run<R: Threads + Sync, S: Source, K: Keeper + Drop, F: Folder, O: Out, D: Door + Send>(
+/// of the keeper and commits to it, writes to the folder, serves doors and prints its line. The
+/// words don't have the program's name. Keeper and doors are handed back, and where desks were
+/// served the history of their calls. The status: 0 where all was done, 1 where the words are no
+/// command line, 2 where a rule is broken, 3 at a fault of the source, 4 of the folder, 5 of the
+/// keeper, 6 where memory ran out, 7 at a fault of the out. The runtime is for commands that serve
+/// several doors at once.
+pub fn run<
+    R: Threads + Sync,
+    S: Source,
+    K: Keeper + Drop,
+    F: Folder,
+    O: Out,
+    D: Door + Send,
+>(
     _rt: &R,
+    alloc: Global,
+    words: &[String],
+    source: &mut S,
+    keeper: K,
+    folder: &mut F,
+    out: &mut O,
+    doors: Vec<D>,
+) -> Ended<K, D>
+    ensures runs { let before = outside (S.shows source.old) (K.shows keeper) (F.shows folder.old)
+        (O.shows out.old) in
+        IsSomeAnd result.keeper (λ kept.
+        let after = outside (S.shows source.new) (K.shows kept) (F.shows folder.new)
+        (O.shows out.new) in
+        RunsWords D.shows (word_bytes words.now) (moment before doors.items) result.history
+        (moment after result.doors.items) result.status) }
+    ensures reads { let command = command_of (word_bytes words.now) in
+        ReadsAsOften command (S.reads source.old) (S.reads source.new) }
+{
+    match serve_in(words, doors.len()) {
+        Some(connections) => serve_and_tell(alloc, connections, keeper, out, doors),
+        None => carry_out(alloc, words, source, keeper, folder, out, doors),
+    }
+}
+
+// Serves, and prints its line.
+fn serve_and_tell<K: Keeper + Drop, O: Out, D: Door>(
+    alloc: Global,
+    connections: u32,
+    keeper: K,
+    out: &mut O,
+    doors: Vec<D>,
+) -> Ended<K, D>
+    requires { 0 < length doors.items }
+    ensures { let before = hall (K.shows keeper) doors.items (O.shows out.old) in
+        IsSomeAnd result.keeper (λ kept.
+        let after = hall (K.shows kept) result.doors.items (O.shows out.new) in
+        ServesOver D.shows connections before result.history after result.status) }
+{
+    rows_law();
+    let served = serve(alloc, connections, keeper, doors);
+    let status = finish(alloc, out, served.ending);
+    Ended {
+        status,
+        keeper: Some(served.keeper),
+        doors: served.doors,
+        history: handed_on(status, served.history),
+    }
+}
+
+// The history, but where memory ran out.
+fn handed_on(status: u8, history: Option<History>) -> Option<History>
+    ensures { HandsOn status history result }
+{
+    if status == OUT_OF_MEMORY {
+        None
+    } else {
+        history
+    }
+}
+
+// Carries out each other command.
+fn carry_out<S: Source, K: Keeper, F: Folder, O: Out, D>(
     alloc: Global,
     words: &[String],
     source: &mut S,

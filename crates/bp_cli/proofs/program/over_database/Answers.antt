@@ -6,9 +6,9 @@ use Rattle.bp_cli.proofs.program.over_database.Goals as goal
 
 pub returns : goal.returns
 returns g c =
-    with_keeper _ _ c.run_arguments-ended.result.keeper c.run_arguments-ended.ensures.runs
+    with_keeper _ _ c.run_arguments-ended.result.keeper c.run_arguments-ended.ensures
     (λ kept runs.
-    runs_from c.args.answer (opened_keeper g.A.Store c.args.connection) _ _ _ _ _ c.run_arguments-ended.result.status
+    runs_from g.D.Door.shows c.args.answer (opened_keeper g.A.Store c.args.connection) c.args.doors.items _ _ _ _ _ _ c.run_arguments-ended.result.status
     c.below-source.ensures.shows
     (ap (keeper_shown g.A.Store) c.over.ensures)
     c.below-folder.ensures.shows

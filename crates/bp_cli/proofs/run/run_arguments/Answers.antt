@@ -2,8 +2,10 @@ use Rattle.std.proofs.Common.{refl}
 use Rattle.bp_cli.proofs.ArgumentLemmas.{stopped_at_once, took_words}
 use Rattle.bp_cli.proofs.run.run_arguments.Goals as goal
 
-pub returns-in-Ok-clause-runs : goal.returns-in-Ok-clause-runs
-returns-in-Ok-clause-runs g c = took_words c.args.answer c.in-Ok.words c.run.result.keeper _ _ c.run.result.status c.in-Ok.ensures c.run.ensures.runs
+pub returns-in-Ok : goal.returns-in-Ok
+returns-in-Ok g c = took_words g.D.Door.shows c.args.answer c.in-Ok.words c.run.result.keeper _ _ _ c.run.result.status c.in-Ok.ensures c.run.ensures.runs
 
-pub returns-in-Err-clause-runs : goal.returns-in-Err-clause-runs
-returns-in-Err-clause-runs g c = stopped_at_once _ _ c.in-Err.stop c.finish-status.result c.args.answer c.in-Err.ensures (record { world = refl; printed = c.finish-status.ensures })
+pub returns-in-Err : goal.returns-in-Err
+returns-in-Err g c =
+    stopped_at_once g.D.Door.shows _ _ _ c.in-Err.stop c.finish-status.result c.args.answer c.in-Err.ensures
+    (record { world = refl; leaves = record { doors_are = refl; none = refl }; printed = c.finish-status.ensures })

@@ -17,7 +17,7 @@ use crate::changes::MarkEdit;
 use crate::decided::{Decided, reviewed, told};
 use crate::document_calls::{edited, is_called_redact};
 use crate::no_such::{no_document, no_page};
-use bp_core::{DocNo, Refusal, Rule, RuleKind, StaffNo, two_keys};
+use bp_core::{DocNo, Refusal, RuleKind, StaffNo, two_keys};
 use bp_matter::{BoxRow, Call, DocBox, MAX_BOX, PageRow, Reply, Tables};
 use std::alloc::Global;
 
@@ -55,13 +55,13 @@ fn put_on_page(
 {
     tables.know_valid();
     if !is_box(&row.row) {
-        return Err(Refusal::Rule(Rule::bare(RuleKind::BoxShape)));
+        return Err(Refusal::bare(RuleKind::BoxShape));
     }
     if !lies_on(&row.row, page) {
-        return Err(Refusal::Rule(Rule::bare(RuleKind::BoxOutside)));
+        return Err(Refusal::bare(RuleKind::BoxOutside));
     }
     if !is_called_redact(tables.call_with(row.doc)) {
-        return Err(Refusal::Rule(Rule::bare(RuleKind::WrongTreatment)));
+        return Err(Refusal::bare(RuleKind::WrongTreatment));
     }
     let call = edited(tables, caller, row.doc)?;
     know_box(row);

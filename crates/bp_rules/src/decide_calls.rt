@@ -14,7 +14,7 @@ use crate::roles::may;
 use crate::second_review::{confirm, send_back};
 use crate::staff::add_staff;
 use crate::views::{see_doc, see_page, see_words};
-use bp_core::{Refusal, Rule, RuleKind};
+use bp_core::{Refusal, RuleKind};
 use bp_matter::{BoxRow, Call, StaffRow, Tables};
 use std::alloc::Global;
 
@@ -31,10 +31,10 @@ pub fn decide(
 {
     tables.know_valid();
     let Some(caller) = tables.staff_with(key) else {
-        return Err(Refusal::Rule(Rule::bare(RuleKind::KeyUnknown)));
+        return Err(Refusal::bare(RuleKind::KeyUnknown));
     };
     if !may(caller.role, call) {
-        return Err(Refusal::Rule(Rule::bare(RuleKind::RoleRefused)));
+        return Err(Refusal::bare(RuleKind::RoleRefused));
     }
     decide_by(alloc, tables, caller, call)
 }

@@ -16,7 +16,7 @@ use crate::changes::{CallEdit, MarkEdit};
 use crate::copies::copy_text;
 use crate::decided::{Decided, reviewed};
 use crate::no_such::no_document;
-use bp_core::{DocNo, OutOfMemory, Refusal, Rule, RuleKind, StaffNo, Text, Treatment};
+use bp_core::{DocNo, OutOfMemory, Refusal, RuleKind, StaffNo, Text, Treatment};
 use bp_matter::texts::is_designation;
 use bp_matter::treatments::{is_ground, is_redact};
 use bp_matter::{Call, CallRow, State, Tables};
@@ -64,13 +64,13 @@ fn set_row(
     tables.know_valid();
     let _text = row.designation.as_str();
     if !is_designation(&row.designation) {
-        return Err(Refusal::Rule(Rule::bare(RuleKind::TextRefused)));
+        return Err(Refusal::bare(RuleKind::TextRefused));
     }
     if !is_ground(row.treatment) {
-        return Err(Refusal::Rule(Rule::bare(RuleKind::BadBasis)));
+        return Err(Refusal::bare(RuleKind::BadBasis));
     }
     if must_redact(tables, &row) {
-        return Err(Refusal::Rule(Rule::bare(RuleKind::BoxesRemain)));
+        return Err(Refusal::bare(RuleKind::BoxesRemain));
     }
     let edit = call_put(tables, row);
     reviewed(alloc, tables, edit, MarkEdit::Stays)

@@ -15,7 +15,7 @@ use crate::changes::MarkEdit;
 use crate::decided::{Decided, reviewed, told};
 use crate::document_calls::{edited, is_called_redact};
 use crate::no_such::no_document;
-use bp_core::{Basis, DocNo, Refusal, Rule, RuleKind, StaffNo, Text, two_keys};
+use bp_core::{Basis, DocNo, Refusal, RuleKind, StaffNo, Text, two_keys};
 use bp_matter::{Call, DocHeld, FieldRow, HeldRow, Reply, Tables};
 use std::alloc::Global;
 
@@ -35,7 +35,7 @@ pub(crate) fn hold_field(
         return Err(Refusal::Rule(no_document(doc)));
     }
     let Some(row) = tables.field_with(field) else {
-        return Err(Refusal::Rule(Rule::bare(RuleKind::NoField)));
+        return Err(Refusal::bare(RuleKind::NoField));
     };
     hold(
         alloc,
@@ -71,7 +71,7 @@ fn hold(
 {
     tables.know_valid();
     if !is_called_redact(tables.call_with(row.doc)) {
-        return Err(Refusal::Rule(Rule::bare(RuleKind::WrongTreatment)));
+        return Err(Refusal::bare(RuleKind::WrongTreatment));
     }
     let call = edited(tables, caller, row.doc)?;
     know_held(row);
@@ -140,7 +140,7 @@ pub(crate) fn free_field(
         return Err(Refusal::Rule(no_document(doc)));
     }
     let Some(row) = tables.field_with(field) else {
-        return Err(Refusal::Rule(Rule::bare(RuleKind::NoField)));
+        return Err(Refusal::bare(RuleKind::NoField));
     };
     free_if_held(alloc, tables, caller, doc, row.field)
 }

@@ -14,7 +14,7 @@ use crate::copies::copy_text;
 use crate::decided::{Decided, reviewed};
 use crate::document_calls::edited;
 use crate::no_such::no_document;
-use bp_core::{DocNo, Refusal, Rule, RuleKind, StaffNo, Text};
+use bp_core::{DocNo, Refusal, RuleKind, StaffNo, Text};
 use bp_matter::{Call, DocEntry, Entry, Tables, entry_fits};
 use std::alloc::Global;
 
@@ -59,7 +59,7 @@ fn put_row(
     tables.know_valid();
     know_texts(&row.entry);
     if !entry_fits(&row.entry) {
-        return Err(Refusal::Rule(Rule::bare(RuleKind::TextRefused)));
+        return Err(Refusal::bare(RuleKind::TextRefused));
     }
     let call = edited(tables, caller, row.doc)?;
     let mark = entry_put(tables, row);

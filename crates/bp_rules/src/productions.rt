@@ -13,7 +13,7 @@ use crate::changes::{Change, Edit};
 use crate::copies::copy_text;
 use crate::decided::{Decided, told};
 use bp_bates::Prefix;
-use bp_core::{OutOfMemory, Refusal, Rule, RuleKind, Text};
+use bp_core::{OutOfMemory, Refusal, RuleKind, Text};
 use bp_freeze::{freeze, frozen_is_valid};
 use bp_matter::laws::order_law;
 use bp_matter::{PrefixRow, Production, ProductionRow, Reply, Request, Tables};
@@ -25,7 +25,7 @@ pub(crate) fn get_production(alloc: Global, tables: &Tables, id: &Text) -> Resul
         (kept_production tables.now.matter.productions id.now)) result }
 {
     let Some(kept) = tables.production(id) else {
-        return Err(Refusal::Rule(Rule::bare(RuleKind::NoProduction)));
+        return Err(Refusal::bare(RuleKind::NoProduction));
     };
     told(alloc, tables, Reply::Produced(kept.copy(alloc)?))
 }

@@ -18,7 +18,7 @@ use crate::changes::{CallEdit, MarkEdit};
 use crate::decided::{Decided, reviewed};
 use crate::document_calls::{call_put, with_state};
 use crate::no_such::no_document;
-use bp_core::{DocNo, Refusal, Rule, RuleKind, StaffNo};
+use bp_core::{DocNo, Refusal, RuleKind, StaffNo};
 use bp_matter::{Call, CallRow, State, Tables, confirm_rule};
 use std::alloc::Global;
 
@@ -39,7 +39,7 @@ pub(crate) fn confirm(
         return Err(Refusal::Rule(no_document(doc)));
     }
     let Some(row) = tables.call_with(doc) else {
-        return Err(Refusal::Rule(Rule::bare(RuleKind::NotCalled)));
+        return Err(Refusal::bare(RuleKind::NotCalled));
     };
     confirm_row(alloc, tables, caller, doc, row)
 }
@@ -69,7 +69,7 @@ fn confirm_row(
         caller.0,
     );
     if let Some(kind) = rule {
-        return Err(Refusal::Rule(Rule::bare(kind)));
+        return Err(Refusal::bare(kind));
     }
     let row = with_state(row, confirmed_state(caller, row.state))?;
     let edit = call_put(tables, row);

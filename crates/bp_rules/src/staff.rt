@@ -56,7 +56,7 @@ fn add_row(alloc: Global, tables: &Tables, row: StaffRow) -> Result<Decided, Ref
     ensures { Decides tables.now.matter (add_staff tables.now.matter row) result }
 {
     if !is_staff_name(&row.name) {
-        return Err(Refusal::Rule(Rule::bare(RuleKind::TextRefused)));
+        return Err(Refusal::bare(RuleKind::TextRefused));
     }
     if let Some(there) = tables.staff_with(&row.digest) {
         return find_member(alloc, tables, there, &row);

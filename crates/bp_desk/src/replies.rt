@@ -2,7 +2,7 @@
 ghost use Rattle.std.specs.Prelude.{◌≡◌, Result, Err};
 ghost use Rattle.bp_desk.specs.Books.{GrewBy};
 ghost use Rattle.bp_desk.specs.Calls.{made_by};
-ghost use Rattle.bp_desk.specs.Exchanges.{AnswersBytes, AnswersRead, CallsAt, IsRefusalText, answer_from, text_of};
+ghost use Rattle.bp_desk.specs.Exchanges.{AnswersBytes, AnswersRead, CallsBook, IsRefusalText, answer_from, text_of};
 ghost use Rattle.bp_desk.specs.History.{history_of};
 ghost use Rattle.bp_desk.specs.Served.{memory_text};
 
@@ -61,15 +61,14 @@ fn answer_asked<K: Keeper>(
 }
 
 // Makes the call that is asked for.
-#[tactic(auto, using(crate::proofs::BookLemmas::history_calls, crate::proofs::BookLemmas::grew_by_call))]
+#[tactic(auto, using(crate::proofs::BookLemmas::book_called))]
 fn call_asked<K: Keeper>(
     alloc: Global,
     book: &mut Book<K>,
     asked: &Asked,
 ) -> Result<Reply, DeskRefusal>
-    ensures calls { CallsAt (history_of book.old)
-        (made_by DOOR_SEAT asked.now.key asked.now.call) result (history_of book.new) }
-    ensures book { GrewBy DOOR_SEAT book.old book.new }
+    ensures { CallsBook book.old (made_by DOOR_SEAT asked.now.key asked.now.call) result
+        book.new }
 {
     book.call(alloc, DOOR_SEAT, &asked.key, &asked.call)
 }

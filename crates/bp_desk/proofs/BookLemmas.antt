@@ -14,7 +14,7 @@ use Rattle.bp_rules.specs.declared.refusals.MatterRefusal.{MatterRefusal}
 use Rattle.bp_rules.specs.declared.refusals.MatterRefusal.TheVariants as stops
 use Rattle.bp_desk.specs.Books.{AreBy, BookCalls, Entered, GrewBy, StaysWith, Unmade, answer_of_step, entered_if, is_made}
 use Rattle.bp_desk.specs.Calls.{matter_by, matter_with, run_calls}
-use Rattle.bp_desk.specs.Exchanges.{Answers, CallsAt, Refuses}
+use Rattle.bp_desk.specs.Exchanges.{Answers, CallsAt, CallsBook, Refuses}
 use Rattle.bp_desk.specs.History.{history_of}
 use Rattle.bp_desk.specs.Shown.{BookView, IsBook}
 use Rattle.bp_desk.specs.declared.history.Made.{Made}
@@ -99,7 +99,7 @@ grew_by_nothing seat before after journal keeper =
       keeper = keeper;
     }
 
-pub grew_by_call : (before after : BookView) (made : Made) (given : Result Reply DeskRefusal)
+grew_by_call : (before after : BookView) (made : Made) (given : Result Reply DeskRefusal)
     → BookCalls before made given after
     → StaysWith before.keeper after.keeper
     → GrewBy made.seat before after
@@ -251,7 +251,7 @@ unmade_history before after seat count is rose =
     let fits : length before.journal ≤ before.room = omega (arith, is.has_room) in
     same_history before after seat is.opening is.journal is.same_room fits rose
 
-pub history_calls : (before after : BookView) (made : Made) (given : Result Reply DeskRefusal)
+history_calls : (before after : BookView) (made : Made) (given : Result Reply DeskRefusal)
     → BookCalls before made given after
     → before.keeper.faults ≤ after.keeper.faults
     → CallsAt (history_of before) made given (history_of after)
@@ -275,3 +275,14 @@ history_calls before after made (Err (desk_refusals.JournalFull count)) is rose 
     )
 history_calls before after made (Err desk_refusals.OutOfMemory) is rose =
     unmade_history before after made.seat _ is rose
+
+pub book_called : (before after : BookView) (made : Made) (given : Result Reply DeskRefusal)
+    → BookCalls before made given after
+    → StaysWith before.keeper after.keeper
+    → before.keeper.faults ≤ after.keeper.faults
+    → CallsBook before made given after
+book_called before after made given is keeper rose =
+    record {
+      calls = history_calls before after made given is rose;
+      grew = grew_by_call before after made given is keeper;
+    }

@@ -1,12 +1,13 @@
 -- Carry one accept after the other to serving a door.
 use Rattle.std.proofs.Common.{◌≡◌, ℕ, zero, suc, ◌+◌, ◌-◌, ◌^◌, ◌<◌, ◌≤◌, true, false, List, [], ◌∷◌, ◌++◌, refl, sym, ap, subst, ◌∙◌, append_assoc, add-zero, arith, inl, inr}
-use Rattle.std.specs.Prelude.{Option, Some, None, Ok}
+use Rattle.std.specs.Prelude.{Option, Some, None, Ok, Err}
 use Rattle.std.specs.Option.{option_map}
 use Rattle.std.proofs.lemmas.List.{append-nil}
 use Rattle.bp_core.specs.Counts.{Rose, risen}
 use Rattle.bp_outside.proofs.DoorLemmas.{told_added}
 use Rattle.bp_outside.specs.Door.{DoorView, after_accept, after_hang_up, fresh, hung, to_last}
 use Rattle.bp_outside.specs.declared.exchange.Exchange.{Exchange}
+use Rattle.bp_outside.specs.declared.refusals.DoorRefusal.{DoorRefusal}
 use Rattle.bp_desk.specs.Calls.{run_calls}
 use Rattle.bp_desk.specs.Exchanges.{Deals, Talks}
 use Rattle.bp_desk.specs.Exchanges.Deals.{made_none, made_one}
@@ -76,6 +77,23 @@ serves_none seat tried history door door' same accepts =
       served = nobody;
       rose = (grew_not history).faults;
     }
+
+-- an accept found the door closed
+pub serves_closed : (seat : ℕ) (history : HistoryView) (door door' : DoorView)
+    → door' ≡ after_accept door (Ok false)
+    → Serves seat 1 history door history door'
+serves_closed seat history door door' is =
+    serves_none seat 1 history door door' (ap (λ (d : DoorView). d.exchanges) is)
+    (ap (λ (d : DoorView). d.accepts) is)
+
+-- an accept was refused
+pub serves_unaccepted : (seat : ℕ) (history : HistoryView) (door door' : DoorView)
+    (why : DoorRefusal)
+    → door' ≡ after_accept door (Err why)
+    → Serves seat 1 history door history door'
+serves_unaccepted seat history door door' why is =
+    serves_none seat 1 history door door' (ap (λ (d : DoorView). d.exchanges) is)
+    (ap (λ (d : DoorView). d.accepts) is)
 
 -- a door was served, and then served again
 pub serves_twice : (seat k l : ℕ) (b c d : HistoryView) (u v w : DoorView)

@@ -15,10 +15,12 @@ use Rattle.bp_web.specs.declared.refusals.WebRefusal.TheVariants as web_refusals
 use Rattle.bp_web.specs.declared.replies.Answer.{Answer}
 use Rattle.bp_web.specs.declared.replies.Answer.TheVariants as answers
 use Rattle.bp_web.specs.declared.requests.Asked.{Asked}
+use Rattle.bp_desk.specs.Books.{GrewBy}
 use Rattle.bp_desk.specs.Calls.{answer_to, run_calls}
-use Rattle.bp_desk.specs.History.{AreOthers, Grew, HistoryView, is_full, matter_of, turn_of}
+use Rattle.bp_desk.specs.History.{AreOthers, Grew, HistoryView, history_of, is_full, matter_of, turn_of}
 use Rattle.bp_desk.specs.Served.{IsEnough, Sent, TextOfCall, TextOfNone, WasRead, memory_text}
 use Rattle.bp_desk.specs.Serving.{RoseBy}
+use Rattle.bp_desk.specs.Shown.{BookView}
 use Rattle.bp_desk.specs.declared.history.Made.{Made}
 use Rattle.bp_desk.specs.declared.refusals.DeskRefusal.{DeskRefusal}
 use Rattle.bp_desk.specs.declared.refusals.DeskRefusal.TheVariants as desk_refusals
@@ -52,6 +54,12 @@ CallsAt before made (Err desk_refusals.KeeperFault) after =
 CallsAt before made (Err (desk_refusals.JournalFull count)) after =
     Refuses before made.seat after × (length after.calls ≡ after.room) × (count ≡ after.room)
 CallsAt before made (Err desk_refusals.OutOfMemory) after = Refuses before made.seat after
+
+-- a call of a book gave this by its history, and the book got no call of another seat
+pub record CallsBook (before : BookView) (made : Made) (given : Result Reply DeskRefusal)
+    (after : BookView) : Type 0 where
+  pub calls : CallsAt (history_of before) made given (history_of after)
+  pub grew : GrewBy made.seat before after
 
 -- what is sent for what a call gave
 abbrev pub answer_from : Result Reply DeskRefusal → Answer

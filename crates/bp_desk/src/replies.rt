@@ -1,7 +1,8 @@
 // From the bytes of a request to the text of its reply.
 ghost use Rattle.std.specs.Prelude.{◌≡◌, Result, Err};
 ghost use Rattle.bp_desk.specs.Books.{GrewBy};
-ghost use Rattle.bp_desk.specs.Exchanges.{AnswersBytes, AnswersRead, IsRefusalText, answer_from, text_of};
+ghost use Rattle.bp_desk.specs.Calls.{made_by};
+ghost use Rattle.bp_desk.specs.Exchanges.{AnswersBytes, AnswersRead, CallsBook, IsRefusalText, answer_from, text_of};
 ghost use Rattle.bp_desk.specs.History.{history_of};
 ghost use Rattle.bp_desk.specs.Served.{memory_text};
 
@@ -54,9 +55,22 @@ fn answer_asked<K: Keeper>(
         (text_of result) (history_of book.new) }
     ensures book { GrewBy DOOR_SEAT book.old book.new }
 {
-    let given = book.call(alloc, DOOR_SEAT, &asked.key, &asked.call);
+    let given = call_asked(alloc, book, asked);
     let answer = answer_from(given);
     reply_bytes(alloc, &answer)
+}
+
+// Makes the call that is asked for.
+#[tactic(auto, using(crate::proofs::BookLemmas::book_called))]
+fn call_asked<K: Keeper>(
+    alloc: Global,
+    book: &mut Book<K>,
+    asked: &Asked,
+) -> Result<Reply, DeskRefusal>
+    ensures { CallsBook book.old (made_by DOOR_SEAT asked.now.key asked.now.call) result
+        book.new }
+{
+    book.call(alloc, DOOR_SEAT, &asked.key, &asked.call)
 }
 
 fn answer_from(given: Result<Reply, DeskRefusal>) -> Answer

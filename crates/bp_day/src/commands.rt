@@ -144,7 +144,7 @@ fn words_in(alloc: Global, line: &str) -> Result<Vec<String>> {
     }
     let words: Vec<&str> = line.split(' ').collect(alloc)?;
     let mut words = Words::over(alloc, words.as_slice());
-    while words.has_more() {
+    for _ in 0..words.count() {
         texts.push(words.text().into_string())?;
     }
     Ok(texts)

@@ -32,11 +32,6 @@ pub one_row_more : (q : Image) (row : ℕ) → IsGrid q.width q.height q.rows �
     → take (row + 1) q.rows ≡ take row q.rows ++ row_of q row ∷ []
 one_row_more q row grid down = take_more q.rows row [] (omega (arith, grid.down))
 
--- the runs of a row of a page fill its width
-pub row_total : (p : Image) (row : ℕ) (runs : List ℕ) → IsGrid p.width p.height p.rows → row < p.height → IsRuns runs (row_of p row) → sum runs ≡ p.width
-row_total p row runs grid down are =
-    sym (length-painted false runs) ∙ sym (ap length are.paints) ∙ grid.across row down
-
 -- all rows of the page that goes out
 pub rows_out : (ink : Ink) (p : Image) (stamps : List Stamp) (label designation : List ℕ) (width height : ℕ) → p.width ≡ width → p.height ≡ height
     → take height (covered ink p stamps).rows ++ band_rows width label designation ≡ (produced_of ink p stamps label designation).rows
@@ -59,19 +54,17 @@ pub record Adding (width : ℕ) (old writer : AddedSoFar) (rows : List (List Boo
   pub added : (lines : List (List Bool)) → HasAdded old lines → HasAdded writer (lines ++ take row rows)
 
 -- a row more
-pub adding_more : (width : ℕ) (old before after : AddedSoFar) (q : Image) (row : ℕ) (runs : List ℕ)
-    → IsGrid q.width q.height q.rows → row < q.height → IsRuns runs (row_of q row) → Adding width old before q.rows row
-    → after.width ≡ before.width → ((lines : List (List Bool)) → HasAdded before lines → HasAdded after (lines ++ painted_runs false runs ∷ []))
+pub adding_more : (width : ℕ) (old before after : AddedSoFar) (q : Image) (row : ℕ)
+    → IsGrid q.width q.height q.rows → row < q.height → Adding width old before q.rows row
+    → after.width ≡ before.width → ((lines : List (List Bool)) → HasAdded before lines → HasAdded after (lines ++ row_of q row ∷ []))
     → Adding width old after q.rows (row + 1)
-adding_more width old before after q row runs grid down are so_far wide more = record {
+adding_more width old before after q row grid down so_far wide more = record {
   wide = wide ∙ so_far.wide;
   added = λ lines held.
       let P : List (List Bool) → Type 0 = λ all. HasAdded after all in
       let front = take row q.rows in
       subst P
-      (append_assoc lines front (painted_runs false runs ∷ [])
-      ∙ ap (λ line. lines ++ (front ++ line ∷ [])) (sym are.paints)
-      ∙ ap (λ rows. lines ++ rows) (sym (one_row_more q row grid down)))
+      (append_assoc lines front (row_of q row ∷ []) ∙ ap (λ rows. lines ++ rows) (sym (one_row_more q row grid down)))
       (more (lines ++ front) (so_far.added lines held));
 }
 

@@ -38,30 +38,27 @@ alone_row q ink stamps row width line down wide is =
     ∙ ap (λ w. covered_line ink stamps w row (row_of q 0)) wide
     ∙ ap (covered_line ink stamps width row) is
 
--- the runs of the row alone are those of the row of the page
-pub same_row : (p q : Image) (ink : Ink) (stamps : List Stamp) (row : ℕ) (line : List Bool) (runs : List ℕ)
+-- the row alone is that of the page
+pub same_row : (p q : Image) (ink : Ink) (stamps : List Stamp) (row : ℕ) (line : List Bool)
     → row < p.height → 0 < q.height → q.width ≡ p.width → row_of q 0 ≡ line → row_of p row ≡ line
-    → IsRuns runs (row_of (changed q (covered_rows 1 row ink stamps)) 0)
-    → IsRuns runs (row_of (covered ink p stamps) row)
-same_row p q ink stamps row line runs down one wide alone is found =
-    let both = alone_row q ink stamps row p.width line one wide alone ∙ sym (covered_row p ink stamps row line down is) in
-    subst (IsRuns runs) both found
+    → row_of (changed q (covered_rows 1 row ink stamps)) 0 ≡ row_of (covered ink p stamps) row
+same_row p q ink stamps row line down one wide alone is =
+    alone_row q ink stamps row p.width line one wide alone ∙ sym (covered_row p ink stamps row line down is)
 
 -- a row painted on a white line, and covered
-pub line_covered : (line set page p : Image) (ink : Ink) (some stamps : List Stamp) (row w : ℕ) (runs found : List ℕ)
+pub line_covered : (line set page p : Image) (ink : Ink) (some stamps : List Stamp) (row w : ℕ) (runs : List ℕ)
     → line ≡ white_image w 1 slip_resolution slip_resolution Inch → w ≡ sum runs → set ≡ with_row line 0 (painted_runs false runs)
     → some ≡ stamps → page ≡ changed set (covered_rows 1 row ink some)
     → row < p.height → p.width ≡ sum runs → row_of p row ≡ painted_runs false runs
-    → IsRuns found (row_of page 0) → IsRuns found (row_of (covered ink p stamps) row)
-line_covered line set page p ink some stamps row w runs found white own painted all made down wide is there =
+    → row_of page 0 ≡ row_of (covered ink p stamps) row
+line_covered line set page p ink some stamps row w runs white own painted all made down wide is =
     let pixels = painted_runs false runs in
     let q = with_row (white_image w 1 slip_resolution slip_resolution Inch) 0 pixels in
     let same : page ≡ changed q (covered_rows 1 row ink stamps) =
     made
     ∙ ap (λ s. changed s (covered_rows 1 row ink some)) (painted ∙ ap (λ l. with_row l 0 pixels) white)
     ∙ ap (λ s. changed q (covered_rows 1 row ink s)) all in
-    let P : Image → Type 0 = λ page. IsRuns found (row_of page 0) in
-    same_row p q ink stamps row pixels found down (omega arith) (own ∙ sym wide) refl is (subst P same there)
+    ap (λ (q : Image). row_of q 0) same ∙ same_row p q ink stamps row pixels down (omega arith) (own ∙ sym wide) refl is
 
 pub if_ok : {E : Type 0} (r : Result (List ℕ) E) (P Q : List ℕ → Type 0) → ((runs : List ℕ) → P runs → Q runs) → IfOk r P → IfOk r Q
 if_ok (Ok runs) P Q more held = more runs held

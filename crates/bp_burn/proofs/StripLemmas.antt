@@ -72,27 +72,6 @@ untouched_row p ink stamps row down wide none =
     sym (ap (λ l. get_or l c false) is ∙ get_or-map-range_with_len line 0 p.width c c false across (zero-add c)
     ∙ untouched_pixel ink stamps row c (pixel p row c) none))
 
--- ---- a page that has a row of these runs
-
-abbrev pub page_with : ℕ → List ℕ → Image
-page_with row runs = record {
-  width = sum runs;
-  height = row + 1;
-  xres = slip_resolution;
-  yres = slip_resolution;
-  unit = Inch;
-  rows = replicate (row + 1) (painted_runs false runs);
-}
-
-pub row_with : (row : ℕ) (runs : List ℕ) → row_of (page_with row runs) row ≡ painted_runs false runs
-row_with row runs = get_or-replicate (row + 1) row (painted_runs false runs) [] (omega arith)
-
--- runs of a covered row are as long as the page is wide
-pub covered_total : (p : Image) (ink : Ink) (stamps : List Stamp) (row : ℕ) (runs : List ℕ) → row < p.height
-    → IsRuns runs (row_of (covered ink p stamps) row) → sum runs ≡ p.width
-covered_total p ink stamps row runs down are =
-    sym (length-painted false runs) ∙ sym (ap length are.paints) ∙ (changed_is_grid p (covered_pixel ink stamps)).across row down
-
 -- ---- the rows of the band
 
 shifted_drawn : (text : List ℕ) (h left hidden r c : ℕ) → h ≤ r → is_drawn text (h + 5) left hidden r c ≡ is_drawn text (0 + 5) left hidden (r - h) c

@@ -28,10 +28,31 @@ pub fn covered_runs(
         → row_of p row ≡ painted_runs false runs.now
         → IfOk result (λ out. IsRuns out (row_of (covered ink p stamps.now) row)) }
 {
+    let line = covered_line(alloc, ink, runs, row, stamps)?;
+    line.row_runs(alloc, 0)
+}
+
+/// The same row as a page of its own.
+pub fn covered_line(
+    alloc: Global,
+    ink: Ink,
+    runs: &Runs,
+    row: u32,
+    stamps: &StampList,
+) -> Result<Page, OutOfMemory>
+    requires some { 0 < sum runs.now }
+    requires few { sum runs.now ≤ MAX_WIDTH }
+    ensures height { IfOk result (λ line. line.height ≡ 1) }
+    ensures width { IfOk result (λ line. line.width ≡ sum runs.now) }
+    ensures row { (p : Image) → row < p.height
+        → p.width ≡ sum runs.now
+        → row_of p row ≡ painted_runs false runs.now
+        → IfOk result (λ line. row_of line 0 ≡ row_of (covered ink p stamps.now) row) }
+{
     let mut line = white_page(alloc, width_of(runs), 1)?;
     line.set_runs(0, runs);
     cover_rows(&mut line, 1, row, ink, stamps.as_slice());
-    line.row_runs(alloc, 0)
+    Ok(line)
 }
 
 // How many pixels runs have.

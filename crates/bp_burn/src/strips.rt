@@ -1,8 +1,8 @@
 // The strip of a page that goes out, made of the page's strip a row at a time.
-ghost use Rattle.std.specs.Prelude.{◌≡◌, ◌++◌, ◌∷◌, ◌<◌, ◌≤◌, ℕ, Bool, List, [], IfOk, IsTrue, OnOk, false, length, slice_index_or, sum};
+ghost use Rattle.std.specs.Prelude.{◌≡◌, ◌++◌, ◌∷◌, ◌<◌, ◌≤◌, ℕ, Bool, List, [], IfOk, IsTrue, OnOk};
+ghost use Rattle.bp_rows.specs.Changes.{Shows};
 ghost use Rattle.bp_rows.specs.Image.{Image, row_of};
 ghost use Rattle.bp_rows.specs.Limits.{sides_are_imported};
-ghost use Rattle.bp_rows.specs.Runs.{painted_runs};
 ghost use Rattle.bp_t6.specs.SoFar.{HasAdded};
 ghost use Rattle.bp_t6.specs.Written.{strip_of};
 ghost use Rattle.bp_burn.specs.Band.{produced_of};
@@ -12,10 +12,10 @@ ghost use Rattle.bp_burn.specs.Strips.{HasStrip, IsPageStrip, band_rows, has_row
 
 use crate::band::{BAND_ROWS, draw_band};
 use crate::paper::white_page;
-use crate::stamps::covered_runs;
+use crate::stamps::covered_line;
 use bp_codes::Fill;
 use bp_core::{Bytes, Ink, OutOfMemory, Rect, Refusal, Stamp, StampList, Text};
-use bp_rows::{MAX_WIDTH, Page, Runs};
+use bp_rows::{MAX_WIDTH, Page};
 use bp_t6::laws::{rows_law, strip_size};
 use bp_t6::{StripRows, StripWriter};
 use std::alloc::Global;
@@ -45,44 +45,45 @@ pub fn produced_strip(
     let mut rows = StripRows::over(alloc, strip, Fill::High, width)?;
     let mut writer = StripWriter::start(alloc, width)?;
     for row in 0..height {
-        let runs = match rows.next_runs(alloc) {
-            Ok(runs) => runs,
+        match rows.next_row() {
+            Ok(()) => {}
             Err(Refusal::OutOfMemory) => return Err(OutOfMemory),
             // The strip of a page breaks no rule.
             Err(Refusal::Rule(_)) => unreachable!(),
-        };
-        add_covered(alloc, &mut writer, ink, &runs, row, stamps)?;
+        }
+        add_covered(alloc, &mut writer, &rows, ink, row, stamps)?;
     }
     add_band(alloc, &mut writer, width, label, designation)?;
     writer.finish(alloc)
 }
 
-// Adds the row of a page, covered.
+// Adds the row of a page that was read last, covered. Of a row that no stamp touches no runs are
+// made.
 fn add_covered(
     alloc: Global,
     writer: &mut StripWriter,
+    rows: &StripRows,
     ink: Ink,
-    runs: &Runs,
     row: u32,
     stamps: &StampList,
 ) -> Result<(), OutOfMemory>
     requires some { 0 < writer.old.width }
     requires wide { writer.old.width ≤ MAX_WIDTH }
-    requires total { sum runs.now ≡ writer.old.width }
-    requires least { (k : ℕ) → 0 < k → k < length runs.now → 1 ≤ slice_index_or runs.now k 0 }
+    requires width { rows.now.width ≡ writer.old.width }
     ensures width { writer.new.width ≡ writer.old.width }
     ensures added { (p : Image) (lines : List (List Bool)) → row < p.height
         → p.width ≡ writer.old.width
-        → row_of p row ≡ painted_runs false runs.now
+        → Shows rows.now.above rows.now.width (row_of p row)
         → HasAdded writer.old lines
         → OnOk result (HasAdded writer.new
         (lines ++ row_of (covered ink p stamps.now) row ∷ [])) }
 {
     if !touches_row(stamps.as_slice(), row) {
-        return writer.add(runs);
+        return writer.add_read(rows);
     }
-    let covered = covered_runs(alloc, ink, runs, row, stamps)?;
-    writer.add(&covered)
+    let runs = rows.row_runs(alloc)?;
+    let line = covered_line(alloc, ink, &runs, row, stamps)?;
+    writer.add_page_row(&line, 0)
 }
 
 // Whether some stamp lies in a row.
@@ -118,19 +119,18 @@ fn add_band(
 {
     let mut band = white_page(alloc, width, BAND_ROWS)?;
     draw_band(&mut band, 0, label, designation);
-    add_rows(alloc, writer, &band)
+    add_rows(writer, &band)
 }
 
 // Adds the rows of a page.
-fn add_rows(alloc: Global, writer: &mut StripWriter, page: &Page) -> Result<(), OutOfMemory>
+fn add_rows(writer: &mut StripWriter, page: &Page) -> Result<(), OutOfMemory>
     requires { writer.old.width ≡ page.now.width }
     ensures width { writer.new.width ≡ writer.old.width }
     ensures added { (lines : List (List Bool)) → HasAdded writer.old lines
         → OnOk result (HasAdded writer.new (lines ++ page.now.rows)) }
 {
     for row in 0..page.height() {
-        let runs = page.row_runs(alloc, row)?;
-        writer.add(&runs)?;
+        writer.add_page_row(page, row)?;
     }
     Ok(())
 }

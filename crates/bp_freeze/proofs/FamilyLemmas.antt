@@ -139,7 +139,7 @@ pub many_parents : (m : Matter) → length (decisions_of m).parents ≡ length m
 many_parents m = length-map m.docs (λ (row : DocRow). row.parent.0)
 
 -- a parent is at most the number of its document
-parent_below : (n before : ℕ) (parents : List ℕ) → before ≤ n → are_parents n before parents ≡ true → (i : ℕ) → i < length parents → get_or parents i 0 ≤ n + i
+pub parent_below : (n before : ℕ) (parents : List ℕ) → before ≤ n → are_parents n before parents ≡ true → (i : ℕ) → i < length parents → get_or parents i 0 ≤ n + i
 parent_below n before [] low h i l = absurd (omega arith)
 parent_below n before (p ∷ ps) low h zero l =
     elim (or_cases (eqb p n) (eqb p before) (and_parts (eqb p n || eqb p before) (are_parents (n + 1) p ps) h).0) [

@@ -1,10 +1,11 @@
 -- A usual matter that is valid, frozen twice: what holds of a matter before a freeze and after it, run by the check. It shows that
 -- the laws' premises hold together, and that their outcome is what the definitions compute.
-use Rattle.std.proofs.Common.{◌≡◌, ℕ, true, List, [], ◌∷◌, Some, None, Ok, replicate, refl}
+use Rattle.std.proofs.Common.{◌≡◌, ℕ, true, List, [], ◌∷◌, Some, None, Ok, replicate, refl, arith}
 use Rattle.std.specs.Prelude.{codes}
 use Rattle.bp_core.specs.declared.review.Basis.TheVariants.{Ac}
 use Rattle.bp_core.specs.declared.review.Role.TheVariants.{Lead, Second}
 use Rattle.bp_core.specs.declared.review.Treatment.TheVariants.{Produce, Withhold}
+use Rattle.bp_core.specs.Sorted.{ascends}
 use Rattle.bp_rows.specs.Image.{white_image}
 use Rattle.bp_rows.specs.declared.resolution.Unit.TheVariants.{Inch}
 use Rattle.bp_matter.specs.Matter.{Matter}
@@ -15,11 +16,13 @@ use Rattle.bp_matter.specs.declared.rows.Item.{Item}
 use Rattle.bp_matter.specs.declared.rows.PageRow.{PageRow}
 use Rattle.bp_matter.specs.declared.rows.PageWords.{PageWords}
 use Rattle.bp_matter.specs.declared.rows.Production.{Production}
+use Rattle.bp_matter.specs.declared.rows.ProductionRow.{ProductionRow}
 use Rattle.bp_matter.specs.declared.rows.Request.{Request}
 use Rattle.bp_matter.specs.declared.rows.State.TheVariants.{First, Confirmed}
 use Rattle.bp_freeze.specs.Freezing.{freeze_of}
 use Rattle.bp_freeze.specs.Keeping.{Keeps, frozen_matter}
 use Rattle.bp_freeze.specs.Numbers.{all_labels, numbers_under}
+use Rattle.bp_freeze.specs.Together.{HasItemOf, StandsIn, item_doc}
 
 -- ---- a matter of three documents of 2, 1 and 1 pages; the first two are a family, of which the second is withheld
 
@@ -161,3 +164,24 @@ all_numbers = refl
 
 labels : all_labels twice.productions ≡ (codes "AB-0001" ∷ codes "AB-0002" ∷ codes "AB-0003" ∷ codes "AB-0004" ∷ [])
 labels = refl
+
+-- ---- what stands together
+
+abbrev first_row : ProductionRow
+first_row = record { num = 1; production = first }
+
+-- the first production has an item of the second document beside that of the first, since they are a family
+beside : HasItemOf first_row 2
+beside = record {
+  item = record (shown 2 1 3 3) { treatment = Withhold Ac; entry = Some (record { date = []; author = []; recipients = []; description = [] }) };
+  stands = (1, omega arith, refl);
+  is = refl;
+}
+
+in_order : ascends item_doc 1 first.items ≡ true
+in_order = refl
+
+-- that item stands in the matter, so in no other production of it an item of this family does
+stands : StandsIn twice first_row (shown 1 1 1 2)
+unfolding lib.Utf8.encode
+stands = record { kept = (0, omega arith, refl); item = (0, omega arith, refl) }

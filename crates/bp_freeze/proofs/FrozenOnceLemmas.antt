@@ -21,7 +21,7 @@ use Rattle.bp_freeze.proofs.FrozenRangeLemmas.{row-at}
 -- ---- marks
 
 -- one mark more leaves the others
-mark_other : (k n : ℕ) (marks : List Bool) → k ≢ n → is_marked k (mark n marks) ≡ is_marked k marks
+pub mark_other : (k n : ℕ) (marks : List Bool) → k ≢ n → is_marked k (mark n marks) ≡ is_marked k marks
 mark_other k n [] other = refl
 mark_other zero zero (x ∷ marks) other = absurd (other refl)
 mark_other zero (suc n) (x ∷ marks) other = refl
@@ -29,22 +29,22 @@ mark_other (suc k) zero (x ∷ marks) other = refl
 mark_other (suc k) (suc n) (x ∷ marks) other = mark_other k n marks (λ e. other (ap (λ i. suc i) e))
 
 -- at first none is marked
-blank_none : (n k : ℕ) → is_marked k (blank n) ≡ false
+pub blank_none : (n k : ℕ) → is_marked k (blank n) ≡ false
 blank_none zero zero = refl
 blank_none zero (suc k) = refl
 blank_none (suc n) zero = refl
 blank_none (suc n) (suc k) = blank_none n k
 
 -- an item is of that document
-abbrev is_of : ℕ → Item → Bool
+abbrev pub is_of : ℕ → Item → Bool
 is_of doc i = eqb i.doc.0 doc
 
 -- some item of a production is
-abbrev has_doc : ℕ → ProductionRow → Bool
+abbrev pub has_doc : ℕ → ProductionRow → Bool
 has_doc doc row = list_any (is_of doc) row.production.items
 
 -- where a mark stood twice no marks come after
-unmarked_items : (items : List Item) → marked_on None items ≡ None
+pub unmarked_items : (items : List Item) → marked_on None items ≡ None
 unmarked_items [] = refl
 unmarked_items (i ∷ items) = refl
 
@@ -72,12 +72,12 @@ mark_of doc (i ∷ items) marks now e h =
     ]
 
 -- the marks after the items of one production
-record After (o : Option (List Bool)) : Type 0 where
+pub record After (o : Option (List Bool)) : Type 0 where
   pub marks : List Bool
   pub is : o ≡ Some marks
 
 -- where marks are there in the end they were there before
-some_after : (o : Option (List Bool)) (rows : List ProductionRow) (now : List Bool) → all_marked_on o rows ≡ Some now → After o
+pub some_after : (o : Option (List Bool)) (rows : List ProductionRow) (now : List Bool) → all_marked_on o rows ≡ Some now → After o
 some_after None rows now e = absurd (let stuck : None ≡ Some now = sym (marked_none rows) ∙ e in cc)
 some_after (Some marks) rows now e = record { marks = marks; is = refl }
 
@@ -102,14 +102,14 @@ mark_of_all doc (row ∷ rows) marks now e h =
 -- ---- items that were kept
 
 -- the item of a document has its parent
-family_kept : (docs : List DocRow) (doc : ℕ) (row : DocRow) → find_key doc_key doc docs ≡ Some row → (i : Item) → i.doc.0 ≡ doc → is_item_of (find_key doc_key i.doc.0 docs) i ≡ true
+pub family_kept : (docs : List DocRow) (doc : ℕ) (row : DocRow) → find_key doc_key doc docs ≡ Some row → (i : Item) → i.doc.0 ≡ doc → is_item_of (find_key doc_key i.doc.0 docs) i ≡ true
     → i.parent.0 ≡ row.parent.0
 family_kept docs doc row found i same is =
     let parts = and_parts (eqb i.parent.0 row.parent.0) _ (sym (ap (λ o. is_item_of o i) (ap (λ k. find_key doc_key k docs) same ∙ found)) ∙ is) in
     eqb-true i.parent.0 row.parent.0 parts.0
 
 -- an item that fits has the facts of its document
-item_family : (fields : ℕ) (docs : List DocRow) (pages : List PageRow) (i : Item) → item_fits fields docs pages i ≡ true → is_item_of (find_key doc_key i.doc.0 docs) i ≡ true
+pub item_family : (fields : ℕ) (docs : List DocRow) (pages : List PageRow) (i : Item) → item_fits fields docs pages i ≡ true → is_item_of (find_key doc_key i.doc.0 docs) i ≡ true
 item_family fields docs pages i fits = (and_parts _ _ (and_parts _ _ (and_parts _ _ (and_parts _ _ fits).0).0).0).0
 
 -- where an item is of a document, one is of its family
@@ -179,7 +179,7 @@ marked_more o [] row = refl
 marked_more o (r ∷ rows) row = marked_more (marked_on o r.production.items) rows row
 
 -- the marks of productions whose documents stand once
-marks_there : (o : Option (List Bool)) → not (is_none o) ≡ true → After o
+pub marks_there : (o : Option (List Bool)) → not (is_none o) ≡ true → After o
 marks_there None h = absurd cc
 marks_there (Some marks) h = record { marks = marks; is = refl }
 

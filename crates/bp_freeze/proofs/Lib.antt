@@ -22,3 +22,4 @@ pub mod PigeonLemmas
 pub mod PutRowLemmas
 pub mod RangeLemmas
 pub mod RuleLemmas
+pub mod TogetherLemmas

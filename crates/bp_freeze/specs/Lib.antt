@@ -10,4 +10,5 @@ pub mod Numbers
 pub mod Refusals
 pub mod Seeing
 pub mod Selecting
+pub mod Together
 pub mod Writing

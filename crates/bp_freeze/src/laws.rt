@@ -10,6 +10,7 @@ ghost use Rattle.bp_freeze.specs.Alike.{DecidedAlike};
 ghost use Rattle.bp_freeze.specs.Freezing.{freeze_of, kept_production};
 ghost use Rattle.bp_freeze.specs.Keeping.{Keeps, frozen_matter};
 ghost use Rattle.bp_freeze.specs.Numbers.{AreTakenOnce, all_labels};
+ghost use Rattle.bp_freeze.specs.Together.{FamiliesStandOnce, FamiliesStandWhole, ItemsAscend};
 
 /// Two matters in which the same was decided, and whose documents of the range that aren't withheld
 /// have as many pages, answer a request alike, refusals included.
@@ -34,6 +35,14 @@ pub fn numbers_are_taken_once()
     ensures labels { (m : Matter) →
         IsValid m →
         IsTrue (all_differ itself (all_labels m.productions)) }
+{}
+
+/// In a valid matter no two productions have an item of one family; beside an item stand items of
+/// all documents of its family, in ascending order.
+pub fn families_stand_together()
+    ensures once { (m : Matter) → IsValid m → FamiliesStandOnce m }
+    ensures whole { (m : Matter) → IsValid m → FamiliesStandWhole m }
+    ensures order { (m : Matter) → IsValid m → ItemsAscend m }
 {}
 
 /// A repeated request gives the stored production, takes no new number and changes nothing; so does

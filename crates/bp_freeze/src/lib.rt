@@ -18,8 +18,8 @@ mod requests;
 
 pub use freezing::freeze;
 pub use laws::{
-    a_freeze_keeps, a_repeat_is_stored, found_is_kept, frozen_is_valid, numbers_are_taken_once,
-    same_freeze,
+    a_freeze_keeps, a_repeat_is_stored, families_stand_together, found_is_kept, frozen_is_valid,
+    numbers_are_taken_once, same_freeze,
 };
 pub use log::log_text;
 pub use loggable::can_be_logged;

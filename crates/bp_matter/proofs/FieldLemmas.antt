@@ -13,8 +13,8 @@ use Rattle.std.proofs.lemmas.Nat.{le_bytes_4, from_le_bytes-to_le_bytes_4, le_by
 use Rattle.bp_matter.specs.Fields.{byte, word, long, text, list}
 use Rattle.bp_matter.specs.Written.{is_word, is_long, is_short, are_few}
 use Rattle.bp_matter.specs.Reading.{Read, ◌>>=◌, word_at, characters_at, text_at, value_of, bytes_at, many_at, many_on, list_at, long_at, Fails}
-use Rattle.bp_matter.specs.declared.reading.ReadFault.{ReadFault}
-use Rattle.bp_matter.specs.declared.reading.ReadFault.TheVariants as faults
+use Rattle.bp_matter.specs.declared.read_fault.ReadFault.{ReadFault}
+use Rattle.bp_matter.specs.declared.read_fault.ReadFault.TheVariants as faults
 use Rattle.bp_matter.proofs.CodecLemmas.{IsBytes, Codec, bind_some, last_of, byte_codec, IsBytes-after, same}
 
 pub characters_read : (n : ℕ) (bytes front seen rest t : List ℕ) → n ≤ length bytes → front ≡ take n bytes → IsUtf8 front → seen ≡ front → t ≡ chars seen → rest ≡ drop n bytes → characters_at n bytes ≡ Some (t, rest)

@@ -1,5 +1,6 @@
 -- What reading the kept rows of a matter gives.
-use Rattle.std.specs.Prelude.{◌≡◌, ℕ, ◌/◌, ◌%◌, List, [], ◌∷◌, Option, Some, None, Result, Ok, Err, nat_le, if◌then◌else◌}
+use Rattle.std.specs.Prelude.{◌≡◌, ◌≤◌, ℕ, ◌/◌, ◌%◌, true, false, List, [], ◌∷◌, Option, Some, None, Result, Ok, Err, nat_le, if◌then◌else◌}
+use Rattle.std.specs.List.{Contains}
 use Rattle.bp_core.specs.declared.kept.Row.{Row}
 use Rattle.bp_core.specs.declared.rules.Rule.{Rule}
 use Rattle.bp_core.specs.declared.rules.RuleKind.TheVariants.{KeptRowBad}
@@ -21,6 +22,19 @@ abbrev pub least_bad : Option ℕ → List Row → Option ℕ
 least_bad least [] = least
 least_bad least (row ∷ rows) =
     least_bad (if is_formed row then least else Some (lesser (row_key row) least)) rows
+
+-- of the rows whose bodies are not of their form, this key is the least
+pub record IsLeastBad (rows : List Row) (key : ℕ) : Type 0 where
+  pub row : Row
+  pub stands : Contains rows row
+  pub bad : is_formed row ≡ false
+  pub is : row_key row ≡ key
+  pub least : (other : Row) → Contains rows other → is_formed other ≡ false → key ≤ row_key other
+
+-- what is found of these rows: no key where each body is of its form, and else the least of the others
+pub record FindsLeastBad (rows : List Row) : Type 0 where
+  pub none : least_bad None rows ≡ None → (row : Row) → Contains rows row → is_formed row ≡ true
+  pub some : (key : ℕ) → least_bad None rows ≡ Some key → IsLeastBad rows key
 
 -- KeptRowBad, with two values
 abbrev pub kept_row_bad : ℕ → ℕ → Rule

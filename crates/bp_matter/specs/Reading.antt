@@ -37,8 +37,8 @@ use Rattle.bp_matter.specs.declared.rows.ProductionRow.{ProductionRow}
 use Rattle.bp_matter.specs.declared.rows.BatchRow.{BatchRow}
 use Rattle.bp_text.specs.declared.words.Word.{Word}
 use Rattle.bp_matter.specs.declared.rows.PageWords.{PageWords}
-use Rattle.bp_matter.specs.declared.reading.ReadFault.{ReadFault}
-use Rattle.bp_matter.specs.declared.reading.ReadFault.TheVariants as faults
+use Rattle.bp_matter.specs.declared.read_fault.ReadFault.{ReadFault}
+use Rattle.bp_matter.specs.declared.read_fault.ReadFault.TheVariants as faults
 
 -- a value, and the bytes after it
 abbrev pub Read : Type 0 → Type 0

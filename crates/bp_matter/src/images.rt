@@ -5,7 +5,7 @@ ghost use Rattle.std.specs.Str.{bytes_eq};
 ghost use Rattle.bp_matter.specs.Images.{lines_of, strip};
 ghost use Rattle.bp_matter.specs.Reading.{Gives};
 
-use crate::reading::ReadFault;
+use crate::read_fault::ReadFault;
 use bp_codes::Fill;
 use bp_core::{OutOfMemory, Refusal};
 use bp_rows::Page;

@@ -6,11 +6,12 @@ ghost use Rattle.bp_shelves.specs.Shelves.{rows_on};
 ghost use Rattle.bp_matter.specs.KeptRows.{box_kept, call_kept, entry_kept, held_kept};
 ghost use Rattle.bp_matter.specs.ReadRows.{run_of};
 ghost use Rattle.bp_matter.specs.Written.{box_written, call_written, entry_written, held_written};
-ghost use Rattle.bp_matter.specs.declared.reading.ReadFault.TheVariants.{Malformed};
+ghost use Rattle.bp_matter.specs.declared.read_fault.ReadFault.TheVariants.{Malformed};
 
+use crate::read_fault::ReadFault;
 use crate::reading::{
-    ReadFault, take_batch, take_box, take_call, take_doc, take_entry, take_field, take_held,
-    take_page, take_prefix, take_production, take_staff, take_words,
+    take_batch, take_box, take_call, take_doc, take_entry, take_field, take_held, take_page,
+    take_prefix, take_production, take_staff, take_words,
 };
 use crate::rows::{
     BatchRow, CallRow, CallShelves, DocBox, DocBoxShelves, DocEntry, DocHeld, DocHeldShelves,

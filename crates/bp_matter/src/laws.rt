@@ -1,10 +1,11 @@
 //! The laws of kept rows. The functions do nothing: the contract of each is the law.
-ghost use Rattle.std.specs.Prelude.{◌≡◌, ◌<◌, ◌^◌, IsTrue, ℕ, slice_index};
+ghost use Rattle.std.specs.Prelude.{◌≡◌, ◌<◌, ◌^◌, IsTrue, List, ℕ, slice_index};
 ghost use Rattle.bp_core.specs.Sorted.{ascends, row_key};
 ghost use Rattle.bp_core.specs.declared.kept.Row.{Row};
 ghost use Rattle.bp_matter.specs.Forms.{FormsOf};
 ghost use Rattle.bp_matter.specs.KeptRows.{rows_of};
 ghost use Rattle.bp_matter.specs.Matter.{Matter};
+ghost use Rattle.bp_matter.specs.ReadTables.{FindsLeastBad};
 ghost use Rattle.bp_matter.specs.Valid.{IsValid};
 
 use bp_t6::laws::strip_law;
@@ -31,3 +32,9 @@ pub fn form_law()
 {
     strip_law();
 }
+
+/// The key that `read_tables` names is the least of those whose bodies aren't of their form; where it
+/// names none each body is of its form.
+pub fn least_bad_law()
+    ensures { (rows : List Row) → FindsLeastBad rows }
+{}

@@ -12,18 +12,20 @@ mod calls;
 mod checking;
 mod copies;
 mod images;
+mod kept_tables;
 mod kinds;
 pub mod laws;
 mod limits;
+mod list_parts;
 mod lists;
 mod lookups;
 mod marks;
 mod parts;
+mod read_fault;
 mod reading;
 mod rows;
 mod shared_page;
 mod tables;
-mod taking;
 pub mod texts;
 pub mod treatments;
 mod writing;
@@ -33,6 +35,7 @@ pub use calls::{Call, DocView, Reply};
 pub use checking::confirming::confirm_rule;
 pub use checking::entries::entry_fits;
 pub use checking::items::optional_fits;
+pub use kept_tables::read_tables;
 pub use kinds::Kind;
 pub use limits::{
     MAX_BATCHES, MAX_BOX, MAX_DESCRIPTION, MAX_DESIGNATION, MAX_DOCUMENTS, MAX_FIELDS, MAX_ID,
@@ -46,4 +49,3 @@ pub use rows::{
 };
 pub use shared_page::SharedPage;
 pub use tables::Tables;
-pub use taking::read_tables;

@@ -1,5 +1,5 @@
 // The boxes and the held fields of a document, on shelves or in a list.
-ghost use Rattle.std.specs.Prelude.{◌≡◌, ◌+◌, ◌*◌, IsTrue};
+ghost use Rattle.std.specs.Prelude.{◌≡◌, IsTrue};
 ghost use Rattle.std.specs.List.{list_all};
 ghost use Rattle.bp_core.specs.Sorted.{ascends};
 ghost use Rattle.bp_matter.specs.Matter.{box_key, held_key};
@@ -32,19 +32,7 @@ pub(crate) fn boxes_on(boxes: &[DocBox], doc: DocNo) -> &[DocBox]
     ensures { result.now ≡ boxes_on doc.0 boxes.now }
 {
     let first = two_keys(doc.0, 0);
-    boxes_in(boxes, doc, first, first + 4_294_967_296)
-}
-
-// The boxes of this document, whose keys these are.
-fn boxes_in(boxes: &[DocBox], doc: DocNo, first: u128, end: u128) -> &[DocBox]
-    requires ascending { IsTrue (ascends box_key 0 boxes.now) }
-    requires written { IsTrue (list_all box_written boxes.now) }
-    requires first { first ≡ doc.0 * 4294967296 }
-    requires end { end ≡ doc.0 * 4294967296 + 4294967296 }
-    ensures { result.now ≡ boxes_on doc.0 boxes.now }
-{
-    let _doc = doc;
-    rows_between(boxes, first, end)
+    rows_between(boxes, first, first + 4_294_967_296)
 }
 
 // The held fields of this document in a list, in ascending order of field.
@@ -54,17 +42,5 @@ pub(crate) fn held_on(held: &[DocHeld], doc: DocNo) -> &[DocHeld]
     ensures { result.now ≡ held_on doc.0 held.now }
 {
     let first = two_keys(doc.0, 0);
-    held_in(held, doc, first, first + 4_294_967_296)
-}
-
-// The held fields of this document, whose keys these are.
-fn held_in(held: &[DocHeld], doc: DocNo, first: u128, end: u128) -> &[DocHeld]
-    requires ascending { IsTrue (ascends held_key 0 held.now) }
-    requires written { IsTrue (list_all held_written held.now) }
-    requires first { first ≡ doc.0 * 4294967296 }
-    requires end { end ≡ doc.0 * 4294967296 + 4294967296 }
-    ensures { result.now ≡ held_on doc.0 held.now }
-{
-    let _doc = doc;
-    rows_between(held, first, end)
+    rows_between(held, first, first + 4_294_967_296)
 }

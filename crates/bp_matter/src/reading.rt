@@ -5,6 +5,7 @@ ghost use Rattle.bp_matter.specs.Reading.{Gives, byte_at, word_at, long_at, text
 
 use crate::images::read_image;
 use crate::parts::Part;
+use crate::read_fault::ReadFault;
 use crate::rows::{
     BatchRow, BoxRow, CallRow, DocBox, DocEntry, DocHeld, DocRow, Entry, FieldRow, HeldRow, Item,
     PageRow, PageWords, PrefixRow, Production, ProductionRow, Request, StaffRow, State,
@@ -15,37 +16,6 @@ use bp_core::{Basis, DocNo, ListOf, OutOfMemory, PageNo, Rect, Role, StaffNo, Te
 use bp_rows::{Page, Res, Unit};
 use bp_text::Word;
 use std::alloc::{AllocError, Global};
-use std::convert::From;
-
-/// Why no row was read.
-#[derive(Clone, Copy, Debug, PartialEq, Eq)]
-pub enum ReadFault {
-    /// No row is written so.
-    Malformed,
-    OutOfMemory,
-}
-
-impl From<AllocError> for ReadFault {
-    ghost use Rattle.std.specs.Prelude.{◌≡◌};
-    ghost use Rattle.bp_matter.specs.declared.reading.ReadFault.TheVariants as faults;
-
-    ghost from_gives = { λ _ fault. fault ≡ faults.OutOfMemory };
-
-    fn from(_error: AllocError) -> ReadFault {
-        ReadFault::OutOfMemory
-    }
-}
-
-impl From<OutOfMemory> for ReadFault {
-    ghost use Rattle.std.specs.Prelude.{◌≡◌};
-    ghost use Rattle.bp_matter.specs.declared.reading.ReadFault.TheVariants as faults;
-
-    ghost from_gives = { λ _ fault. fault ≡ faults.OutOfMemory };
-
-    fn from(_error: OutOfMemory) -> ReadFault {
-        ReadFault::OutOfMemory
-    }
-}
 
 fn take_byte(bytes: &[u8]) -> Result<(u8, &[u8]), ReadFault>
     ensures { Gives (λ x. (x.0, x.1.now)) result (byte_at bytes.now) }

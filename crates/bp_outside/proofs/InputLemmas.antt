@@ -1,5 +1,5 @@
 -- Carry what one read of an input leaves to the whole of it.
-use Rattle.std.proofs.Common.{◌≡◌, ℕ, ◌+◌, ◌≤◌, ◌==◌, Bool, true, false, List, [], ◌++◌, length, take, refl, sym, ap, ◌∙◌, arith, inl, inr, length-append}
+use Rattle.std.proofs.Common.{◌≡◌, ℕ, ◌+◌, ◌≤◌, ◌==◌, Bool, true, false, List, [], ◌++◌, length, take, refl, sym, ap, subst, ◌∙◌, arith, inl, inr, length-append}
 use Rattle.std.specs.Prelude.{Err}
 use Rattle.std.proofs.lemmas.Bool.Decides.{nat_tests}
 use Rattle.std.proofs.lemmas.List.{append-nil, length-take-le}
@@ -11,12 +11,15 @@ use Rattle.bp_outside.specs.declared.input.TheConstants.{INPUT_CHUNK}
 use Rattle.bp_outside.proofs.DoorLemmas.{took_more, took_nothing}
 
 -- the test said that these bytes aren't enough
-pub not_enough : (is_enough : List ℕ → Bool) (bytes lent : List ℕ) (answer : Bool)
+pub not_enough : (Tells : List ℕ → Bool → Type 0) (bytes lent : List ℕ) (answer : Bool)
     → lent ≡ bytes
-    → answer ≡ is_enough lent
+    → Tells lent answer
     → answer ≡ false
-    → is_enough bytes ≡ false
-not_enough is_enough bytes lent answer same is short = ap is_enough (sym same) ∙ sym is ∙ short
+    → Tells bytes false
+not_enough Tells bytes lent answer same told short =
+    let P : List ℕ → Type 0 = λ xs. Tells xs false in
+    let Q : Bool → Type 0 = λ b. Tells lent b in
+    subst P same (subst Q short told)
 
 pub longer_by : (bytes more now : List ℕ)
     → now ≡ bytes ++ more
@@ -80,40 +83,40 @@ pub read_none : (door : DoorView) (bytes : List ℕ)
 read_none door bytes none =
     sym (ap (λ b. changed (took b false) door) none ∙ took_nothing door)
 
-pub none_needed : (is_enough : List ℕ → Bool) (bytes : List ℕ)
+pub none_needed : (Tells : List ℕ → Bool → Type 0) (bytes : List ℕ)
     → bytes ≡ []
-    → WasNeeded is_enough bytes
-none_needed is_enough bytes none =
+    → WasNeeded Tells bytes
+none_needed Tells bytes none =
     record { front = []; last = []; all = none; few = omega arith; needed = inl none }
 
 -- the bytes before these weren't enough
-pub more_needed : (is_enough : List ℕ → Bool) (front last bytes : List ℕ)
-    → is_enough front ≡ false
+pub more_needed : (Tells : List ℕ → Bool → Type 0) (front last bytes : List ℕ)
+    → Tells front false
     → length last ≤ INPUT_CHUNK
     → bytes ≡ front ++ last
-    → WasNeeded is_enough bytes
-more_needed is_enough front last bytes short few is =
+    → WasNeeded Tells bytes
+more_needed Tells front last bytes short few is =
     record { front = front; last = last; all = is; few = few; needed = inr short }
 
 -- the end of input came behind bytes that weren't enough
-pub end_needed : (is_enough : List ℕ → Bool) (bytes now : List ℕ)
-    → is_enough bytes ≡ false
+pub end_needed : (Tells : List ℕ → Bool → Type 0) (bytes now : List ℕ)
+    → Tells bytes false
     → now ≡ bytes
-    → WasNeeded is_enough now
-end_needed is_enough bytes now short is =
-    more_needed is_enough bytes [] now short (omega arith) (is ∙ sym (append-nil bytes))
+    → WasNeeded Tells now
+end_needed Tells bytes now short is =
+    more_needed Tells bytes [] now short (omega arith) (is ∙ sym (append-nil bytes))
 
 -- reading stopped short, after so many bytes
-pub read_short : (is_enough : List ℕ → Bool) (stop : InputStop) (room : ℕ)
+pub read_short : (Tells : List ℕ → Bool → Type 0) (stop : InputStop) (room : ℕ)
     (door now after : DoorView) (so_far bytes : List ℕ)
     → now ≡ changed (took so_far false) door
     → TakesSome room now so_far (Err stop) bytes after
-    → TakesInput is_enough door (Err stop) after
-read_short is_enough LackedMemory room door now after so_far bytes before step =
+    → TakesInput Tells door (Err stop) after
+read_short Tells LackedMemory room door now after so_far bytes before step =
     record {
       some = so_far ++ step.some;
       read = read_more door now after so_far step.some (so_far ++ step.some) false before
           step.read refl;
     }
-read_short is_enough (Refused refusal) room door now after so_far bytes before step =
+read_short Tells (Refused refusal) room door now after so_far bytes before step =
     record { some = so_far; read = step ∙ ap (λ d. after_refusal d refusal) before }

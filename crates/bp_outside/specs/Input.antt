@@ -7,22 +7,22 @@ use Rattle.bp_outside.specs.declared.input.InputStop.TheVariants.{LackedMemory, 
 use Rattle.bp_outside.specs.declared.input.TheConstants.{INPUT_CHUNK}
 use Rattle.bp_outside.specs.declared.refusals.DoorRefusal.{DoorRefusal}
 
--- the last read was still needed: at most so many bytes came with it, and those before it weren't
--- enough
-pub record WasNeeded (is_enough : List ℕ → Bool) (bytes : List ℕ) : Type 0 where
+-- the last read was still needed: at most so many bytes came with it, and of those before it was
+-- told that they aren't enough
+pub record WasNeeded (Tells : List ℕ → Bool → Type 0) (bytes : List ℕ) : Type 0 where
   pub front : List ℕ
   pub last : List ℕ
   pub all : bytes ≡ front ++ last
   pub few : length last ≤ INPUT_CHUNK
-  pub needed : (bytes ≡ []) ⊎ (is_enough front ≡ false)
+  pub needed : (bytes ≡ []) ⊎ Tells front false
 
--- these bytes were read: enough, or all that there were
-pub record TakesWhole (is_enough : List ℕ → Bool) (before : DoorView) (bytes : List ℕ)
+-- these bytes were read: they are told to be enough, or are all that there were
+pub record TakesWhole (Tells : List ℕ → Bool → Type 0) (before : DoorView) (bytes : List ℕ)
     (after : DoorView) : Type 0 where
   pub ended : Bool
   pub read : after ≡ changed (took bytes ended) before
-  pub whole : (is_enough bytes ≡ true) ⊎ (ended ≡ true)
-  pub needed : WasNeeded is_enough bytes
+  pub whole : Tells bytes true ⊎ (ended ≡ true)
+  pub needed : WasNeeded Tells bytes
 
 -- some bytes were read, and lost for want of memory
 pub record TakesPart (before after : DoorView) : Type 0 where
@@ -35,11 +35,11 @@ pub record StopsAt (before : DoorView) (refusal : DoorRefusal) (after : DoorView
   pub read : after ≡ after_refusal (changed (took some false) before) refusal
 
 -- what reading an input leaves
-abbrev pub TakesInput : (List ℕ → Bool) → DoorView → Result (Vec ℕ Global) InputStop → DoorView
-    → Type 0
-TakesInput is_enough before (Ok bytes) after = TakesWhole is_enough before bytes.items after
-TakesInput is_enough before (Err LackedMemory) after = TakesPart before after
-TakesInput is_enough before (Err (Refused refusal)) after = StopsAt before refusal after
+abbrev pub TakesInput : (List ℕ → Bool → Type 0) → DoorView → Result (Vec ℕ Global) InputStop
+    → DoorView → Type 0
+TakesInput Tells before (Ok bytes) after = TakesWhole Tells before bytes.items after
+TakesInput Tells before (Err LackedMemory) after = TakesPart before after
+TakesInput Tells before (Err (Refused refusal)) after = StopsAt before refusal after
 
 -- some bytes, at most as many as there was room for, were read and put behind those before
 pub record TakesMore (room : ℕ) (before : DoorView) (bytes now : List ℕ) (after : DoorView)

@@ -12,22 +12,20 @@ pub const INPUT_CHUNK: usize = 16_384;
 
 /// How much of an input is read.
 pub trait Enough {
-    // Whether these bytes are enough.
-    ghost is_enough: { Self → List ℕ → Bool };
+    // What each answer says of bytes: true that they are enough, false that more are wanted.
+    ghost Tells: { Self → List ℕ → Bool → Type 0 };
 
     // So many bytes are enough.
     ghost limit: { Self → ℕ };
 
     /// Whether these bytes are enough.
     fn enough(&self, bytes: &[u8]) -> bool
-        ensures { result ≡ is_enough self.now bytes.now };
+        ensures told { Tells self.now bytes.now result }
+        ensures most { limit self.now ≤ length bytes.now → result ≡ true };
 
     /// So many bytes are enough.
     fn limit(&self) -> usize
         ensures { result ≡ limit self.now };
-
-    ghost ends: { (until : Self) (bytes : List ℕ)
-        → limit until ≤ length bytes → is_enough until bytes ≡ true };
 }
 
 /// Why an input wasn't read.
@@ -47,7 +45,7 @@ pub fn read_input<D: Door, E: Enough>(
     until: &E,
 ) -> Result<Vec<u8>, InputStop>
     requires { (D.shows door.old).under_way ≡ true }
-    ensures takes { TakesInput (E.is_enough until.now) (D.shows door.old) result
+    ensures takes { TakesInput (E.Tells until.now) (D.shows door.old) result
         (D.shows door.new) }
     ensures limit { IfOk result (λ bytes. length bytes.items ≤ E.limit until.now) }
 {

@@ -18,6 +18,7 @@ pub mod PlaceLemmas
 pub mod RowLemmas
 pub mod RunCodeLemmas
 pub mod RunPlaceLemmas
+pub mod ShownPlaceLemmas
 pub mod SoFarLemmas
 pub mod SomeAnswerLemmas
 pub mod StepLemmas

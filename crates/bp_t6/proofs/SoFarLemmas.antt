@@ -1,5 +1,6 @@
 -- Lemmas on strips under way: carry a line that is read or added over to the lines so far.
-use Rattle.std.proofs.Common.{ℕ, zero, suc, ◌+◌, ◌-◌, ◌<◌, ◌≤◌, ◌≡◌, Bool, false, not, List, [], ◌∷◌, ◌++◌, length, get_or, drop, take, sum, None, refl, ap, sym, ◌∙◌, subst, arith, inl, inr, append_assoc, length-append, length-drop}
+use Rattle.std.proofs.Common.{ℕ, zero, suc, ◌+◌, ◌-◌, ◌<◌, ◌≤◌, ◌≡◌, Bool, false, not, List, [], ◌∷◌, ◌++◌, length, get_or, drop, take, sum, None, Result, Ok, Err, refl, ap, sym, ◌∙◌, subst, arith, inl, inr, append_assoc, length-append, length-drop}
+use Rattle.std.specs.Result.{IfOk}
 use Rattle.std.proofs.lemmas.Bool.{cases_lt}
 use Rattle.std.proofs.lemmas.List.{append-nil, append_cancel_left, length_push, get_or_append_left, get_or_at, length-replicate, length-take, take_more}
 use Rattle.bp_core.specs.declared.refusals.Refusal.{Refusal}
@@ -24,7 +25,7 @@ use Rattle.bp_t6.specs.Written.{row_code, lines_code, white_line, strip_of}
 use Rattle.bp_t6.specs.Read.{RowReads, LinesRead, StripReads}
 use Rattle.bp_t6.specs.Faults.{LinesFault, here, later, StripFault}
 use Rattle.bp_t6.specs.Reading.{IfFault, RowIsRead, RowStops}
-use Rattle.bp_t6.specs.SoFar.{last_line, HaveWidth, codes_so_far, AddedSoFar, HasAdded, IsWriter, LinesTo, ReadSoFar, HasRead, ReadsNext, ReadsPage, unread}
+use Rattle.bp_t6.specs.SoFar.{last_line, HaveWidth, codes_so_far, AddedSoFar, HasAdded, IsWriter, LinesTo, ReadSoFar, HasRead, ReadsLine, ReadsNext, ReadsPage, unread}
 use Rattle.bp_t6.specs.Strips.{fault_rule, refusal_for, SaysFault}
 use Rattle.bp_t6.proofs.StripLemmas.{lines_to-read, lines_more, last-more, lines_fault}
 
@@ -65,6 +66,11 @@ line_added old new lines line has same long places put =
 
 pub runs_shown : (runs places : List ℕ) (width : ℕ) → sum runs ≡ width → places ≡ changes_of (painted_runs false runs) → Shows places width (painted_runs false runs)
 runs_shown runs places width total is = shows_row (painted_runs false runs) places width (length-painted false runs ∙ total) is
+
+-- runs of a row fill its width
+pub runs_total : {E : Type 0} (r : Result (List ℕ) E) (width : ℕ) (row : List Bool) → length row ≡ width → IfOk r (λ runs. IsRuns runs row) → IfOk r (λ runs. sum runs ≡ width)
+runs_total (Ok runs) width row long are = sym (length-painted false runs) ∙ sym (ap length are.paints) ∙ long
+runs_total (Err e) width row long are = are
 
 pub still_writer : (width new_width : ℕ) (places above : List ℕ) (line : List Bool) → width ≤ MAX_WIDTH → new_width ≡ width → above ≡ places → Shows places width line → IsWriter new_width above
 still_writer width new_width places above line wide same is shows = record {
@@ -132,9 +138,9 @@ none_read reader bits width is = subst (λ (r : ReadSoFar). HasRead r []) (sym i
   last = shows_white width;
 })
 
-pub line_read : (old new : ReadSoFar) (lines : List (List Bool)) (runs : List ℕ) → HasRead old lines → new.bits ≡ old.bits → new.width ≡ old.width → new.row ≡ old.row + 1
-    → ((over : List Bool) → Shows old.above old.width over → RowIsRead over old.bits old.at new.at old.width new.above) → ((row : List Bool) → Shows new.above old.width row → IsRuns runs row) → ReadsNext lines new runs
-line_read old new lines runs has same_bits same_width one_more read are =
+pub line_shown : (old new : ReadSoFar) (lines : List (List Bool)) → HasRead old lines → new.bits ≡ old.bits → new.width ≡ old.width → new.row ≡ old.row + 1
+    → ((over : List Bool) → Shows old.above old.width over → RowIsRead over old.bits old.at new.at old.width new.above) → ReadsLine lines new
+line_shown old new lines has same_bits same_width one_more read =
     let white = white_line old.width in
     let over = last_line white lines in
     let one = read over has.last in let line = one.row in
@@ -142,7 +148,7 @@ line_read old new lines runs has same_bits same_width one_more read are =
     let more = lines_more white old.bits lines (drop old.at old.bits) line (drop new.at old.bits) has.read one.reads in
     record {
       line = line;
-      are = are line one.shows;
+      shows = subst (λ (w : ℕ). Shows new.above w line) (sym same_width) one.shows;
       so = record {
         count = length_push lines line ∙ omega (arith, has.count, one_more);
         wide = subst (λ (w : ℕ). HaveWidth w (lines ++ line ∷ [])) (sym same_width) (wide_more old.width lines line has.wide one.shows.long);
@@ -152,6 +158,12 @@ line_read old new lines runs has same_bits same_width one_more read are =
             (subst (λ (l : List Bool). Shows new.above old.width l) (sym (last-more white lines line)) one.shows);
       };
     }
+
+pub line_read : (old new : ReadSoFar) (lines : List (List Bool)) (runs : List ℕ) → HasRead old lines → new.bits ≡ old.bits → new.width ≡ old.width → new.row ≡ old.row + 1
+    → ((over : List Bool) → Shows old.above old.width over → RowIsRead over old.bits old.at new.at old.width new.above) → ((row : List Bool) → Shows new.above old.width row → IsRuns runs row) → ReadsNext lines new runs
+line_read old new lines runs has same_bits same_width one_more read are =
+    let one = line_shown old new lines has same_bits same_width one_more read in
+    record { line = one.line; are = are one.line (subst (λ (w : ℕ). Shows new.above w one.line) same_width one.shows); so = one.so }
 
 -- the rule of the next line
 pub line_stops : (old : ReadSoFar) (lines : List (List Bool)) (stop : Stop) (refusal : Refusal) → HasRead old lines → old.at ≤ length old.bits
@@ -193,26 +205,37 @@ page_begins p reader is = record {
   read = none_read reader (bits_of High (strip_of p)) p.width is;
 }
 
-pub page_next : (p : Image) (count : ℕ) (old new : ReadSoFar) (runs : List ℕ) → ((lines : List (List Bool)) → StripReads (bits_of High (strip_of p)) p.width (count + 1) lines → lines ≡ take (count + 1) p.rows) → IsPage p → count < p.height → ReadsPage p count old
-    → new.bits ≡ old.bits → new.width ≡ old.width → new.fault ≡ None → ReadsNext (take count p.rows) new runs → IsRuns runs (row_of p count) × ReadsPage p (count + 1) new
-page_next p count old new runs only page less reads same_bits same_width none next =
+-- the line that was read is the page's
+same_line : (p : Image) (count : ℕ) (old new : ReadSoFar) (line : List Bool) → ((lines : List (List Bool)) → StripReads (bits_of High (strip_of p)) p.width (count + 1) lines → lines ≡ take (count + 1) p.rows) → IsPage p → count < p.height → ReadsPage p count old
+    → new.bits ≡ old.bits → new.width ≡ old.width → new.fault ≡ None → HasRead new (take count p.rows ++ line ∷ []) → (line ≡ row_of p count) × ReadsPage p (count + 1) new
+same_line p count old new line only page less reads same_bits same_width none so =
     let bits = bits_of High (strip_of p) in
     let bits_are : new.bits ≡ bits = same_bits ∙ reads.bits in
     let width_is : new.width ≡ p.width = same_width ∙ reads.width in
-    let line = next.line in
     let lines = take count p.rows ++ line ∷ [] in
     let within : count < length p.rows = omega (arith, page.grid.down) in
-    let read = lines_to-read (white_line new.width) new.bits lines (drop new.at new.bits) next.so.read in
+    let read = lines_to-read (white_line new.width) new.bits lines (drop new.at new.bits) so.read in
     let strip : StripReads bits p.width (count + 1) lines = record {
       count = length_push (take count p.rows) line ∙ omega (arith, length-take count p.rows);
       read = subst (λ (w : ℕ). LinesRead (white_line w) bits lines) width_is (subst (λ (bs : List Bool). LinesRead (white_line new.width) bs lines) bits_are read);
     } in
     let all : lines ≡ take (count + 1) p.rows = only lines strip in
-    let same = append_cancel_left (take count p.rows) (line ∷ []) (row_of p count ∷ []) (all ∙ take_more p.rows count [] within) in
-    let line_is : line ≡ row_of p count = ap (λ ls. get_or ls 0 []) same in (
-      subst (IsRuns runs) line_is next.are,
-      record { bits = bits_are; width = width_is; fault = none; read = subst (HasRead new) all next.so },
+    let same = append_cancel_left (take count p.rows) (line ∷ []) (row_of p count ∷ []) (all ∙ take_more p.rows count [] within) in (
+      ap (λ ls. get_or ls 0 []) same,
+      record { bits = bits_are; width = width_is; fault = none; read = subst (HasRead new) all so },
     )
+
+pub page_line : (p : Image) (count : ℕ) (old new : ReadSoFar) → ((lines : List (List Bool)) → StripReads (bits_of High (strip_of p)) p.width (count + 1) lines → lines ≡ take (count + 1) p.rows) → IsPage p → count < p.height → ReadsPage p count old
+    → new.bits ≡ old.bits → new.width ≡ old.width → new.fault ≡ None → ReadsLine (take count p.rows) new → Shows new.above new.width (row_of p count) × ReadsPage p (count + 1) new
+page_line p count old new only page less reads same_bits same_width none next =
+    let both = same_line p count old new next.line only page less reads same_bits same_width none next.so in
+    (subst (Shows new.above new.width) both.0 next.shows, both.1)
+
+pub page_next : (p : Image) (count : ℕ) (old new : ReadSoFar) (runs : List ℕ) → ((lines : List (List Bool)) → StripReads (bits_of High (strip_of p)) p.width (count + 1) lines → lines ≡ take (count + 1) p.rows) → IsPage p → count < p.height → ReadsPage p count old
+    → new.bits ≡ old.bits → new.width ≡ old.width → new.fault ≡ None → ReadsNext (take count p.rows) new runs → IsRuns runs (row_of p count) × ReadsPage p (count + 1) new
+page_next p count old new runs only page less reads same_bits same_width none next =
+    let both = same_line p count old new next.line only page less reads same_bits same_width none next.so in
+    (subst (IsRuns runs) both.0 next.are, both.1)
 
 pub only_front : (p : Image) (count : ℕ) → IsPage p → count < p.height → StripReads (bits_of High (strip_of p)) p.width p.height p.rows → StripReads (bits_of High (strip_of p)) p.width (count + 1) (take (count + 1) p.rows)
 only_front p count page less reads = record {

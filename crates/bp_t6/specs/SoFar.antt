@@ -76,6 +76,12 @@ pub record ReadsNext (lines : List (List Bool)) (reader : ReadSoFar) (runs : Lis
   pub are : IsRuns runs line
   pub so : HasRead reader (lines ++ line ∷ [])
 
+-- behind these lines one more was read, which the places show
+pub record ReadsLine (lines : List (List Bool)) (reader : ReadSoFar) : Type 0 where
+  pub line : List Bool
+  pub shows : Shows reader.above reader.width line
+  pub so : HasRead reader (lines ++ line ∷ [])
+
 -- no line was read of bits
 abbrev pub unread : List Bool → ℕ → ReadSoFar
 unread bits width =

@@ -3,12 +3,13 @@ ghost use Rattle.std.specs.Prelude.{◌≡◌, ◌<◌, ◌≤◌, ◌+◌, ◌*
 ghost use Rattle.bp_core.specs.declared.rules.RuleKind.{RuleKind};
 ghost use Rattle.bp_codes.specs.declared.span.Fill.TheVariants.{High};
 ghost use Rattle.bp_codes.specs.Bits.{bits_of};
+ghost use Rattle.bp_rows.specs.Changes.{Shows};
 ghost use Rattle.bp_rows.specs.Image.{Image, IsPage, row_of};
 ghost use Rattle.bp_rows.specs.Runs.{IsRuns};
 ghost use Rattle.bp_t6.specs.Written.{row_code, strip_of};
 ghost use Rattle.bp_t6.specs.Faults.{StripFault};
 ghost use Rattle.bp_t6.specs.Read.{StripReads};
-ghost use Rattle.bp_t6.specs.SoFar.{ReadSoFar, ReadsNext, ReadsPage, unread};
+ghost use Rattle.bp_t6.specs.SoFar.{ReadSoFar, ReadsLine, ReadsNext, ReadsPage, unread};
 ghost use Rattle.bp_t6.specs.Strips.{SaysFault};
 ghost use Rattle.bp_core.specs.declared.rules.Rule.{Rule as BrokenRule};
 
@@ -67,6 +68,11 @@ pub fn rows_law()
         new.bits ≡ old.bits → new.width ≡ old.width → new.fault ≡ None →
         ReadsNext (take count p.rows) new runs →
         IsRuns runs (row_of p count) × ReadsPage p (count + 1) new }
+    ensures line { (p : Image) (count : ℕ) (old new : ReadSoFar) →
+        IsPage p → count < p.height → ReadsPage p count old →
+        new.bits ≡ old.bits → new.width ≡ old.width → new.fault ≡ None →
+        ReadsLine (take count p.rows) new →
+        Shows new.above new.width (row_of p count) × ReadsPage p (count + 1) new }
     ensures never { (p : Image) (count : ℕ) (reader : ReadSoFar) (rule : BrokenRule) →
         IsPage p → count < p.height → ReadsPage p count reader →
         SaysFault reader.bits reader.width (reader.row + 1) 0 rule →

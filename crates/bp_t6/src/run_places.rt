@@ -1,6 +1,6 @@
-// The changing elements of a row, from its runs.
-ghost use Rattle.std.specs.Prelude.{◌≡◌, ◌<◌, ◌≤◌, ◌^◌, ℕ, OnOk, length, sum, false, slice_index_or};
-ghost use Rattle.bp_rows.specs.Changes.{changes_of};
+// The changing elements of a row, from its runs or from places that show it.
+ghost use Rattle.std.specs.Prelude.{◌≡◌, ◌<◌, ◌≤◌, ◌^◌, ℕ, Bool, List, OnOk, length, sum, false, slice_index_or};
+ghost use Rattle.bp_rows.specs.Changes.{changes_of, Rises, Shows};
 ghost use Rattle.bp_rows.specs.Runs.{painted_runs};
 
 use std::alloc::AllocError;
@@ -22,5 +22,21 @@ pub fn push_places(places: &mut Vec<u32>, runs: &[u32]) -> Result<(), AllocError
         places.push(at)?;
         at += *run;
     }
+    Ok(())
+}
+
+/// The places of the changing elements of the row that places show, in place of what the list held:
+/// those left of the width.
+pub fn copy_places(changes: &mut Vec<u32>, places: &[u32], width: u32) -> Result<(), AllocError>
+    requires { Rises places.now width }
+    ensures { (row : List Bool) →
+        Shows places.now width row → OnOk result (changes.new.items ≡ changes_of row) }
+{
+    let mut count = places.len();
+    while count > 0 && width <= places[count - 1] {
+        count -= 1;
+    }
+    changes.clear();
+    changes.extend_from_slice(&places[..count])?;
     Ok(())
 }

@@ -1,12 +1,12 @@
 // A strip read a row at a time.
-ghost use Rattle.std.specs.Prelude.{◌≡◌, ◌<◌, ◌≤◌, ◌+◌, ◌^◌, Bool, List, [], IfOk, IfErr, Err, Some, None, length};
+ghost use Rattle.std.specs.Prelude.{◌≡◌, ◌<◌, ◌≤◌, ◌+◌, ◌^◌, Bool, List, [], IfOk, IfErr, Err, Some, None, length, sum};
 ghost use Rattle.bp_core.specs.declared.refusals.Refusal.TheVariants as refusals;
 ghost use Rattle.bp_core.specs.declared.rules.Rule.{Rule as BrokenRule};
 ghost use Rattle.bp_core.specs.Answers.{IfRule};
 ghost use Rattle.bp_codes.specs.Bits.{bits_of};
 ghost use Rattle.bp_rows.specs.Changes.{Rises, Shows};
 ghost use Rattle.bp_rows.specs.Runs.{IsRuns};
-ghost use Rattle.bp_t6.specs.SoFar.{HasRead, ReadsNext, unread, stopped, rule_of};
+ghost use Rattle.bp_t6.specs.SoFar.{HasRead, ReadsLine, ReadsNext, unread, stopped, rule_of};
 ghost use Rattle.bp_t6.specs.Strips.{SaysFault};
 
 use crate::line_reader::read_row;
@@ -76,6 +76,64 @@ impl<'a> StripRows<'a> {
             line: Vec::new(alloc),
             fault: None,
         })
+    }
+
+    /// Reads the next row, which `row_runs` and `StripWriter::add_read` then take, or answers the
+    /// rule that it breaks, as `next_runs` does. Its runs aren't made.
+    pub fn next_row(&mut self) -> Result<(), Refusal>
+        ensures bits { self.new.bits ≡ self.old.bits }
+        ensures width { self.new.width ≡ self.old.width }
+        ensures read { IfOk result (λ _. self.new.fault ≡ None) }
+        ensures next { (lines : List (List Bool)) → HasRead self.old lines
+            → IfOk result (λ _. ReadsLine lines self.new) }
+        ensures fault { (lines : List (List Bool)) → HasRead self.old lines → self.old.fault ≡ None
+            → IfErr result (IfRule (SaysFault self.old.bits self.old.width (self.old.row + 1) 0)) }
+        ensures stops { IfErr result (IfRule (λ rule. self.new ≡ stopped self.old rule)) }
+        ensures again { (rule : BrokenRule) → self.old.fault ≡ Some rule
+            → result ≡ Err (refusals.Rule rule) }
+        ensures memory { result ≡ Err refusals.OutOfMemory → self.new ≡ self.old }
+    {
+        if let Some(rule) = self.fault {
+            return Err(Refusal::Rule(rule));
+        }
+        let (tables, span) = (&self.tables, &self.span);
+        match read_row(
+            tables,
+            span,
+            self.at,
+            self.width,
+            &self.above,
+            &mut self.line,
+        ) {
+            Ok(next) => {
+                mem::swap(&mut self.line, &mut self.above);
+                self.row += 1;
+                self.at = next;
+                Ok(())
+            }
+            Err(stop) => {
+                let refused = refusal_of(stop, self.row);
+                self.fault = broken_rule(&refused);
+                Err(refused)
+            }
+        }
+    }
+
+    /// The runs of the row that was read last; before the first, those of a white row.
+    pub fn row_runs(&self, alloc: Global) -> Result<Runs, OutOfMemory>
+        ensures are { (row : List Bool) → Shows self.now.above self.now.width row
+            → IfOk result (λ runs. IsRuns runs row) }
+        ensures total { IfOk result (λ runs. sum runs ≡ self.now.width) }
+    {
+        runs_of(alloc, &self.above, self.width)
+    }
+
+    /// The places that show the row that was read last.
+    pub(crate) fn places(&self) -> &[u32]
+        ensures are { result.now ≡ self.now.above }
+        ensures show { (line : List Bool) × Shows result.now self.now.width line }
+    {
+        &self.above
     }
 
     /// The runs of the next row, or the rule that it breaks, with its row and its bit, both counted

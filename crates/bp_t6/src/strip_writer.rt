@@ -1,14 +1,16 @@
 // A strip written a row at a time.
 ghost use Rattle.std.specs.Prelude.{◌≡◌, ◌<◌, ◌≤◌, ◌++◌, ◌∷◌, ℕ, Bool, List, [], IfOk, OnOk, OnErr, length, sum, false, slice_index_or};
-ghost use Rattle.bp_rows.specs.Image.{Image};
+ghost use Rattle.bp_rows.specs.Changes.{Shows};
+ghost use Rattle.bp_rows.specs.Image.{Image, row_of};
 ghost use Rattle.bp_rows.specs.Runs.{painted_runs};
 ghost use Rattle.bp_t6.specs.SoFar.{HasAdded};
 ghost use Rattle.bp_t6.specs.Written.{strip_of};
 
 use crate::line_writer::LineWriter;
-use crate::run_places::push_places;
+use crate::run_places::{copy_places, push_places};
+use crate::strip_rows::StripRows;
 use bp_core::{Bytes, OutOfMemory};
-use bp_rows::{MAX_WIDTH, Runs};
+use bp_rows::{MAX_WIDTH, Page, Runs};
 use std::alloc::Global;
 use std::marker::Model;
 
@@ -58,6 +60,35 @@ impl StripWriter {
         ensures kept { OnErr result (self.new ≡ self.old) }
     {
         push_places(&mut self.places, runs.as_slice())?;
+        self.lines.add(&mut self.places)?;
+        Ok(())
+    }
+
+    /// Adds the row that a reader of rows of that width read last. A refusal leaves the writer.
+    pub fn add_read(&mut self, rows: &StripRows) -> Result<(), OutOfMemory>
+        requires { rows.now.width ≡ self.old.width }
+        ensures width { self.new.width ≡ self.old.width }
+        ensures added { (lines : List (List Bool)) (line : List Bool) → HasAdded self.old lines
+            → Shows rows.now.above rows.now.width line
+            → OnOk result (HasAdded self.new (lines ++ line ∷ [])) }
+        ensures kept { OnErr result (self.new ≡ self.old) }
+    {
+        copy_places(&mut self.places, rows.places(), self.lines.width)?;
+        self.lines.add(&mut self.places)?;
+        Ok(())
+    }
+
+    /// Adds a row of a page of that width. A refusal leaves the writer.
+    pub fn add_page_row(&mut self, page: &Page, row: u32) -> Result<(), OutOfMemory>
+        requires down { row < page.now.height }
+        requires wide { page.now.width ≡ self.old.width }
+        ensures width { self.new.width ≡ self.old.width }
+        ensures added { (lines : List (List Bool)) → HasAdded self.old lines
+            → OnOk result (HasAdded self.new (lines ++ row_of page.now row ∷ [])) }
+        ensures kept { OnErr result (self.new ≡ self.old) }
+    {
+        let _width = page.width();
+        page.row_changes(row, &mut self.places)?;
         self.lines.add(&mut self.places)?;
         Ok(())
     }

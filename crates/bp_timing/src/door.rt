@@ -22,12 +22,11 @@ struct Until<'a> {
 }
 
 impl<'a> Enough for Until<'a> {
-    ghost use Rattle.std.specs.Prelude.{◌||◌, length, nat_eq, nat_le};
+    ghost use Rattle.std.specs.Prelude.{◌≡◌, ◌||◌, length, nat_eq, nat_le};
     ghost use Rattle.std.specs.List.{ends_with};
-    ghost use Rattle.std.proofs.Common.{rules};
 
-    ghost is_enough = { λ until bytes.
-        nat_le until.most (length bytes) || ends_with nat_eq bytes until.end.now };
+    ghost Tells = { λ until bytes answer.
+        answer ≡ (nat_le until.most (length bytes) || ends_with nat_eq bytes until.end.now) };
 
     ghost limit = { λ until. until.most };
 
@@ -38,8 +37,6 @@ impl<'a> Enough for Until<'a> {
     fn limit(&self) -> usize {
         self.most
     }
-
-    ghost ends = { λ until bytes long. Prim.search rules };
 }
 
 // How an exchange went.

@@ -60,7 +60,7 @@ fn docs_few(rows: &[DocRow]) -> bool
 pub(crate) fn docs_valid(fields: usize, batches: usize, docs: &[DocRow]) -> bool
     requires written { IsTrue (list_all doc_written docs.now) }
     ensures order { IsTrue result → IsTrue (ascends doc_key 0 docs.now) }
-    ensures few { IsTrue result → length docs.now ≤ 10000 }
+    ensures few { IsTrue result → length docs.now ≤ MAX_DOCUMENTS }
     ensures fact { IsTrue result → DocFacts fields batches docs.now }
     ensures back { DocFacts fields batches docs.now → IsTrue result }
 {

@@ -12,7 +12,7 @@ use super::keeping::prefixes_kept;
 use super::labels::{ProductionId, VolumeName};
 use super::numbers::is_numbered;
 use super::requests::request_fits;
-use crate::limits::MAX_PRODUCTIONS;
+use crate::limits::{MAX_DOCUMENTS, MAX_PRODUCTIONS};
 use crate::rows::{DocRow, FieldRow, Item, PageRow, PrefixRow, ProductionRow};
 use bp_core::{OutOfMemory, all_differ};
 use std::alloc::Global;
@@ -116,7 +116,7 @@ pub(crate) fn productions_valid(
     productions: &[ProductionRow],
 ) -> Result<bool, OutOfMemory>
     requires docs { IsTrue (ascends doc_key 0 docs.now) }
-    requires few { length docs.now ≤ 10000 }
+    requires few { length docs.now ≤ MAX_DOCUMENTS }
     requires pages { IsTrue (ascends page_key 0 pages.now) }
     requires written { IsTrue (list_all production_written productions.now) }
     ensures fact { IfOk result (λ good. IsTrue good →

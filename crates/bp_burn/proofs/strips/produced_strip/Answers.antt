@@ -3,32 +3,14 @@ use Rattle.bp_t6.specs.SoFar.{HasAdded}
 use Rattle.bp_burn.specs.Band.{produced_of}
 use Rattle.bp_burn.specs.Covered.{covered, covered_pixel}
 use Rattle.bp_burn.proofs.ChangeLemmas.{changed_is_grid}
-use Rattle.bp_burn.proofs.MakingLemmas.{one_row_more, row_total, rows_out}
+use Rattle.bp_burn.proofs.MakingLemmas.{one_row_more, rows_out}
 use Rattle.bp_burn.proofs.strips.produced_strip.Goals as goal
 
-pub add_covered-requires-clause-total : goal.add_covered-requires-clause-total
-add_covered-requires-clause-total c =
+pub add_covered-requires-clause-width : goal.add_covered-requires-clause-width
+add_covered-requires-clause-width c =
     let inv = c.loop-row.invariant in
-    let row = c.loop-row.row in
-    let p = c.requires.strip.page in
     let has = c.requires.strip.has in
-    let down : row < p.height = omega (arith, has.high) in
-    let reads = inv.reads p has in
-    let both = c.rows_law.ensures.next p row c.loop-row.rows c.next_runs.new.self c.in-Ok.runs has.page down reads
-    c.in-Ok.ensures.bits c.in-Ok.ensures.width c.in-Ok.ensures.read (c.in-Ok.ensures.next (take row p.rows) reads.read) in
-    row_total p row c.in-Ok.runs has.page.grid down both.0 ∙ has.wide ∙ sym inv.wide
-
-pub add_covered-requires-clause-least : goal.add_covered-requires-clause-least
-add_covered-requires-clause-least c =
-    let inv = c.loop-row.invariant in
-    let row = c.loop-row.row in
-    let p = c.requires.strip.page in
-    let has = c.requires.strip.has in
-    let down : row < p.height = omega (arith, has.high) in
-    let reads = inv.reads p has in
-    let both = c.rows_law.ensures.next p row c.loop-row.rows c.next_runs.new.self c.in-Ok.runs has.page down reads
-    c.in-Ok.ensures.bits c.in-Ok.ensures.width c.in-Ok.ensures.read (c.in-Ok.ensures.next (take row p.rows) reads.read) in
-    both.0.least
+    c.next_row.ensures.width ∙ (inv.reads c.requires.strip.page has).width ∙ has.wide ∙ sym inv.wide
 
 pub loop-row-preserved : goal.loop-row-preserved
 loop-row-preserved c =
@@ -39,7 +21,7 @@ loop-row-preserved c =
       reads = λ p has.
           let down : row < p.height = omega (arith, has.high) in
           let reads = inv.reads p has in
-          let both = c.rows_law.ensures.next p row c.loop-row.rows c.next_runs.new.self c.in-Ok.runs has.page down reads
+          let both = c.rows_law.ensures.line p row c.loop-row.rows c.next_row.new.self has.page down reads
           c.in-Ok.ensures.bits c.in-Ok.ensures.width c.in-Ok.ensures.read (c.in-Ok.ensures.next (take row p.rows) reads.read) in
           both.1;
       added = λ p has.
@@ -47,11 +29,11 @@ loop-row-preserved c =
           let grid = changed_is_grid p (covered_pixel c.args.ink c.args.stamps.now) in
           let down : row < p.height = omega (arith, has.high) in
           let reads = inv.reads p has in
-          let both = c.rows_law.ensures.next p row c.loop-row.rows c.next_runs.new.self c.in-Ok.runs has.page down reads
+          let both = c.rows_law.ensures.line p row c.loop-row.rows c.next_row.new.self has.page down reads
           c.in-Ok.ensures.bits c.in-Ok.ensures.width c.in-Ok.ensures.read (c.in-Ok.ensures.next (take row p.rows) reads.read) in
           let P : List (List Bool) → Type 0 = λ rows. HasAdded c.add_covered.new.writer rows in
           subst P (sym (one_row_more q row grid down))
-          (c.in_ok-add_covered.ensures.added p (take row q.rows) down (has.wide ∙ sym inv.wide) both.0.paints (inv.added p has));
+          (c.in_ok-add_covered.ensures.added p (take row q.rows) down (has.wide ∙ sym inv.wide) both.0 (inv.added p has));
     }
 
 pub returns : goal.returns

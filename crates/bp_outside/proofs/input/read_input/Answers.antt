@@ -16,8 +16,8 @@ reading-init g c =
 pub reading-preserved : goal.reading-preserved
 reading-preserved g c =
     let step = rw c.in-Ok-true.field-0-test at c.in-Ok-true.ensures in
-    let short = not_enough (g.E.Enough.is_enough c.args.until.now) c.reading.bytes.items _ _
-    c.as_slice.ensures.value c.enough.ensures c.reading-test.true in
+    let short = not_enough (g.E.Enough.Tells c.args.until.now) c.reading.bytes.items _ _
+    c.as_slice.ensures.value c.enough.ensures.told c.reading-test.true in
     let room = length-take c.min-room.result c.reading.chunk in
     let few : length step.more ≤ INPUT_CHUNK = omega (arith, step.few, room, c.min-room.ensures) in
     let longer = longer_by c.reading.bytes.items step.more _ step.all in
@@ -38,8 +38,8 @@ reading-preserved g c =
 pub returns-in-Ok-false-clause-takes : goal.returns-in-Ok-false-clause-takes
 returns-in-Ok-false-clause-takes g c =
     let step = rw c.in-Ok-false.field-0-test at c.in-Ok-false.ensures in
-    let short = not_enough (g.E.Enough.is_enough c.args.until.now) c.reading.bytes.items _ _
-    c.as_slice.ensures.value c.enough.ensures c.reading-test.true in
+    let short = not_enough (g.E.Enough.Tells c.args.until.now) c.reading.bytes.items _ _
+    c.as_slice.ensures.value c.enough.ensures.told c.reading-test.true in
     record {
       ended = true;
       read = read_more _ _ _ _ _ _ true c.reading.invariant.read step.1
@@ -51,5 +51,5 @@ returns-in-Ok-false-clause-takes g c =
 pub returns-in-Err-clause-takes : goal.returns-in-Err-clause-takes
 returns-in-Err-clause-takes g c =
     let room = length (take c.min-room.result c.reading.chunk) in
-    read_short (g.E.Enough.is_enough c.args.until.now) c.in-Err.stop room _ _ _ _ _
+    read_short (g.E.Enough.Tells c.args.until.now) c.in-Err.stop room _ _ _ _ _
     c.reading.invariant.read c.in-Err.ensures

@@ -9,7 +9,7 @@ invariant-reading g l =
       within : length l.bytes.items ≤ l.limit;
       read : g.D.Door.shows l.door
           ≡ changed (took l.bytes.items false) (g.D.Door.shows l.initial.door);
-      needed : WasNeeded (g.E.Enough.is_enough l.until) l.bytes.items;
+      needed : WasNeeded (g.E.Enough.Tells l.until) l.bytes.items;
     }
 
 abbrev pub decreases-reading : goal.decreases-reading

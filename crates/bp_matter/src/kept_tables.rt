@@ -4,13 +4,14 @@ ghost use Rattle.bp_matter.specs.Lists.{matter_of};
 ghost use Rattle.bp_matter.specs.ReadRows.{is_formed};
 ghost use Rattle.bp_matter.specs.ReadTables.{ReadsTables, least_bad, lesser, bad_rule, kept_row_bad};
 ghost use Rattle.bp_matter.specs.Valid.{IsValid};
-ghost use Rattle.bp_matter.specs.declared.reading.ReadFault.TheVariants.{Malformed};
+ghost use Rattle.bp_matter.specs.declared.read_fault.ReadFault.TheVariants.{Malformed};
 
 use crate::checking::is_valid;
 use crate::lists::{Lists, take_lists};
+use crate::read_fault::ReadFault;
 use crate::reading::{
-    ReadFault, take_batch, take_box, take_call, take_doc, take_entry, take_field, take_held,
-    take_page, take_prefix, take_production, take_staff, take_words,
+    take_batch, take_box, take_call, take_doc, take_entry, take_field, take_held, take_page,
+    take_prefix, take_production, take_staff, take_words,
 };
 use crate::tables::Tables;
 use bp_core::{Keyed, OutOfMemory, Refusal, Row, RowList, Rule, RuleKind};
@@ -68,12 +69,9 @@ fn bad_rule(least: Option<u128>) -> Rule
     ensures { result ≡ bad_rule least }
 {
     let number = least.unwrap_or(0);
-    Rule {
-        kind: RuleKind::KeptRowBad,
-        line: 0,
-        a: (number / 18_446_744_073_709_551_616) as u64,
-        b: (number % 18_446_744_073_709_551_616) as u64,
-    }
+    let kind = (number / 18_446_744_073_709_551_616) as u64;
+    let numbers = (number % 18_446_744_073_709_551_616) as u64;
+    Rule::naming_both(RuleKind::KeptRowBad, kind, numbers)
 }
 
 fn least_bad(alloc: Global, rows: &[Row]) -> Result<Option<u128>, OutOfMemory>

@@ -1,0 +1,8 @@
+use Rattle.bp_t6.proofs.ShownPlaceLemmas.{Ends}
+use Rattle.bp_t6.proofs.run_places.copy_places.Given as goal
+
+abbrev pub invariant-loop-count : goal.invariant-loop-count
+invariant-loop-count l = Ends l.places l.width l.count
+
+abbrev pub decreases-loop-count : goal.decreases-loop-count
+decreases-loop-count l = l.count

@@ -1,7 +1,7 @@
 #!/bin/sh
 # Makes the pictures of README.md, produced.png, withheld.png and foot.png, of the volume that produce_batch.sh wrote: a page
 # with a covered paragraph, and a slip sheet, each scaled down to 680 columns with 8 levels of grey; and the foot of the first,
-# the right half of its last 200 rows, pixel by pixel. Needs netpbm.
+# the right half of its last 220 rows, pixel by pixel. Needs netpbm.
 set -eu
 cd "$(dirname "$0")"
 
@@ -12,4 +12,4 @@ picture() { page "$1" | pamdepth -quiet 255 | pamscale -quiet -xsize 680 | pamde
 
 picture ABC00000017 produced.png
 picture ABC00000006 withheld.png
-page ABC00000017 | pamcut -left 1250 -width 1300 -top 3132 -height 200 | pnmtopng -quiet -compression 9 > foot.png
+page ABC00000017 | pamcut -left 1250 -width 1300 -top 3112 -height 220 | pnmtopng -quiet -compression 9 > foot.png

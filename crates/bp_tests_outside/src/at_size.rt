@@ -20,9 +20,11 @@ fn a_folder_in_memory_takes_forty_thousand_files(rt: HostRuntime) -> Result<(), 
     let mut folder = MemFolder::over(FileList::new(alloc), NumberList::new(alloc));
     put_all(alloc, &mut folder)?;
     assert_eq!(rt; folder.files().len(), 40_000);
-    if let Some(last) = folder.files().last() {
-        assert_eq!(rt; last.path.as_str(), "v/39999");
-        assert_eq!(rt; last.bytes.as_slice(), [7; 3]);
-    }
+    let bytes: &[u8] = &[7; 3];
+    let last = folder
+        .files()
+        .last()
+        .map(|file| (file.path.as_str(), file.bytes.as_slice()));
+    assert_eq!(rt; last, Some(("v/39999", bytes)));
     Ok(())
 }

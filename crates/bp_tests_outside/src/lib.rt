@@ -5,6 +5,8 @@
 #[cfg(test)]
 mod adapters;
 #[cfg(test)]
+mod at_size;
+#[cfg(test)]
 mod disk;
 #[cfg(test)]
 mod doors;

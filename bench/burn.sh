@@ -12,7 +12,7 @@
 set -eu
 here=$(CDPATH='' cd -- "$(dirname -- "$0")" && pwd)
 top=$here/..
-program=$top/crates/bp_cli/out/bp_cli
+program=$top/crates/bp_main/out/bp_main
 unset GLIBC_TUNABLES
 
 stop() { echo "burn.sh: $1" >&2; exit 1; }

@@ -13,7 +13,7 @@
 set -eu
 here=$(CDPATH='' cd -- "$(dirname -- "$0")" && pwd)
 top=$here/..
-program=$top/crates/bp_cli/out/bp_cli
+program=$top/crates/bp_main/out/bp_main
 
 stop() { echo "strangers.sh: $1" >&2; exit 1; }
 

@@ -18,7 +18,7 @@ if [ $# -gt 1 ]; then
 else
     # the launcher builds the program; these words are no command line
     "$top/tivrenan" build > /dev/null 2>&1 || stop "the program can't be built"
-    set -- "$top/crates/bp_cli/out/bp_cli" burn
+    set -- "$top/crates/bp_main/out/bp_main" burn
 fi
 
 scratch=$(mktemp -d)

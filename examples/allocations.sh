@@ -6,7 +6,7 @@
 # Words: the form to read and the one to write, plain or g4; `plain` where none is given.
 # Needs rt; each run takes about 20 seconds.
 set -eu
-cd "$(dirname "$0")/../crates/bp_cli"
+cd "$(dirname "$0")/../crates/bp_main"
 from=${1:-plain} to=${2:-plain}
 case $to in
     plain) length=187 ;;

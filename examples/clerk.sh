@@ -6,7 +6,7 @@ set -eu
 here=$(CDPATH='' cd -- "$(dirname -- "$0")" && pwd)
 command -v sqlite3 > /dev/null || { echo "clerk.sh: needs sqlite3 (Debian's package)" >&2; exit 1; }
 "$here/../tivrenan" build
-built=$here/../crates/bp_cli/out/bp_cli
+built=$here/../crates/bp_main/out/bp_main
 
 room=$(mktemp -d)
 trap 'chmod -R u+w "$room"; rm -rf "$room"' EXIT

@@ -7,7 +7,7 @@
 set -eu
 cd "$(dirname "$0")"
 top=$(cd .. && pwd)
-built=$top/crates/bp_cli/out/bp_cli
+built=$top/crates/bp_main/out/bp_main
 
 scratch=$(mktemp -d)
 trap 'rm -rf "$scratch"' EXIT
@@ -21,8 +21,8 @@ done
 # What the folder holds: a page of 8 by 1 pixels, all white, also in a folder; the letter page in Group 4, and plain.
 # Beside it: the white page with all of it burned, and the letter page with its first pixel burned.
 mkdir -p "$scratch/files/a"
-cp "$top/crates/bp_cli/data/a.tif" "$scratch/files/white.tif"
-cp "$top/crates/bp_cli/data/a.tif" "$scratch/files/a/b.tif"
+cp "$top/crates/bp_main/data/a.tif" "$scratch/files/white.tif"
+cp "$top/crates/bp_main/data/a.tif" "$scratch/files/a/b.tif"
 cp letter.tif "$scratch/files/letter.tif"
 tifftopnm -quiet letter.tif | python3 "$top/bench/plain_page.py" 300 > "$scratch/files/plain.tif"
 cd "$scratch"

@@ -10,7 +10,7 @@ for tool in sqlite3 python3; do
     command -v "$tool" > /dev/null || { echo "stops.sh: needs $tool" >&2; exit 1; }
 done
 "$here/../tivrenan" build
-program=$here/../crates/bp_cli/out/bp_cli
+program=$here/../crates/bp_main/out/bp_main
 
 room=$(mktemp -d)
 trap 'rm -rf "$room"' EXIT

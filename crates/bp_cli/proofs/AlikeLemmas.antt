@@ -72,7 +72,7 @@ comes_one one b (Some paths) files o o' x y = burns_one one b paths files o o' x
 abbrev pub RowsLaw : Type 0
 RowsLaw = (m n : Matter) → IsValid m → IsValid n → rows_of m ≡ rows_of n → m ≡ n
 
-matter_one : RowsLaw → (rows : List Row) (a b : Result Matter Rule) → MatterAnswers rows a → MatterAnswers rows b → a ≡ b
+pub matter_one : RowsLaw → (rows : List Row) (a b : Result Matter Rule) → MatterAnswers rows a → MatterAnswers rows b → a ≡ b
 matter_one law [] a b x y = x ∙ sym y
 matter_one law (row ∷ rows) (Ok m) (Ok n) x y = ap (λ (k : Matter). Ok k) (law m n x.0 y.0 (sym x.1 ∙ y.1))
 matter_one law (row ∷ rows) (Ok m) (Err r) x y = absurd (y.1 m x.0 x.1)
@@ -196,7 +196,7 @@ same_comes : (c : CommandLine) (inputs : Inputs) (other : Outcome) → ((rows : 
 same_comes c inputs other same comes = record { outcome = other; comes = comes; same = shows_itself c other same }
 
 -- rows of a valid matter are known to be its
-rows_answer : (rows : List Row) (m : Matter) → IsValid m → rows ≡ rows_of m → MatterAnswers rows (Ok m)
+pub rows_answer : (rows : List Row) (m : Matter) → IsValid m → rows ≡ rows_of m → MatterAnswers rows (Ok m)
 rows_answer [] m valid is = absurd (some_rows m valid is)
 rows_answer (row ∷ rows) m valid is = (valid, is)
 

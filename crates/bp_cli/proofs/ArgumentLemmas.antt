@@ -1,22 +1,36 @@
 -- Lemmas of arguments: from the stop that the system's answer became to what the run promises over
 -- that answer, and from there to what the program promises.
-use Rattle.std.proofs.Common.{ℕ, ◌≡◌, ◌↔◌, ◌<◌, List, [], ◌∷◌, ◌++◌, length, drop, Option, Some, None, Ok, Err, ap, subst, inr, arith}
-use Rattle.std.specs.Prelude.{IsSome, option_to_list}
+use Rattle.std.proofs.Common.{ℕ, ◌≡◌, ◌↔◌, ◌<◌, List, [], ◌∷◌, ◌++◌, length, drop, Option, Some, None, Ok, Err, ap, subst, inl, inr, arith}
+use Rattle.std.specs.Prelude.{IsSome, IsSomeAnd, String, Vec, option_to_list}
+use Rattle.std.specs.declared.alloc.Global.{Global}
 use Rattle.std.proofs.lemmas.Bool.{false≢true}
 use Rattle.bp_cli.specs.declared.stops.Stop.{Stop}
 use Rattle.bp_outside.specs.Source.{SourceView}
 use Rattle.bp_outside.specs.Folder.{FolderView}
+use Rattle.bp_desk.specs.declared.history.Made.{Made}
+use Rattle.bp_outside.specs.Door.{DoorView}
 use Rattle.bp_outside.specs.Out.{OutView}
 use Rattle.bp_keep.specs.Keeper.{KeeperView}
-use Rattle.bp_cli.specs.Arguments.{Answer, TakesWords, StopsAtOnce, RunsArguments, RunsFrom, EndsUnopened, beginning}
+use Rattle.bp_cli.specs.Arguments.{Answer, TakesWords, StopsAtOnce, RunsArguments, RunsFrom, EndsStopped, beginning}
+use Rattle.bp_cli.specs.Words.{word_bytes}
 use Rattle.bp_cli.specs.Endings.{status_of, text_of}
 use Rattle.bp_cli.specs.Printing.{Prints}
 use Rattle.bp_outside.specs.Untold.{untold_out}
-use Rattle.bp_cli.specs.Runs.{Outside, outside}
+use Rattle.bp_cli.specs.Running.{Moment, RunsWords, moment}
+use Rattle.bp_cli.specs.Runs.{outside}
 
-pub stopped_at_once : (before after : Outside) (stop : Stop) (status : ℕ) (answer : Answer) → TakesWords answer (Err stop) → StopsAtOnce stop before after status → RunsArguments answer before after status
-stopped_at_once before after stop status (Ok arguments) is stopped = inr (subst (λ (s : Stop). StopsAtOnce s before after status) is stopped)
-stopped_at_once before after stop status (Err error) is stopped = subst (λ (s : Stop). StopsAtOnce s before after status) is stopped
+pub stopped_at_once : {D : Type 0} (shows : D → DoorView) (before : Moment D) (history : Option (List Made)) (after : Moment D) (stop : Stop) (status : ℕ) (answer : Answer) → TakesWords answer (Err stop) → StopsAtOnce stop before history after status → RunsArguments shows answer before history after status
+stopped_at_once shows before history after stop status (Ok arguments) is stopped = inr (subst (λ (s : Stop). StopsAtOnce s before history after status) is stopped)
+stopped_at_once shows before history after stop status (Err error) is stopped = subst (λ (s : Stop). StopsAtOnce s before history after status) is stopped
+
+-- a run of the words that were taken
+pub took_words : {D K : Type 0} (shows : D → DoorView) (answer : Answer) (words : Vec (String Global) Global) (kept : Option K) (before : Moment D) (history : Option (List Made)) (after : K → Moment D) (status : ℕ) → TakesWords answer (Ok words)
+    → IsSomeAnd kept (λ k. RunsWords shows (word_bytes words.items) before history (after k) status)
+    → IsSomeAnd kept (λ k. RunsArguments shows answer before history (after k) status)
+took_words shows answer words None before history after status took runs = absurd runs
+took_words shows (Ok arguments) words (Some k) before history after status took runs =
+    inl (subst (λ (ws : List (String Global)). RunsWords shows (word_bytes ws) before history (after k) status) took runs)
+took_words shows (Err error) words (Some k) before history after status took runs = absurd took
 
 -- what is left after the first item was taken
 pub left_after_first : {X : Type 0} (old new : List X) (n : ℕ) (first : Option X) → n ≡ length old → old ≡ option_to_list first ++ new → IsSome first ↔ (0 < n) → drop 1 old ≡ new
@@ -27,18 +41,25 @@ left_after_first (x ∷ xs) new n None long e some = absurd (false≢true (some.
 -- ---- the program
 
 -- a run over this keeper, where nothing is known of the system
-pub runs_from : (answer : Answer) (keeper : KeeperView) (s : SourceView) (k : KeeperView) (f : FolderView) (o : OutView) (after : Outside) (status : ℕ) → s ≡ (beginning keeper).world.source → k ≡ keeper → f ≡ (beginning keeper).world.folder → o ≡ (beginning keeper).out → RunsArguments answer (outside s k f o) after status
-    → RunsFrom answer keeper status
-runs_from answer keeper s k f o after status same_s same_k same_f same_o runs = record {
+pub runs_from : {D : Type 0} (shows : D → DoorView) (answer : Answer) (keeper : KeeperView) (doors : List D) (s : SourceView) (k : KeeperView) (f : FolderView) (o : OutView) (history : Option (List Made)) (after : Moment D) (status : ℕ) → s ≡ (beginning keeper).world.source → k ≡ keeper → f ≡ (beginning keeper).world.folder → o ≡ (beginning keeper).out
+    → RunsArguments shows answer (moment (outside s k f o) doors) history after status
+    → RunsFrom shows answer keeper doors status
+runs_from shows answer keeper doors s k f o history after status same_s same_k same_f same_o runs = record {
   after = after;
-  runs = subst (λ (x : SourceView). RunsArguments answer (outside x keeper (beginning keeper).world.folder (beginning keeper).out) after status) same_s
-      (subst (λ (x : KeeperView). RunsArguments answer (outside s x (beginning keeper).world.folder (beginning keeper).out) after status) same_k
-      (subst (λ (x : FolderView). RunsArguments answer (outside s k x (beginning keeper).out) after status) same_f
-      (subst (λ (x : OutView). RunsArguments answer (outside s k f x) after status) same_o runs)));
+  history = history;
+  runs = subst (λ (x : SourceView). RunsArguments shows answer (moment (outside x keeper (beginning keeper).world.folder (beginning keeper).out) doors) history after status) same_s
+      (subst (λ (x : KeeperView). RunsArguments shows answer (moment (outside s x (beginning keeper).world.folder (beginning keeper).out) doors) history after status) same_k
+      (subst (λ (x : FolderView). RunsArguments shows answer (moment (outside s k x (beginning keeper).out) doors) history after status) same_f
+      (subst (λ (x : OutView). RunsArguments shows answer (moment (outside s k f x) doors) history after status) same_o runs)));
 }
 
--- what was printed where there is no database
-pub ends_unopened : (stop known : Stop) (o after : OutView) (status : ℕ) → stop ≡ known → o ≡ untold_out 0 → Prints (text_of (Err stop)) (status_of (Err stop)) o after status → EndsUnopened known status
-ends_unopened stop known o after status is same printed =
-    subst (λ (s : Stop). EndsUnopened s status) is
+-- a keeper that was handed back
+pub with_keeper : {K : Type 0} (P : K → Type 0) (Q : Type 0) (kept : Option K) → IsSomeAnd kept P → ((k : K) → P k → Q) → Q
+with_keeper P Q None some give = absurd some
+with_keeper P Q (Some k) some give = give k some
+
+-- what was printed where nothing is done
+pub ends_stopped : (stop known : Stop) (o after : OutView) (status : ℕ) → stop ≡ known → o ≡ untold_out 0 → Prints (text_of (Err stop)) (status_of (Err stop)) o after status → EndsStopped known status
+ends_stopped stop known o after status is same printed =
+    subst (λ (s : Stop). EndsStopped s status) is
     (record { out = after; printed = subst (λ (x : OutView). Prints (text_of (Err stop)) (status_of (Err stop)) x after status) same printed })

@@ -2,6 +2,7 @@ mod ArgumentLemmas
 mod AlikeLemmas
 mod BurnLemmas
 mod CalmLemmas
+mod DoorLemmas
 mod Examples
 mod ImportLemmas
 mod InitLemmas
@@ -13,6 +14,9 @@ mod PrintingLemmas
 mod ProduceLemmas
 mod RowsLemmas
 mod RunLemmas
+mod RunningLemmas
+mod ServeLemmas
+mod ServingLemmas
 mod StatusLemmas
 mod WordLemmas
 mod WorkLemmas

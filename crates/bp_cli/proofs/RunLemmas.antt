@@ -208,7 +208,7 @@ no_rise : (before now : ℕ) → now ≡ 0 → Rose before now → ⊥
 no_rise before now none rose = omega arith
 
 -- what can't fail and is sure afterwards didn't fail
-never_rose : (before now : ℕ) (was is : Bool) → is ≡ was → was ≡ true → (is ≡ true → now ≡ 0) → Rose before now → ⊥
+pub never_rose : (before now : ℕ) (was is : Bool) → is ≡ was → was ≡ true → (is ≡ true → now ≡ 0) → Rose before now → ⊥
 never_rose before now was is same sure law rose = no_rise before now (law (same ∙ sure)) rose
 
 abbrev sure_statuses : List ℕ

@@ -1,5 +1,5 @@
 -- The words of the command line, as the system gives them: with the program's name, or not at all.
-use Rattle.std.specs.Prelude.{◌≡◌, ℕ, ◌⊎◌, false, List, Vec, String, drop, Result}
+use Rattle.std.specs.Prelude.{◌≡◌, ℕ, ◌⊎◌, false, List, Option, Vec, String, drop, Result}
 use Rattle.std.specs.Prelude.{Ok, Err}
 use Rattle.std.specs.declared.alloc.Global.{Global}
 use Rattle.std.specs.declared.vec.IntoIter.{IntoIter}
@@ -8,14 +8,16 @@ use Rattle.std.specs.declared.io.ErrorKind.{ErrorKind}
 use Rattle.std.specs.declared.io.ErrorKind.TheVariants as errors
 use Rattle.std.specs.Vec.Iter.{into_iter_items}
 use Rattle.std.specs.IoError.{error_kind}
+use Rattle.bp_core.specs.declared.refusals.OutOfMemory.{OutOfMemory}
 use Rattle.bp_cli.specs.declared.stops.Stop.{Stop}
 use Rattle.bp_cli.specs.declared.stops.Stop.TheVariants as stops
 use Rattle.bp_cli.specs.Words.{word_bytes}
 use Rattle.bp_cli.specs.Endings.{status_of, text_of}
-use Rattle.bp_cli.specs.Commands.{command_of}
 use Rattle.bp_cli.specs.Printing.{Prints}
 use Rattle.bp_keep.specs.Keeper.{KeeperView}
 use Rattle.bp_keep_sql.specs.Keeper.{keeper_shown}
+use Rattle.bp_desk.specs.declared.history.Made.{Made}
+use Rattle.bp_outside.specs.Door.{DoorView}
 use Rattle.bp_outside.specs.Out.{OutView}
 use Rattle.sqlite.specs.Held.{Held}
 use Rattle.sqlite.specs.declared.error.Error.{Error as SqlError}
@@ -23,7 +25,8 @@ use Rattle.sqlite.specs.declared.error.Error.TheVariants as sqlite
 use Rattle.sqlite.specs.declared.error.ErrorCode.TheVariants as codes
 use Rattle.sqlite_trees.specs.declared.store.Store.{Ghosts}
 use Rattle.bp_outside.specs.Untold.{untold_source, untold_folder, untold_out}
-use Rattle.bp_cli.specs.Runs.{Outside, outside, Runs}
+use Rattle.bp_cli.specs.Runs.{Outside, outside}
+use Rattle.bp_cli.specs.Running.{LeavesDoors, Moment, RunsWords, moment}
 
 -- the words with the program's name, or the error of the system
 abbrev pub Answer : Type 0
@@ -46,18 +49,22 @@ TakesWords (Err error) (Ok words) = ⊥
 TakesWords (Err error) (Err stop) = stop ≡ arguments_stop (error_kind error)
 
 -- the work stopped before it began: nothing changed but what was printed
-pub record StopsAtOnce (stop : Stop) (before after : Outside) (status : ℕ) : Type 0 where
-  pub world : after.world ≡ before.world
-  pub printed : Prints (text_of (Err stop)) (status_of (Err stop)) before.out after.out status
+pub record StopsAtOnce {D : Type 0} (stop : Stop) (before : Moment D)
+    (history : Option (List Made)) (after : Moment D) (status : ℕ) : Type 0 where
+  pub world : after.outside.world ≡ before.outside.world
+  pub leaves : LeavesDoors before history after
+  pub printed : Prints (text_of (Err stop)) (status_of (Err stop)) before.outside.out
+      after.outside.out status
 
 -- what a run promises over the system's answer: what it promises of the words, unless memory to
 -- take them lacked; or that it stopped at once
-abbrev pub RunsArguments : Answer → Outside → Outside → ℕ → Type 0
-RunsArguments (Ok arguments) before after status =
-    Runs (command_of (word_bytes (words_after_name arguments))) before after status
-    ⊎ StopsAtOnce stops.OutOfMemory before after status
-RunsArguments (Err error) before after status =
-    StopsAtOnce (arguments_stop (error_kind error)) before after status
+abbrev pub RunsArguments : {D : Type 0} → (D → DoorView) → Answer → Moment D
+    → Option (List Made) → Moment D → ℕ → Type 0
+RunsArguments shows (Ok arguments) before history after status =
+    RunsWords shows (word_bytes (words_after_name arguments)) before history after status
+    ⊎ StopsAtOnce stops.OutOfMemory before history after status
+RunsArguments shows (Err error) before history after status =
+    StopsAtOnce (arguments_stop (error_kind error)) before history after status
 
 -- ---- the program
 
@@ -67,10 +74,12 @@ beginning keeper =
     outside (untold_source (record { faults = 0; absences = 0; overlong = 0 })) keeper
     (untold_folder false 0) (untold_out 0)
 
--- a run from there ended with this status
-pub record RunsFrom (answer : Answer) (keeper : KeeperView) (status : ℕ) : Type 0 where
-  pub after : Outside
-  pub runs : RunsArguments answer (beginning keeper) after status
+-- a run from there over these doors ended with this status
+pub record RunsFrom {D : Type 0} (shows : D → DoorView) (answer : Answer) (keeper : KeeperView)
+    (doors : List D) (status : ℕ) : Type 0 where
+  pub after : Moment D
+  pub history : Option (List Made)
+  pub runs : RunsArguments shows answer (moment (beginning keeper) doors) history after status
 
 -- why the program ends where its database can't be opened
 abbrev pub stop_unopened : SqlError → Stop
@@ -78,7 +87,7 @@ stop_unopened (sqlite.SqliteFailure codes.OutOfMemory) = stops.OutOfMemory
 stop_unopened _ = stops.KeeperFault
 
 -- nothing was done, and that was printed
-pub record EndsUnopened (stop : Stop) (status : ℕ) : Type 0 where
+pub record EndsStopped (stop : Stop) (status : ℕ) : Type 0 where
   pub out : OutView
   pub printed : Prints (text_of (Err stop)) (status_of (Err stop)) (untold_out 0) out status
 
@@ -93,8 +102,16 @@ opened_keeper store connection =
       commits = 0;
     })
 
+-- the program ends by a run over a keeper, or says that there was no memory for its doors
+abbrev pub EndsWithDoors : {D : Type 0} → (D → DoorView) → Answer → KeeperView
+    → Result (Vec D Global) OutOfMemory → ℕ → Type 0
+EndsWithDoors shows answer keeper (Ok doors) status =
+    RunsFrom shows answer keeper doors.items status
+EndsWithDoors shows answer keeper (Err lacked) status = EndsStopped stops.OutOfMemory status
+
 -- the program ends by a run over the database that was opened, or says that it wasn't
-abbrev pub EndsOpened : {A : Type 0} → Ghosts A → Answer → Result (Held A) SqlError → ℕ → Type 0
-EndsOpened store answer (Ok connection) status =
-    RunsFrom answer (opened_keeper store connection) status
-EndsOpened store answer (Err error) status = EndsUnopened (stop_unopened error) status
+abbrev pub EndsOpened : {A D : Type 0} → Ghosts A → (D → DoorView) → Answer
+    → Result (Held A) SqlError → Result (Vec D Global) OutOfMemory → ℕ → Type 0
+EndsOpened store shows answer (Ok connection) doors status =
+    EndsWithDoors shows answer (opened_keeper store connection) doors status
+EndsOpened store shows answer (Err error) doors status = EndsStopped (stop_unopened error) status

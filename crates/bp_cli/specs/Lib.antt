@@ -2,6 +2,7 @@ pub mod Arguments
 pub mod Burn
 pub mod Burning
 pub mod Commands
+pub mod Doors
 pub mod Endings
 pub mod Import
 pub mod Init
@@ -10,6 +11,9 @@ pub mod Press
 pub mod Printing
 pub mod Produce
 pub mod Producing
+pub mod Running
 pub mod Runs
+pub mod Serve
+pub mod Serving
 pub mod Stops
 pub mod Words

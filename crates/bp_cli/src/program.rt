@@ -1,12 +1,13 @@
 // The program over the system.
 ghost use Rattle.std.specs.Prelude.{◌≡◌};
-ghost use Rattle.bp_cli.specs.Arguments.{EndsOpened, EndsUnopened, RunsFrom, opened_keeper, stop_unopened};
+ghost use Rattle.bp_cli.specs.Arguments.{EndsOpened, EndsStopped, EndsWithDoors, RunsFrom, opened_keeper, stop_unopened};
 
+use crate::doors::Doors;
 use crate::printing::finish;
 use crate::run::run_arguments;
 use crate::stops::Stop;
 use bp_keep_sql::SqlKeeper;
-use bp_outside::{FileFolder, FileSource, StdOut};
+use bp_outside::{Door, FileFolder, FileSource, StdOut};
 use sqlite::{Alter, Connection, Error, ErrorCode};
 use std::alloc::Global;
 use std::env::Args;
@@ -45,19 +46,26 @@ pub fn hold_descriptors<S: Files>(system: &S) -> Descriptors<S::File> {
 
 /// The program, from the words that the system gave to the exit status: it keeps rows in the
 /// database that was opened, reads files below the current folder, writes files below the folder
-/// `out`, and prints to the standard output. Where no database could be opened, the program says
-/// so before it looks at the words, and ends with 6 for want of memory, else 5.
-pub fn program<S: Files + Print, T: Threads + Sync, A: Alter + Drop>(
+/// `out`, and prints to the standard output. Where no database could be opened, or no doors could
+/// be made, the program says so before it looks at the words, and ends with 6 for want of memory,
+/// else 5.
+pub fn program<
+    S: Files + Print,
+    T: Threads + Sync,
+    A: Alter + Drop,
+    D: Door + Send + Drop,
+>(
     system: &S,
     threads: &T,
     alloc: Global,
     opened: Result<Connection<A>, Error>,
+    doors: Doors<D>,
     answer: io::Result<Args>,
 ) -> Ran<A>
-    ensures { EndsOpened A.Store answer opened result.status }
+    ensures { EndsOpened A.Store D.shows answer opened doors result.status }
 {
     match opened {
-        Ok(connection) => over_database(system, threads, alloc, connection, answer),
+        Ok(connection) => with_doors(system, threads, alloc, connection, doors, answer),
         Err(error) => Ran {
             status: unopened(system, alloc, &error),
             connection: None,
@@ -65,14 +73,35 @@ pub fn program<S: Files + Print, T: Threads + Sync, A: Alter + Drop>(
     }
 }
 
-fn over_database<S: Files + Print, T: Threads + Sync, A: Alter + Drop>(
+fn with_doors<S: Files + Print, T: Threads + Sync, A: Alter + Drop, D: Door + Send + Drop>(
     system: &S,
     threads: &T,
     alloc: Global,
     connection: Connection<A>,
+    doors: Doors<D>,
     answer: io::Result<Args>,
 ) -> Ran<A>
-    ensures { RunsFrom answer (opened_keeper A.Store connection) result.status }
+    ensures { EndsWithDoors D.shows answer (opened_keeper A.Store connection) doors result.status }
+{
+    match doors {
+        Ok(doors) => over_database(system, threads, alloc, connection, doors, answer),
+        Err(lack) => Ran {
+            status: stopped(system, alloc, Stop::from(lack)),
+            connection: Some(connection),
+        },
+    }
+}
+
+fn over_database<S: Files + Print, T: Threads + Sync, A: Alter + Drop, D: Door + Send + Drop>(
+    system: &S,
+    threads: &T,
+    alloc: Global,
+    connection: Connection<A>,
+    doors: Vec<D>,
+    answer: io::Result<Args>,
+) -> Ran<A>
+    ensures { RunsFrom D.shows answer (opened_keeper A.Store connection) doors.items
+        result.status }
 {
     let mut source = FileSource::below(system, ".");
     let mut folder = FileFolder::below(system, "out");
@@ -85,19 +114,34 @@ fn over_database<S: Files + Print, T: Threads + Sync, A: Alter + Drop>(
         SqlKeeper::over(connection),
         &mut folder,
         &mut out,
+        doors,
     );
     Ran {
         status: ended.status,
-        connection: Some(ended.keeper.into_connection()),
+        connection: connection_of(ended.keeper),
+    }
+}
+
+fn connection_of<A: Alter + Drop>(keeper: Option<SqlKeeper<A>>) -> Option<Connection<A>> {
+    match keeper {
+        Some(keeper) => Some(keeper.into_connection()),
+        None => None,
     }
 }
 
 // Says that there is no database to work over.
 fn unopened<S: Print>(system: &S, alloc: Global, error: &Error) -> u8
-    ensures { EndsUnopened (stop_unopened error.now) result }
+    ensures { EndsStopped (stop_unopened error.now) result }
+{
+    stopped(system, alloc, stop_of(error))
+}
+
+// Says why nothing is done.
+fn stopped<S: Print>(system: &S, alloc: Global, stop: Stop) -> u8
+    ensures { EndsStopped stop result }
 {
     let mut out = StdOut::of(system);
-    finish(alloc, &mut out, Err(stop_of(error)))
+    finish(alloc, &mut out, Err(stop))
 }
 
 fn stop_of(error: &Error) -> Stop

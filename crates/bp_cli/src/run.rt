@@ -1,10 +1,13 @@
 // The top call.
-ghost use Rattle.std.specs.Prelude.{◌≡◌};
+ghost use Rattle.std.specs.Prelude.{◌≡◌, ◌<◌, IsSomeAnd, length};
 ghost use Rattle.bp_cli.specs.Words.{word_bytes};
 ghost use Rattle.bp_cli.specs.Commands.{command_of, ReadsAndWorks, ReadsAsOften};
 ghost use Rattle.bp_cli.specs.Endings.{world};
 ghost use Rattle.bp_cli.specs.Runs.{Runs, outside};
 ghost use Rattle.bp_cli.specs.Arguments.{RunsArguments};
+ghost use Rattle.bp_cli.specs.Running.{RunsWords, moment};
+ghost use Rattle.bp_cli.specs.Serve.{ServesOver, hall};
+ghost use Rattle.bp_cli.specs.Serving.{HandsOn};
 
 use crate::arguments::words_of;
 use crate::burn::burn_box;
@@ -14,28 +17,40 @@ use crate::init::make_matter;
 use crate::press::{log_kept, press_kept};
 use crate::printing::finish;
 use crate::produce::produce_volume;
+use crate::serve::{serve, serve_in};
+use crate::statuses::OUT_OF_MEMORY;
 use crate::stops::Stop;
 use bp_core::Bytes;
+use bp_desk::History;
 use bp_import::one_batch;
 use bp_keep::Keeper;
 use bp_matter::laws::rows_law;
-use bp_outside::{Folder, Out, Source};
+use bp_outside::{Door, Folder, Out, Source};
 use bp_tiff::one_answer;
 use std::alloc::Global;
 use std::env::Args;
 use std::io;
 use std::thread::Threads;
 
-/// How a run ended: its status, and the keeper that it was handed.
+/// How a run ended: its status, the keeper and the doors that it was handed, and what desks did.
 #[derive(Drop)]
-pub struct Ended<K> {
+pub struct Ended<K, D> {
     pub status: u8,
-    pub keeper: K,
+    pub keeper: Option<K>,
+    pub doors: Vec<D>,
+    pub history: Option<History>,
 }
 
 /// Carries out the command line that the system gave, the program's name before its words: see
 /// `run`.
-pub fn run_arguments<R: Threads + Sync, S: Source, K: Keeper, F: Folder, O: Out>(
+pub fn run_arguments<
+    R: Threads + Sync,
+    S: Source,
+    K: Keeper + Drop,
+    F: Folder,
+    O: Out,
+    D: Door + Send,
+>(
     rt: &R,
     alloc: Global,
     answer: io::Result<Args>,
@@ -43,52 +58,148 @@ pub fn run_arguments<R: Threads + Sync, S: Source, K: Keeper, F: Folder, O: Out>
     keeper: K,
     folder: &mut F,
     out: &mut O,
-) -> Ended<K>
+    doors: Vec<D>,
+) -> Ended<K, D>
     ensures { let before = outside (S.shows source.old) (K.shows keeper) (F.shows folder.old)
         (O.shows out.old) in
-        let after = outside (S.shows source.new) (K.shows result.keeper) (F.shows folder.new)
+        IsSomeAnd result.keeper (λ kept.
+        let after = outside (S.shows source.new) (K.shows kept) (F.shows folder.new)
         (O.shows out.new) in
-        RunsArguments answer before after result.status }
+        RunsArguments D.shows answer (moment before doors.items) result.history
+        (moment after result.doors.items) result.status) }
 {
     match words_of(alloc, answer) {
-        Ok(words) => run(rt, alloc, words.as_slice(), source, keeper, folder, out),
+        Ok(words) => run(
+            rt,
+            alloc,
+            words.as_slice(),
+            source,
+            keeper,
+            folder,
+            out,
+            doors,
+        ),
         Err(stop) => {
             let status = finish(alloc, out, Err(stop));
-            Ended { status, keeper }
+            Ended {
+                status,
+                keeper: Some(keeper),
+                doors,
+                history: None,
+            }
         }
     }
 }
 
 /// Carries out the command that the words are a line of: it reads from the source, loads the rows
-/// of the keeper and commits to it, writes to the folder and prints its line. The words don't have
-/// the program's name. The keeper is handed back. The status: 0 where all was done, 1 where the
-/// words are no command line, 2 where a rule is broken, 3 at a fault of the source, 4 of the
-/// folder, 5 of the keeper, 6 where memory ran out, 7 at a fault of the out. The runtime is for
-/// commands that serve.
-pub fn run<R: Threads + Sync, S: Source, K: Keeper, F: Folder, O: Out>(
+/// of the keeper and commits to it, writes to the folder, serves doors and prints its line. The
+/// words don't have the program's name. Keeper and doors are handed back, and where desks were
+/// served the history of their calls. The status: 0 where all was done, 1 where the words are no
+/// command line, 2 where a rule is broken, 3 at a fault of the source, 4 of the folder, 5 of the
+/// keeper, 6 where memory ran out, 7 at a fault of the out. The runtime is for commands that serve
+/// several doors at once.
+pub fn run<
+    R: Threads + Sync,
+    S: Source,
+    K: Keeper + Drop,
+    F: Folder,
+    O: Out,
+    D: Door + Send,
+>(
     _rt: &R,
+    alloc: Global,
+    words: &[String],
+    source: &mut S,
+    keeper: K,
+    folder: &mut F,
+    out: &mut O,
+    doors: Vec<D>,
+) -> Ended<K, D>
+    ensures runs { let before = outside (S.shows source.old) (K.shows keeper) (F.shows folder.old)
+        (O.shows out.old) in
+        IsSomeAnd result.keeper (λ kept.
+        let after = outside (S.shows source.new) (K.shows kept) (F.shows folder.new)
+        (O.shows out.new) in
+        RunsWords D.shows (word_bytes words.now) (moment before doors.items) result.history
+        (moment after result.doors.items) result.status) }
+    ensures reads { let command = command_of (word_bytes words.now) in
+        ReadsAsOften command (S.reads source.old) (S.reads source.new) }
+{
+    match serve_in(words, doors.len()) {
+        Some(connections) => serve_and_tell(alloc, connections, keeper, out, doors),
+        None => carry_out(alloc, words, source, keeper, folder, out, doors),
+    }
+}
+
+// Serves, and prints its line.
+fn serve_and_tell<K: Keeper + Drop, O: Out, D: Door>(
+    alloc: Global,
+    connections: u32,
+    keeper: K,
+    out: &mut O,
+    doors: Vec<D>,
+) -> Ended<K, D>
+    requires { 0 < length doors.items }
+    ensures { let before = hall (K.shows keeper) doors.items (O.shows out.old) in
+        IsSomeAnd result.keeper (λ kept.
+        let after = hall (K.shows kept) result.doors.items (O.shows out.new) in
+        ServesOver D.shows connections before result.history after result.status) }
+{
+    rows_law();
+    let served = serve(alloc, connections, keeper, doors);
+    let status = finish(alloc, out, served.ending);
+    Ended {
+        status,
+        keeper: Some(served.keeper),
+        doors: served.doors,
+        history: handed_on(status, served.history),
+    }
+}
+
+// The history, but where memory ran out.
+fn handed_on(status: u8, history: Option<History>) -> Option<History>
+    ensures { HandsOn status history result }
+{
+    if status == OUT_OF_MEMORY {
+        None
+    } else {
+        history
+    }
+}
+
+// Carries out each other command.
+fn carry_out<S: Source, K: Keeper, F: Folder, O: Out, D>(
     alloc: Global,
     words: &[String],
     source: &mut S,
     mut keeper: K,
     folder: &mut F,
     out: &mut O,
-) -> Ended<K>
+    doors: Vec<D>,
+) -> Ended<K, D>
     ensures runs { let command = command_of (word_bytes words.now) in
         let before = outside (S.shows source.old) (K.shows keeper) (F.shows folder.old)
         (O.shows out.old) in
-        let after = outside (S.shows source.new) (K.shows result.keeper) (F.shows folder.new)
+        IsSomeAnd result.keeper (λ kept.
+        let after = outside (S.shows source.new) (K.shows kept) (F.shows folder.new)
         (O.shows out.new) in
-        Runs command before after result.status }
+        Runs command before after result.status) }
     ensures reads { let command = command_of (word_bytes words.now) in
         ReadsAsOften command (S.reads source.old) (S.reads source.new) }
+    ensures doors { result.doors ≡ doors }
+    ensures history { result.history ≡ None }
 {
     one_answer();
     one_batch();
     rows_law();
     let ending = work(alloc, words, source, &mut keeper, folder);
     let status = finish(alloc, out, ending);
-    Ended { status, keeper }
+    Ended {
+        status,
+        keeper: Some(keeper),
+        doors,
+        history: None,
+    }
 }
 
 fn work<S: Source, K: Keeper, F: Folder>(

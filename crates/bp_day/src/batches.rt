@@ -110,8 +110,8 @@ impl Files {
         constant(self.alloc, "")
     }
 
-    // A source of these files, whose reads of these numbers fail.
-    fn source(&self, failing: NumberList) -> Result<Option<MemSource>> {
+    /// A source of these files, whose reads of these numbers fail.
+    pub fn source(&self, failing: NumberList) -> Result<Option<MemSource>> {
         let mut rows = Vec::new(self.alloc);
         for row in &self.rows {
             rows.push(row.clone()?)?;

@@ -1,5 +1,6 @@
 // A matter with its keeper, and what lies ready for lines.
 use crate::batches::Files;
+use crate::commands::Outside;
 use crate::given::Given;
 use crate::presses::Shelf;
 use anyhow::{Result, bail};
@@ -10,7 +11,7 @@ use bp_rules::{RunStep, begin};
 use std::alloc::Global;
 
 /// A matter with its keeper; the rows as they were marked; the rows and files that are given; what
-/// waits to be put, or to be asked in one run; and the files that were pressed.
+/// waits to be put, or to be asked in one run; the files that were pressed; and what the next command line meets outside.
 #[derive(Drop)]
 pub struct Day {
     pub(crate) alloc: Global,
@@ -22,6 +23,7 @@ pub struct Day {
     pub(crate) given: Given,
     pub(crate) files: Files,
     pub(crate) pressed: Shelf,
+    pub(crate) outside: Outside,
 }
 
 impl Day {
@@ -41,6 +43,7 @@ impl Day {
             given: Given::new(alloc),
             files: Files::new(alloc),
             pressed: Shelf::new(alloc),
+            outside: Outside::new(alloc),
         })
     }
 }

@@ -6,7 +6,7 @@
 //     long WORD..              the line of these words, and how many bytes what is told has
 use crate::day::Day;
 use crate::told::{constant, unread};
-use crate::{asked, batches, keeping, looked_up, presses};
+use crate::{asked, batches, commands, keeping, looked_up, presses};
 use anyhow::Result;
 use bp_script::{Tally, Words};
 use std::alloc::Global;
@@ -65,6 +65,9 @@ fn of_verb(day: &mut Day, verb: &str, words: &mut Words) -> Option<Result<String
         return Some(told);
     }
     if let Some(told) = looked_up::told(day, verb, words) {
+        return Some(told);
+    }
+    if let Some(told) = commands::told(day, verb, words) {
         return Some(told);
     }
     batches::told(day, verb, words)

@@ -46,6 +46,11 @@ impl Shelf {
             manifest: [0; 32],
         }
     }
+
+    /// This folder is the one that was pressed into.
+    pub fn lay(&mut self, folder: MemFolder) {
+        self.folder = folder;
+    }
 }
 
 pub fn told(day: &mut Day, verb: &str, words: &mut Words) -> Option<Result<String>> {

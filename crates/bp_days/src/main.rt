@@ -4,9 +4,10 @@
 #![tactic(auto)]
 
 use anyhow::Result;
-use bp_day::{Day, make};
+use bp_day::{Day, carry_out, make};
 use bp_script::Tally;
 use std::rt::Files;
+use std::thread::Threads;
 use std::{env, fs};
 
 fn main(rt: HostRuntime) -> Result<()> {
@@ -16,7 +17,11 @@ fn main(rt: HostRuntime) -> Result<()> {
 }
 
 // The first word is the program's name.
-fn take_files<R: Files + Alloc + Print>(rt: &R, day: &mut Day, words: &[String]) -> Result<()> {
+fn take_files<R: Files + Alloc + Print + Threads + Sync>(
+    rt: &R,
+    day: &mut Day,
+    words: &[String],
+) -> Result<()> {
     let mut tally = Tally::new();
     for file in words.iter().skip(1) {
         take_file(rt, day, &mut tally, file.as_str())?;
@@ -25,7 +30,7 @@ fn take_files<R: Files + Alloc + Print>(rt: &R, day: &mut Day, words: &[String])
 }
 
 // Does what the lines of a file ask for.
-fn take_file<R: Files + Alloc + Print>(
+fn take_file<R: Files + Alloc + Print + Threads + Sync>(
     rt: &R,
     day: &mut Day,
     tally: &mut Tally,
@@ -35,9 +40,17 @@ fn take_file<R: Files + Alloc + Print>(
     let text = fs::read_to_string(rt, file)?;
     for line in text.as_str().lines() {
         if let Some(case) = tally.take(line) {
-            let told = make(day, case.asked)?;
+            let told = tell(rt, day, case.asked)?;
             tally.hear(rt, file, told.as_str(), case.wanted)?;
         }
     }
     Ok(())
+}
+
+// Command lines alone need the runtime.
+fn tell<R: Threads + Sync>(rt: &R, day: &mut Day, asked: &str) -> Result<String> {
+    match asked.split_once("tivrenan") {
+        Some(("", words)) => carry_out(rt, day, words.trim_start()),
+        _ => make(day, asked),
+    }
 }

@@ -4,6 +4,7 @@ use Rattle.bp_core.specs.Counts.{risen}
 use Rattle.bp_core.specs.declared.rules.Rule.{Rule}
 use Rattle.bp_keep.specs.Keeper.{KeeperView}
 use Rattle.bp_matter.specs.Matter.{Shown}
+use Rattle.bp_matter.specs.Valid.{IsValid}
 use Rattle.bp_matter.specs.declared.calls.Reply.{Reply}
 use Rattle.bp_rules.specs.Loading.{LoadsTables}
 use Rattle.bp_rules.specs.Steps.{AtMostOnce}
@@ -15,10 +16,11 @@ use Rattle.bp_desk.specs.declared.history.Made.{Made}
 use Rattle.bp_desk.specs.declared.refusals.DeskRefusal.{DeskRefusal}
 use Rattle.bp_desk.specs.declared.refusals.DeskRefusal.TheVariants as refusals
 
--- a book over what was loaded of a keeper, with no call yet
+-- a book over what was loaded of a keeper, a valid matter, with no call yet
 pub record Opens (keeper : KeeperView) (room : ℕ) (book : BookView) : Type 0 where
   pub tables : Shown
   pub opening : tables.matter ≡ book.opening
+  pub valid : IsValid book.opening
   pub loaded : LoadsTables keeper (Ok tables) book.keeper
   pub journal : book.journal ≡ []
   pub roomy : book.room ≡ room

@@ -72,6 +72,7 @@ impl<K: Keeper> Book<K> {
         let mut keeper = keeper;
         match load_tables(alloc, &mut keeper) {
             Ok(tables) => {
+                tables.know_valid();
                 let opening = Snapshot::of(&tables);
                 Ok(Book {
                     tables,

@@ -1,21 +1,25 @@
-use Rattle.bp_cli.proofs.AlikeLemmas.{Laws, one_outcome, some_outcome, told_outcome, outcome_alike}
-use Rattle.bp_cli.proofs.RunLemmas.{runs}
+use Rattle.std.proofs.Common.{sym, ap, ◌∙◌, length}
+use Rattle.bp_cli.specs.Commands.{command_of}
+use Rattle.bp_cli.specs.Serve.{serve_of}
+use Rattle.bp_cli.specs.Words.{word_bytes}
+use Rattle.bp_cli.proofs.RunningLemmas.{asked_else, asked_to_serve}
+use Rattle.bp_cli.proofs.WorkLemmas.{never_read}
 use Rattle.bp_cli.proofs.run.run.Goals as goal
 
-pub returns-clause-runs : goal.returns-clause-runs
-returns-clause-runs g c =
-    let laws : Laws = record {
-      one = c.one_answer.ensures.only;
-      some = c.one_answer.ensures.some;
-      rows = c.rows_law.ensures;
-      one_batch = c.one_batch.ensures.only;
-      some_batch = c.one_batch.ensures.some;
-    } in
-    runs (record { one = one_outcome laws; some = some_outcome laws; told = told_outcome; two = outcome_alike laws })
-    _ _ _ c.finish-status.result c.work-ending.result c.work-ending.ensures.works c.finish-status.ensures
-    (record {
-      source = g.met.S.Source.unfailing c.work-ending.new.source;
-      keeper = g.met.K.Keeper.unfailing c.work-ending.new.keeper;
-      folder = g.met.F.Folder.unfailing c.work-ending.new.folder;
-      out = g.met.O.Out.unfailing c.finish-status.new.out;
-    })
+pub returns-in-Some-clause-runs : goal.returns-in-Some-clause-runs
+returns-in-Some-clause-runs g c =
+    asked_to_serve g.D.Door.shows g.K.Keeper.shows _ (command_of (word_bytes c.args.words.now)) c.in-Some.connections c.serve_and_tell.result.keeper
+    (g.S.Source.shows c.args.source.now) _ (g.F.Folder.shows c.args.folder.now) _ _ _ _ _ _
+    (sym c.in-Some.is ∙ c.serve_in.ensures.is ∙ ap (λ n. serve_of n (word_bytes c.args.words.now)) c.len.ensures)
+    c.serve_and_tell.ensures
+
+pub returns-in-None-clause-runs : goal.returns-in-None-clause-runs
+returns-in-None-clause-runs g c =
+    asked_else g.D.Door.shows _ (command_of (word_bytes c.args.words.now)) c.carry_out.result.keeper _ _ _ _ _ _
+    (sym c.in-None.is ∙ c.serve_in.ensures.is ∙ ap (λ n. serve_of n (word_bytes c.args.words.now)) c.len.ensures)
+    (ap (λ v. v.items) c.carry_out.ensures.doors)
+    c.carry_out.ensures.history
+    c.carry_out.ensures.runs
+
+pub returns-in-Some-clause-reads : goal.returns-in-Some-clause-reads
+returns-in-Some-clause-reads g c = never_read (command_of (word_bytes c.args.words.now)) (g.S.Source.reads c.args.source.now)

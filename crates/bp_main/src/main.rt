@@ -1,28 +1,11 @@
 //! The program: one command of the production press. It reads files below the current folder,
-//! keeps the rows of a matter in the database `matter.db`, writes files below the folder `out`, and
-//! prints its line. Begin at `run`, whose contract promises `Runs`, and `program`, which carries it
-//! out over the system.
+//! keeps the rows of a matter in the database `matter.db`, writes files below the folder `out`,
+//! serves desks at ports of this machine, and prints its line. All that it does is `program` of
+//! bp_cli.
 #![tactic(auto)]
 
-mod arguments;
-mod burn;
-mod commands;
-mod import;
-mod init;
-mod operands;
-mod press;
-mod printing;
-mod produce;
-mod program;
-mod run;
-mod statuses;
-mod stops;
-#[cfg(test)]
-mod tests;
-mod volumes;
-mod words;
-
-use program::{MATTER, hold_descriptors, program};
+use bp_cli::doors::doors_of;
+use bp_cli::program::{MATTER, hold_descriptors, program};
 use sqlite::{Connection, File, FileStore};
 use std::env;
 use std::process::ExitCode;
@@ -30,7 +13,8 @@ use std::process::ExitCode;
 fn main(rt: HostRuntime) -> ExitCode {
     let _held = hold_descriptors(&rt);
     let opened = Connection::open(&rt, MATTER);
-    let ran = program(&rt, &rt, rt.alloc(), opened, env::args(&rt));
+    let doors = doors_of(&rt, rt.alloc());
+    let ran = program(&rt, &rt, rt.alloc(), opened, doors, env::args(&rt));
     close(ran.connection);
     ExitCode::from(ran.status)
 }

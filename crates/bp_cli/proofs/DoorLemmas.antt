@@ -1,0 +1,11 @@
+-- Lemmas of the doors: the ports with one more.
+use Rattle.std.proofs.Common.{ℕ, suc, ◌+◌, ◌≡◌, List, [], ◌∷◌, ◌++◌, refl, sym, ap, subst, ◌∙◌, arith}
+use Rattle.bp_outside.specs.declared.system.tcp_door.TheConstants.{BASE_PORT}
+use Rattle.bp_cli.specs.Doors.{ports_to}
+
+pub one_more : (desk : ℕ) (ports : List ℕ) (port : ℕ) → ports ≡ ports_to desk → port ≡ BASE_PORT + (desk + 1) → ports ++ port ∷ [] ≡ ports_to (desk + 1)
+one_more desk ports port is at =
+    let next : suc desk ≡ desk + 1 = omega arith in
+    let here : port ≡ BASE_PORT + suc desk = omega (arith, at, next) in
+    subst (λ n. ports ++ port ∷ [] ≡ ports_to n) next
+    (ap (λ ps. ps ++ port ∷ []) is ∙ ap (λ p. ports_to desk ++ p ∷ []) here)

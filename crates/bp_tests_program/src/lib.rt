@@ -1,0 +1,12 @@
+//! Tests of the commands where no line of `bp_days` reaches: the program over a system of the tests'
+//! own, and the top call over a database in memory.
+#![tactic(auto)]
+
+#[cfg(test)]
+mod databases;
+#[cfg(test)]
+mod page_file;
+#[cfg(test)]
+mod programs;
+#[cfg(test)]
+mod stage;

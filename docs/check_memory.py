@@ -11,6 +11,7 @@ TOP = pathlib.Path(__file__).resolve().parent.parent
 
 # file, function: why the answer is made there
 MADE = {
+    ("bp_desk/src/book.rt", "call"): "the copy of the call, or room for it in the journal, was refused",
     ("bp_freeze/src/log.rt", "bytes_of"): "csv's writer answers an error, which in memory is want of memory",
     ("bp_freeze/src/log.rt", "put_line"): "csv's writer answers an error, which in memory is want of memory",
     ("bp_matter/src/shared_page.rt", "new"): "Arc's own error",

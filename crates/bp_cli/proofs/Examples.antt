@@ -31,9 +31,11 @@ use Rattle.bp_cli.specs.Runs.{all_statuses}
 use Rattle.bp_cli.specs.declared.burn.TheConstants.{FILE_LIMIT}
 use Rattle.bp_cli.specs.declared.init.TheConstants.{DIGEST_BYTES}
 use Rattle.bp_cli.specs.declared.produce.TheConstants.{MAX_WIDTH_WORD, REQUEST_WORDS}
+use Rattle.bp_cli.specs.declared.serve.TheConstants.{MAX_CONNECTIONS, MAX_DESKS, SERVE_WORDS}
 use Rattle.bp_cli.specs.declared.statuses.TheConstants.{DONE, WORDS_REFUSED, RULE_BROKEN, SOURCE_FAULT, FOLDER_FAULT, KEEPER_FAULT, OUT_OF_MEMORY, OUT_FAULT}
 use Rattle.bp_cli.specs.declared.words.TheConstants.{MAX_DIGITS}
 use Rattle.bp_cli.specs.Produce.{width_of}
+use Rattle.bp_cli.specs.Serve.{serve_of}
 
 -- ---- words
 
@@ -289,3 +291,29 @@ greatest_width = refl
 
 widths : (width_of (codes "255") ≡ Some 255) × (width_of (codes "256") ≡ None)
 widths = (refl, refl)
+
+-- ---- serve
+
+serve_five : serve_of 16 (codes "serve" ∷ codes "1" ∷ codes "5" ∷ []) ≡ Some 5
+serve_five = refl
+
+serve_two_desks : serve_of 16 (codes "serve" ∷ codes "2" ∷ codes "5" ∷ []) ≡ None
+serve_two_desks = refl
+
+serve_at_no_door : serve_of 0 (codes "serve" ∷ codes "1" ∷ codes "5" ∷ []) ≡ None
+serve_at_no_door = refl
+
+serve_nobody : serve_of 16 (codes "serve" ∷ codes "1" ∷ codes "0" ∷ []) ≡ None
+serve_nobody = refl
+
+serve_is_no_other_command : command_of (codes "serve" ∷ codes "1" ∷ codes "5" ∷ []) ≡ None
+serve_is_no_other_command = refl
+
+serve_words : SERVE_WORDS ≡ 3
+serve_words = refl
+
+most_desks : MAX_DESKS ≡ 1
+most_desks = refl
+
+most_connections : MAX_CONNECTIONS ≡ 1000000
+most_connections = refl

@@ -34,9 +34,10 @@ use Rattle.bp_cli.proofs.KeptLemmas.{keeps_matter, kept_rule, load_left, read_it
 refused_ends : {D : Type 0} (shows : D → DoorView) (connections : ℕ) (before mid : KeeperView) (doors : List D) (out out' : OutView) (why : MatterRefusal) (stop : Stop) → LoadsTables before (Err why) mid → StopsForMatter why stop
     → ServeEnds shows connections (with_read mid.rows (hall before doors out)) (Err stop) None (hall mid doors out')
 refused_ends {D} shows connections before mid doors out out' (refusals.Rule rule) stop loaded is =
-    subst (λ (x : Stop). ServeEnds shows connections (with_read mid.rows (hall before doors out)) (Err x) None (hall mid doors out')) (sym is)
-    ( record { loaded = loaded.rule; kept = kept_rule mid.rows rule loaded.told_after }
-    , record { doors = refl; none = refl; keeper = load_left before mid (Err (refusals.Rule rule)) before.faults loaded loaded.faults })
+    subst (λ (x : Stop). ServeEnds shows connections (with_read mid.rows (hall before doors out)) (Err x) None (hall mid doors out')) (sym is) (
+      record { loaded = loaded.rule; kept = kept_rule mid.rows rule loaded.told_after },
+      record { doors = refl; none = refl; keeper = load_left before mid (Err (refusals.Rule rule)) before.faults loaded loaded.faults },
+    )
 refused_ends {D} shows connections before mid doors out out' refusals.KeeperFault stop loaded is =
     subst (λ (x : Stop). ServeEnds shows connections (with_read mid.rows (hall before doors out)) (Err x) None (hall mid doors out')) (sym is)
     (record { doors = refl; none = refl; keeper = load_left before mid (Err refusals.KeeperFault) _ loaded loaded.faults })

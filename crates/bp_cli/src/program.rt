@@ -49,12 +49,7 @@ pub fn hold_descriptors<S: Files>(system: &S) -> Descriptors<S::File> {
 /// `out`, and prints to the standard output. Where no database could be opened, or no doors could
 /// be made, the program says so before it looks at the words, and ends with 6 for want of memory,
 /// else 5.
-pub fn program<
-    S: Files + Print,
-    T: Threads + Sync,
-    A: Alter + Drop,
-    D: Door + Send + Drop,
->(
+pub fn program<S: Files + Print, T: Threads + Sync, A: Alter + Drop, D: Door + Send + Drop>(
     system: &S,
     threads: &T,
     alloc: Global,

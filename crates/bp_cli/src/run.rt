@@ -98,14 +98,7 @@ pub fn run_arguments<
 /// command line, 2 where a rule is broken, 3 at a fault of the source, 4 of the folder, 5 of the
 /// keeper, 6 where memory ran out, 7 at a fault of the out. The runtime is for commands that serve
 /// several doors at once.
-pub fn run<
-    R: Threads + Sync,
-    S: Source,
-    K: Keeper + Drop,
-    F: Folder,
-    O: Out,
-    D: Door + Send,
->(
+pub fn run<R: Threads + Sync, S: Source, K: Keeper + Drop, F: Folder, O: Out, D: Door + Send>(
     _rt: &R,
     alloc: Global,
     words: &[String],

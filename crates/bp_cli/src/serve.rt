@@ -37,7 +37,12 @@ pub fn serve_in(words: &[String], doors: usize) -> Option<u32>
     if words.len() != SERVE_WORDS {
         return None;
     }
-    serve_named(words[0].as_str(), words[1].as_str(), words[2].as_str(), doors)
+    serve_named(
+        words[0].as_str(),
+        words[1].as_str(),
+        words[2].as_str(),
+        doors,
+    )
 }
 
 fn serve_named(name: &str, desks: &str, connections: &str, doors: usize) -> Option<u32>

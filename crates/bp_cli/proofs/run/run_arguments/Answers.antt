@@ -3,7 +3,7 @@ use Rattle.bp_cli.proofs.ArgumentLemmas.{stopped_at_once, took_words}
 use Rattle.bp_cli.proofs.run.run_arguments.Goals as goal
 
 pub returns-in-Ok : goal.returns-in-Ok
-returns-in-Ok g c = took_words g.D.Door.shows c.args.answer c.in-Ok.words c.run.result.keeper _ _ _ c.run.result.status c.in-Ok.ensures c.run.ensures.runs
+returns-in-Ok g c = took_words g.D.Door.shows c.args.answer c.in-Ok.words c.as_slice.result.now c.run.result.keeper _ _ _ c.run.result.status c.in-Ok.ensures c.as_slice.ensures.value c.run.ensures.runs
 
 pub returns-in-Err : goal.returns-in-Err
 returns-in-Err g c =

@@ -5,8 +5,6 @@
 #[cfg(test)]
 mod adapters;
 #[cfg(test)]
-mod at_size;
-#[cfg(test)]
 mod disk;
 #[cfg(test)]
 mod doors;

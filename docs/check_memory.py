@@ -24,7 +24,7 @@ MADE = {
     ("bp_rules/src/steps.rt", "make"): "room for a change was refused",
     ("bp_text/src/word_files.rt", "read_record"): "csv's reader answers an error, which in memory is want of memory",
     ("bp_web/src/members.rt", "object_in"): "serde_json's own kind of error says that memory ran out",
-    ("bp_web/src/requests.rt", "read"): "the router could not be made for want of memory",
+    ("bp_web/src/requests.rt", "read_request"): "the router could not be made for want of memory",
     ("bp_web/src/requests.rt", "asked_in"): "the call of a body was refused, which wants memory alone",
     ("bp_web/src/router.rt", "add"): "matchit refused a route of the fixed table, which it does for want of memory",
 }

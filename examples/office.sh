@@ -1,12 +1,17 @@
 #!/bin/sh
-# A small office's commands, one process each, over one matter that stays: `init`, `import`, `produce`, `press`, `log`. The
-# kept rows stand in matter.db below examples/out/office. No desk takes calls yet, so that nothing is decided, and
-# `produce` is refused with its rule. Then Debian's sqlite3 tests the database and lists its rows by kind.
-# Needs rt on PATH where the program isn't built, and sqlite3.
+# A small office's day, from a batch to a checked volume, over one matter that stays in matter.db below examples/out/office:
+# the lead makes the matter and takes the batch CVI_001 in; a desk is opened; by curl the lead takes in a reviewer and one
+# who confirms, the reviewer looks at a page and decides each document, and a second person confirms; a call that isn't
+# allowed is refused. Then `produce` freezes the decisions and writes the volume VOL001, check_volume.py opens it by other
+# programs, and Debian's sqlite3 tests the database. Each command is a process of its own.
+# Needs rt on PATH where the program isn't built; curl, python3, and Debian's sqlite3, libtiff-tools and netpbm.
 set -eu
 here=$(CDPATH='' cd -- "$(dirname -- "$0")" && pwd)
-command -v sqlite3 > /dev/null || { echo "office.sh: needs sqlite3 (Debian's package)" >&2; exit 1; }
-"$here/../tivrenan" build
+for tool in curl python3 sqlite3 tifftopnm; do
+    command -v "$tool" > /dev/null || { echo "office.sh: needs $tool" >&2; exit 1; }
+done
+tivrenan=$here/../tivrenan
+"$tivrenan" build
 
 room=$here/out/office
 rm -rf "$room"
@@ -14,38 +19,129 @@ mkdir -p "$room"
 ln -s "$here/CVI_001" "$room/CVI_001"
 cd "$room"
 
-failed=0
-# status, printed line, words
+stop() { echo "office.sh: $1" >&2; exit 1; }
+
+# status, printed line (as a pattern), words
 run() {
     wanted=$1 line=$2
     shift 2
     echo "\$ tivrenan $*"
     status=0
-    told=$("$here/../tivrenan" "$@" 2> /dev/null) || status=$?
+    told=$("$tivrenan" "$@" 2> /dev/null) || status=$?
     echo "$told"
-    if [ "$status" -ne "$wanted" ] || [ "$told" != "$line" ]; then
-        echo "office.sh: ended with $status, and not with $wanted and '$line'" >&2
-        failed=1
-    fi
+    # shellcheck disable=SC2254 # the line is a pattern
+    case $status,$told in "$wanted",$line) ;; *) stop "ended with $status, and not with $wanted and '$line'" ;; esac
 }
 
-key=$(printf 'the key of the lead' | sha256sum | cut -c1-64)
+lead='the key of the lead' reviewer='the key of Ellis' second='the key of Marlow'
+digest() { printf %s "$1" | sha256sum | cut -c1-64; }
+
+# The desk takes so many connections, each with one request, and then ends.
+port=48201 connections=26 desk=
+trap '[ -z "$desk" ] || kill "$desk" 2> /dev/null || :' EXIT
+
+# status and body that are due, key, what curl is given more: method and target, and the body of a POST
+ask() {
+    wanted=$1 due=$2 key=$3 method=$4 target=$5
+    shift 5
+    body=${1-}
+    echo "$method $target $body"
+    set -- -s --retry 20 --retry-connrefused --retry-delay 1 -H "Desk-Key: $key" -w '\n%{http_code}'
+    case $method in POST) set -- "$@" --data-binary "$body" ;; esac
+    told=$(curl "$@" "http://127.0.0.1:$port$target") || stop "no reply"
+    echo "    $(echo "$told" | tail -n 1) $(echo "$told" | sed '$d')"
+    [ "$told" = "$due
+$wanted" ] || stop "what was due: $wanted $due"
+}
+done='{"done":true}'
+
+# document, responsive, treatment, designation
+decide() {
+    ask 200 "$done" "$reviewer" POST "/docs/$1/call" "{\"responsive\":$2,\"treatment\":\"$3\",\"designation\":\"$4\"}"
+}
+
+# document, number, page, left, top, width, height, basis
+box() {
+    ask 200 "$done" "$reviewer" POST "/docs/$1/box" \
+        "{\"num\":$2,\"page\":$3,\"left\":$4,\"top\":$5,\"width\":$6,\"height\":$7,\"basis\":\"$8\"}"
+}
+
+# document, date, author, recipients, description
+entry() {
+    ask 200 "$done" "$reviewer" POST "/docs/$1/entry" \
+        "{\"date\":\"$2\",\"author\":\"$3\",\"recipients\":\"$4\",\"description\":\"$5\"}"
+}
+
 run 2 'refused 43 NoMatter 0 0 0' import CVI_001
-run 0 'matter made' init "$key"
-run 2 'refused 42 MatterThere 0 0 0' init "$key"
-run 0 'batch CVI_001 documents 12 pages 31' import CVI_001
+run 0 'matter made' init "$(digest "$lead")"
+run 2 'refused 42 MatterThere 0 0 0' init "$(digest "$lead")"
 run 0 'batch CVI_001 documents 12 pages 31' import CVI_001
 run 2 'refused 26 Unsettled 0 1 0' produce R-1 VOL001 ABC 8 1 12 AUTHOR
-run 2 'refused 33 NoProduction 0 0 0' press R-1
-run 2 'refused 33 NoProduction 0 0 0' log R-1
+
+echo "\$ tivrenan serve 1 $connections"
+"$tivrenan" serve 1 "$connections" > served 2> /dev/null &
+desk=$!
+
+ask 200 '{"staff":2}' "$lead" POST /staff "{\"name\":\"Ellis\",\"role\":\"Reviewer\",\"digest\":\"$(digest "$reviewer")\"}"
+ask 200 '{"staff":3}' "$lead" POST /staff "{\"name\":\"Marlow\",\"role\":\"Second\",\"digest\":\"$(digest "$second")\"}"
+
+# a document as it came in, and its first page, pixel by pixel
+uncalled='"designation":"","doc":3,"editor":0,"entry":null,"held":[],"pages":5,"parent":1,"responsive":false,"treatment":"Produce"'
+ask 200 "{\"boxes\":[],\"confirmer\":0,$uncalled}" "$reviewer" GET /docs/3
+echo 'GET /docs/3/pages/1'
+curl -s -H "Desk-Key: $reviewer" "http://127.0.0.1:$port/docs/3/pages/1" > seen.tif
+scan=CVI_001/$(awk -F , '$4 == "Y" { doc++ } doc == 3 { gsub(/\\/, "/", $3); print $3; exit }' CVI_001/load.opt)
+tifftopnm "$scan" > scan.pnm 2> /dev/null
+tifftopnm seen.tif 2> /dev/null | cmp - scan.pnm || stop "the page isn't the scan"
+echo '    the page as it was scanned'
+
+# the letter that asks counsel for advice, the list with an address and an illness, the note that tells what counsel
+# advised; two papers have nothing to do with the dispute
+decide 1 true Produce ''
+decide 2 true Produce ''
+decide 3 true Withhold-AC CONFIDENTIAL
+decide 4 true Produce ''
+decide 5 true Redact ''
+decide 6 true Produce ''
+decide 7 false Produce ''
+decide 8 false Produce ''
+decide 9 true Produce ''
+decide 10 true Redact ''
+decide 11 true Produce ''
+decide 12 true Produce ''
+box 5 1 1 1420 460 680 60 PI
+box 5 2 1 325 950 1900 180 PI
+box 10 1 2 430 662 1690 670 AC
+ask 200 "$done" "$reviewer" POST /docs/5/hold '{"field":"AUTHOR","basis":"PI"}'
+entry 3 2019-03-04 Ng 'Ortiz, Berg' 'Letter asking counsel for advice on the lease'
+entry 10 2019-05-02 Berg Ng 'Note quoting counsel'
+
+# a reviewer may not confirm, a second person may
+ask 403 '{"a":0,"b":0,"line":0,"name":"RoleRefused","rule":12}' "$reviewer" POST /docs/3/confirm '{}'
+ask 200 "$done" "$second" POST /docs/3/confirm '{}'
+ask 200 "$done" "$second" POST /docs/5/confirm '{}'
+ask 200 "$done" "$second" POST /docs/10/confirm '{}'
+
+wait "$desk" || stop "the desk ended with $?"
+desk=
+cat served
+[ "$(cat served)" = "served $connections" ] || stop "the desk took another number of calls"
+
+volume='production R-1 labels ABC00000001 to ABC00000023 files 37 manifest '
+run 0 "$volume*" produce R-1 VOL001 ABC 8 1 12 AUTHOR
+line=$told
+[ "${line#"$volume"}" = "$(sha256sum < out/VOL001/MANIFEST.TXT | cut -c1-64)" ] || stop "the manifest has another digest"
+"$here/check_volume.py" out
+run 0 "$line" press R-1
+run 0 '*Note quoting counsel*' log R-1
 
 echo '$ sqlite3 matter.db'
-[ "$(sqlite3 matter.db 'PRAGMA integrity_check')" = ok ] || { echo "office.sh: the database isn't whole" >&2; failed=1; }
+[ "$(sqlite3 matter.db 'PRAGMA integrity_check')" = ok ] || stop "the database isn't whole"
 names='member of the staff,field,document,page,call,box,held field,log entry,prefix,production,batch,words of a page'
 sqlite3 -separator ' ' matter.db 'SELECT count(*), kind FROM kept GROUP BY kind ORDER BY kind' | while read -r count kind; do
     echo "$count rows of kind $kind: $(echo "$names" | cut -d, -f"$kind")"
 done
 rows=$(sqlite3 matter.db 'SELECT group_concat(n) FROM (SELECT count(*) AS n FROM kept GROUP BY kind ORDER BY kind)')
-[ "$rows" = "$(sqlite3 matter.db "SELECT '1,' || count(*) FROM kept WHERE kind = 2"),12,31,1,31" ] ||
-    { echo "office.sh: other rows than those of one lead, the fields, 12 documents, 31 pages, a batch and their words: $rows" >&2; failed=1; }
-[ "$failed" -eq 0 ]
+fields=$(sqlite3 matter.db 'SELECT count(*) FROM kept WHERE kind = 2')
+[ "$rows" = "3,$fields,12,31,12,3,1,2,1,1,1,31" ] || stop "other rows than were decided: $rows"
+echo 'the volume stands in examples/out/office/out/VOL001, and is as it should be'

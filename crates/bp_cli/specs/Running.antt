@@ -37,7 +37,7 @@ pub record RunsCommand {D : Type 0} (command : Option CommandLine) (before : Mom
   pub runs : Runs command before.outside after.outside status
   pub leaves : LeavesDoors before history after
 
--- by whether the words ask to serve
+-- what a run of words promises: where they ask to serve, and else
 abbrev pub RunsAsked : {D : Type 0} → (D → DoorView) → Option ℕ → Option CommandLine → Moment D
     → Option (List Made) → Moment D → ℕ → Type 0
 RunsAsked shows (Some connections) command before history after status =

@@ -3,6 +3,7 @@
 //     repeat FROM TO WORD..    the line of these words for each number, and what is told of the last: `#` stands
 //                              for the number, `#4` for it in four digits, `#x4` and `#x5` for the hexadecimal
 //                              digits of four and five digits, and `#le` for its four bytes, the lowest first
+//     long WORD..              the line of these words, and how many bytes what is told has
 use crate::day::Day;
 use crate::told::{constant, unread};
 use crate::{asked, batches, commands, keeping, looked_up, presses};
@@ -14,6 +15,7 @@ use std::alloc::Global;
 pub fn make(day: &mut Day, line: &str) -> Result<String> {
     match line.split_once(" ") {
         Some(("repeat", rest)) => repeat(day, rest),
+        Some(("long", rest)) => long(day, rest),
         _ => once(day, line),
     }
 }
@@ -69,6 +71,11 @@ fn of_verb(day: &mut Day, verb: &str, words: &mut Words) -> Option<Result<String
         return Some(told);
     }
     batches::told(day, verb, words)
+}
+
+fn long(day: &mut Day, rest: &str) -> Result<String> {
+    let length = once(day, rest)?.len();
+    Ok(format!(in day.alloc; "{length} bytes")?)
 }
 
 fn repeat(day: &mut Day, rest: &str) -> Result<String> {

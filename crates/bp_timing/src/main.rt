@@ -13,12 +13,23 @@
 // At a port, with peers of every kind (examples/doors.sh):
 //
 //     bp_timing door DESK COUNT
+//
+// Over a database of kept rows, by the keeper and by its statements alone (bench/keep_sql.sh):
+//
+//     bp_timing keeper|statements open FILE TIMES
+//     bp_timing keeper|statements load FILE TIMES
+//     bp_timing keeper|statements commit FILE MIX PUTS TIMES
+//     bp_timing keeper|statements close FILE MIX PUTS TIMES
 #![tactic(auto)]
 
+mod database;
 mod door;
 mod files;
+mod kept;
 mod produced;
+mod puts;
 mod reading;
+mod statements;
 mod strips;
 mod writing;
 
@@ -39,6 +50,8 @@ fn run(rt: &HostRuntime, words: &[String]) -> Result<u64> {
     };
     match job.as_str() {
         "door" => door::run(rt, operands),
+        "keeper" => database::run(rt, "keeper", operands),
+        "statements" => database::run(rt, "statements", operands),
         "strip_writer" => writing::run(rt, "strip_writer", operands),
         "page_rows" => writing::run(rt, "page_rows", operands),
         "code_page" => writing::run(rt, "code_page", operands),

@@ -93,6 +93,19 @@ asking_found bytes start room spans f method target route r m t is asks =
     let at : route ≡ route_of (span_bytes start spans.method) (span_bytes start spans.path) = is ∙ ap (λ x. route_of x target) m ∙ ap (route_of (span_bytes start spans.method)) t in
     asks ∙ ap (λ x. asking_at x (map (header_bytes start) (take spans.headers room))) at ∙ asking_same bytes start room spans f
 
+-- so many bytes are to come after the head that was found
+pub wanted_found : (bytes start : List ℕ) (room : List HeaderSpan) (spans : RequestSpans)
+    → (f : Found bytes start room spans)
+    → (method target : List ℕ) (route : Option Route) (n : ℕ)
+    → method ≡ span_bytes start spans.method
+    → target ≡ span_bytes start spans.path
+    → route ≡ route_of method target
+    → n ≡ wanted_by (asking_at route (map (header_bytes start) (take spans.headers room)))
+    → wanted_by (asking_of f.has.head) ≡ n
+wanted_found bytes start room spans f method target route n m t is wants =
+    let asks = asking_found bytes start room spans f method target route _ m t is refl in
+    sym (wants ∙ ap wanted_by asks)
+
 begins_there : (bytes start : List ℕ) (room : List HeaderSpan) (spans : RequestSpans)
     → (f : Found bytes start room spans)
     → BeginsWith (start_of bytes) f.has.head
@@ -221,6 +234,14 @@ small_asking (Some route) fields a is = by_value (value_of (codes "desk-key") fi
 pub small_body : (head : RequestHead) (a : Asking) → asking_of head ≡ Ok a → a.length ≤ MAX_BODY
 unfolding asking_of
 small_body head a is = small_asking (route_of head.method head.target) (fields_of head) a (sym is)
+
+-- what is to come after a head is no longer than a body may be
+pub small_wanted : (head : RequestHead) → wanted_by (asking_of head) ≤ MAX_BODY
+small_wanted head = by_asking (asking_of head) refl
+  where
+    by_asking : (r : Result Asking WebRefusal) → asking_of head ≡ r → wanted_by r ≤ MAX_BODY
+    by_asking (Ok a) is = small_body head a is
+    by_asking (Err e) is = omega arith
 
 -- ---- more bytes
 

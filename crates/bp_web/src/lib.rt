@@ -1,7 +1,8 @@
 //! HTTP/1.1 as bytes (RFC 9112): what one request asks for, and the reply to an answer.
 //!
 //! Whoever reads a connection calls `whole_length` or `enough` after each piece, then
-//! `read_request`, and sends what `reply_bytes` gives. The contracts cite `HttpReads`, whose
+//! `read_request`, or `read_request_by` with a `RouteTable` that serves for many, and sends what
+//! `reply_bytes` gives. The contracts cite `HttpReads`, whose
 //! `request_of` is the order of the refusals (specs/Requests.antt), and `reply_text`
 //! (specs/Replies.antt).
 #![tactic(auto)]
@@ -21,4 +22,7 @@ mod values;
 pub use heads::HEAD_LIMIT;
 pub use refusals::WebRefusal;
 pub use replies::{Answer, NO_MEMORY, reply_bytes};
-pub use requests::{Asked, MAX_BODY, MAX_REQUEST, enough, read_request, whole_length};
+pub use requests::{
+    Asked, MAX_BODY, MAX_REQUEST, enough, read_request, read_request_by, whole_length,
+};
+pub use router::RouteTable;

@@ -5,7 +5,7 @@ ghost use Rattle.sha2.specs.Sha256.{sha256};
 ghost use Rattle.bp_web.specs.Calls.{call_of};
 ghost use Rattle.bp_web.specs.Heads.{NeverBegins, start_of, value_of};
 ghost use Rattle.bp_web.specs.Numbers.{number_of};
-ghost use Rattle.bp_web.specs.Requests.{EndsAt, HttpReads, IsOpen, IsWhole, ReadAlike, asked_of, asking_at, body_length, data_of, given_length};
+ghost use Rattle.bp_web.specs.Requests.{EndsAt, HttpReads, IsOpen, IsWhole, ReadAlike, asked_of, asking_at, body_length, data_of, given_length, wanted_by};
 ghost use Rattle.bp_web.specs.declared.refusals.WebRefusal.{WebRefusal};
 ghost use Rattle.bp_web.specs.declared.refusals.WebRefusal.TheVariants as refusals;
 ghost use Rattle.bp_web.specs.declared.requests.Asked.{Asked};
@@ -15,7 +15,7 @@ use crate::heads::{Begin, HEAD_LIMIT, MAX_FIELDS, begin_of, has_named, only_name
 use crate::members::object_in;
 use crate::numbers::number_in;
 use crate::refusals::WebRefusal;
-use crate::router::routed;
+use crate::router::RouteTable;
 use crate::routes::{Route, route_in};
 use bp_core::OutOfMemory;
 use bp_matter::Call;
@@ -59,10 +59,26 @@ pub fn read_request(alloc: Global, bytes: &[u8]) -> Result<Asked, WebRefusal>
     ensures exact { (outcome : Result Asked WebRefusal) → HttpReads bytes.now outcome
         → result ≢ Err refusals.OutOfMemory → result ≡ outcome }
 {
-    read(alloc, bytes)
+    let Ok(routes) = RouteTable::new(alloc) else {
+        return Err(WebRefusal::OutOfMemory);
+    };
+    read_request_by(alloc, &routes, bytes)
 }
 
-fn read(alloc: Global, bytes: &[u8]) -> Result<Asked, WebRefusal>
+/// The same by a table of the routes that was made before, as for many requests one after another.
+pub fn read_request_by(
+    alloc: Global,
+    routes: &RouteTable,
+    bytes: &[u8],
+) -> Result<Asked, WebRefusal>
+    ensures reads { result ≢ Err refusals.OutOfMemory → HttpReads bytes.now result }
+    ensures exact { (outcome : Result Asked WebRefusal) → HttpReads bytes.now outcome
+        → result ≢ Err refusals.OutOfMemory → result ≡ outcome }
+{
+    read(alloc, routes, bytes)
+}
+
+fn read(alloc: Global, routes: &RouteTable, bytes: &[u8]) -> Result<Asked, WebRefusal>
     ensures { result ≢ Err refusals.OutOfMemory → HttpReads bytes.now result }
 {
     let start = start_of(bytes);
@@ -70,9 +86,7 @@ fn read(alloc: Global, bytes: &[u8]) -> Result<Asked, WebRefusal>
     match begin_of(start, &mut room) {
         Begin::Head(spans) => {
             let target = spans.path.of(start);
-            let Ok(route) = routed(alloc, spans.method.of(start), target) else {
-                return Err(WebRefusal::OutOfMemory);
-            };
+            let route = routes.find(spans.method.of(start), target);
             match asking_in(route, start, &room[..spans.headers]) {
                 Ok(asking) => asked_in(alloc, asking, target, after(bytes, spans.len)),
                 Err(refusal) => Err(refusal),
@@ -115,10 +129,7 @@ pub fn whole_length(bytes: &[u8]) -> Option<usize>
     match begin_of(start, &mut room) {
         Begin::Head(spans) => {
             let route = route_in(spans.method.of(start), spans.path.of(start));
-            match asking_in(route, start, &room[..spans.headers]) {
-                Ok(asking) => Some(spans.len + asking.length),
-                Err(_) => Some(spans.len),
-            }
+            Some(spans.len + wanted_in(route, start, &room[..spans.headers]))
         }
         Begin::Open => {
             if bytes.len() >= HEAD_LIMIT {
@@ -158,6 +169,23 @@ fn asking_in(
     match body_len(route, start, fields) {
         Ok(length) => Ok(Asking { route, key, length }),
         Err(refusal) => Err(refusal),
+    }
+}
+
+// How many bytes of body are to come after a head. It takes no digest of the key.
+fn wanted_in(route: Option<Route>, start: &[u8], fields: &[HeaderSpan]) -> usize
+    requires { All (IsHeaderWithin (length start.now)) fields.now }
+    ensures { result ≡ wanted_by (asking_at route (map (header_bytes start.now) fields.now)) }
+{
+    let Some(route) = route else {
+        return 0;
+    };
+    let Some(_) = only_named(start, fields, b"desk-key") else {
+        return 0;
+    };
+    match body_len(route, start, fields) {
+        Ok(length) => length,
+        Err(_) => 0,
     }
 }
 

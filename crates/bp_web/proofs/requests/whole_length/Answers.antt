@@ -1,49 +1,34 @@
-use Rattle.std.proofs.Common.{◌≡◌, ◌+◌, arith, ap, subst, sym, ◌∙◌}
-use Rattle.bp_web.proofs.RequestLemmas.{Found, asking_found, ends_at, ends_headless, ends_here, most_bytes, most_headless, small_body, waits_for_head}
-use Rattle.bp_web.specs.Requests.{EndsAt, wanted_by}
+use Rattle.std.proofs.Common.{◌≤◌, arith, subst}
+use Rattle.bp_web.proofs.RequestLemmas.{Found, ends_at, ends_headless, ends_here, most_bytes, most_headless, small_wanted, waits_for_head, wanted_found}
+use Rattle.bp_web.specs.declared.requests.TheConstants.{MAX_BODY}
 use Rattle.bp_web.proofs.requests.whole_length.Goals as goal
 
 pub overflow_add-result : goal.overflow_add-result
 overflow_add-result c =
     let f : Found c.args.bytes.now c.start_of-start.result.now c.begin_of.new.room c.in-Head.spans =
     record { is_start = c.start_of-start.ensures; has = c.in-Head.ensures.found } in
-    let asks = asking_found c.args.bytes.now c.start_of-start.result.now c.begin_of.new.room c.in-Head.spans f c.of.result.now c.of-in-Head.result.now
-    c.route_in-route.result c.asking_in.result c.of.ensures c.of-in-Head.ensures c.route_in-route.ensures c.asking_in.ensures in
-    let most = most_bytes c.args.bytes.now c.start_of-start.result.now c.begin_of.new.room c.in-Head.spans c.in-Ok.asking.length
-    c.start_of-start.ensures c.in-Head.ensures.within (small_body f.has.head c.in-Ok.asking (sym asks ∙ c.in-Ok.is)) in
+    let wants = wanted_found c.args.bytes.now c.start_of-start.result.now c.begin_of.new.room c.in-Head.spans f c.of.result.now c.of-in-Head.result.now
+    c.route_in-route.result c.wanted_in.result c.of.ensures c.of-in-Head.ensures c.route_in-route.ensures c.wanted_in.ensures in
+    let most = most_bytes c.args.bytes.now c.start_of-start.result.now c.begin_of.new.room c.in-Head.spans c.wanted_in.result
+    c.start_of-start.ensures c.in-Head.ensures.within (subst (λ n. n ≤ MAX_BODY) wants (small_wanted f.has.head)) in
     omega (arith, most)
 
-pub returns-in-Ok-clause-ends : goal.returns-in-Ok-clause-ends
-returns-in-Ok-clause-ends c =
+pub returns-in-Head-clause-ends : goal.returns-in-Head-clause-ends
+returns-in-Head-clause-ends c =
     let f : Found c.args.bytes.now c.start_of-start.result.now c.begin_of.new.room c.in-Head.spans =
     record { is_start = c.start_of-start.ensures; has = c.in-Head.ensures.found } in
-    let asks = asking_found c.args.bytes.now c.start_of-start.result.now c.begin_of.new.room c.in-Head.spans f c.of.result.now c.of-in-Head.result.now
-    c.route_in-route.result c.asking_in.result c.of.ensures c.of-in-Head.ensures c.route_in-route.ensures c.asking_in.ensures in
-    ends_at c.args.bytes.now c.start_of-start.result.now c.begin_of.new.room c.in-Head.spans f c.in-Ok.asking.length (ap wanted_by (sym asks ∙ c.in-Ok.is))
+    let wants = wanted_found c.args.bytes.now c.start_of-start.result.now c.begin_of.new.room c.in-Head.spans f c.of.result.now c.of-in-Head.result.now
+    c.route_in-route.result c.wanted_in.result c.of.ensures c.of-in-Head.ensures c.route_in-route.ensures c.wanted_in.ensures in
+    ends_at c.args.bytes.now c.start_of-start.result.now c.begin_of.new.room c.in-Head.spans f c.wanted_in.result wants
 
-pub returns-in-Ok-clause-most : goal.returns-in-Ok-clause-most
-returns-in-Ok-clause-most c =
+pub returns-in-Head-clause-most : goal.returns-in-Head-clause-most
+returns-in-Head-clause-most c =
     let f : Found c.args.bytes.now c.start_of-start.result.now c.begin_of.new.room c.in-Head.spans =
     record { is_start = c.start_of-start.ensures; has = c.in-Head.ensures.found } in
-    let asks = asking_found c.args.bytes.now c.start_of-start.result.now c.begin_of.new.room c.in-Head.spans f c.of.result.now c.of-in-Head.result.now
-    c.route_in-route.result c.asking_in.result c.of.ensures c.of-in-Head.ensures c.route_in-route.ensures c.asking_in.ensures in
-    most_bytes c.args.bytes.now c.start_of-start.result.now c.begin_of.new.room c.in-Head.spans c.in-Ok.asking.length
-    c.start_of-start.ensures c.in-Head.ensures.within (small_body f.has.head c.in-Ok.asking (sym asks ∙ c.in-Ok.is))
-
-pub returns-in-Err-clause-ends : goal.returns-in-Err-clause-ends
-returns-in-Err-clause-ends c =
-    let f : Found c.args.bytes.now c.start_of-start.result.now c.begin_of.new.room c.in-Head.spans =
-    record { is_start = c.start_of-start.ensures; has = c.in-Head.ensures.found } in
-    let asks = asking_found c.args.bytes.now c.start_of-start.result.now c.begin_of.new.room c.in-Head.spans f c.of.result.now c.of-in-Head.result.now
-    c.route_in-route.result c.asking_in.result c.of.ensures c.of-in-Head.ensures c.route_in-route.ensures c.asking_in.ensures in
-    let none : c.in-Head.spans.len + 0 ≡ c.in-Head.spans.len = omega arith in
-    subst (EndsAt c.args.bytes.now) none
-    (ends_at c.args.bytes.now c.start_of-start.result.now c.begin_of.new.room c.in-Head.spans f 0 (ap wanted_by (sym asks ∙ c.in-Err.is)))
-
-pub returns-in-Err-clause-most : goal.returns-in-Err-clause-most
-returns-in-Err-clause-most c =
-    let most = most_bytes c.args.bytes.now c.start_of-start.result.now c.begin_of.new.room c.in-Head.spans 0
-    c.start_of-start.ensures c.in-Head.ensures.within (omega arith) in
+    let wants = wanted_found c.args.bytes.now c.start_of-start.result.now c.begin_of.new.room c.in-Head.spans f c.of.result.now c.of-in-Head.result.now
+    c.route_in-route.result c.wanted_in.result c.of.ensures c.of-in-Head.ensures c.route_in-route.ensures c.wanted_in.ensures in
+    let most = most_bytes c.args.bytes.now c.start_of-start.result.now c.begin_of.new.room c.in-Head.spans c.wanted_in.result
+    c.start_of-start.ensures c.in-Head.ensures.within (subst (λ n. n ≤ MAX_BODY) wants (small_wanted f.has.head)) in
     omega (arith, most)
 
 pub returns-then-bytes-ge-HEAD_LIMIT-clause-ends : goal.returns-then-bytes-ge-HEAD_LIMIT-clause-ends

@@ -28,10 +28,10 @@ use Rattle.bp_matter.specs.declared.limits.TheConstants.{MAX_BATCHES, MAX_DOCUME
 use Rattle.bp_rules.specs.Limits.{limit_passed, full_rule, documents_limit, pages_limit, pixels_limit, fields_limit, batches_limit, documents_after, pages_after, pixels_after, fields_after, batches_after}
 use Rattle.bp_rules.specs.Loading.{IsLoadRule, LoadedFrom, LoadsTables}
 use Rattle.bp_rules.specs.Steps.{Stays, StepsImport, ImportMade}
-use Rattle.bp_rules.specs.declared.importing.Imported.{Imported}
+use Rattle.bp_rules.specs.declared.decide_imports.Imported.{Imported}
 use Rattle.bp_rules.specs.declared.refusals.MatterRefusal.{MatterRefusal}
 use Rattle.bp_rules.specs.declared.refusals.MatterRefusal.TheVariants as refusals
-use Rattle.bp_rules.specs.declared.stepping.Counted.{Counted}
+use Rattle.bp_rules.specs.declared.steps.Counted.{Counted}
 use Rattle.bp_cli.specs.declared.stops.Stop.{Stop}
 use Rattle.bp_cli.specs.declared.stops.Stop.TheVariants as stops
 use Rattle.bp_cli.specs.Commands.{import, uses_of, IsOutcome, ReadsAndWorks}

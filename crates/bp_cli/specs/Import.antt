@@ -13,8 +13,8 @@ use Rattle.bp_import.specs.Batch.{BatchAnswers}
 use Rattle.bp_rules.specs.Changes.{after}
 use Rattle.bp_rules.specs.Importing.{import_of}
 use Rattle.bp_rules.specs.Steps.{counted_of}
-use Rattle.bp_rules.specs.declared.importing.Imported.{Imported}
-use Rattle.bp_rules.specs.declared.stepping.Counted.{Counted}
+use Rattle.bp_rules.specs.declared.decide_imports.Imported.{Imported}
+use Rattle.bp_rules.specs.declared.steps.Counted.{Counted}
 use Rattle.bp_cli.specs.Kept.{CanBeLoaded, MatterAnswers}
 use Rattle.bp_cli.specs.Words.{word_of}
 use Rattle.bp_cli.specs.Endings.{Outcome, done, refused, line_of}

@@ -18,7 +18,7 @@ use Rattle.bp_rules.specs.Importing.{DecidedOn, DecidesImport, batch_with, impor
 use Rattle.bp_rules.specs.Limits.{limit_passed}
 use Rattle.bp_rules.specs.declared.changes.Edit.{Edit}
 use Rattle.bp_rules.specs.declared.changes.Edit.TheVariants.{Import, Nothing}
-use Rattle.bp_rules.specs.declared.importing.Imported.{Imported}
+use Rattle.bp_rules.specs.declared.decide_imports.Imported.{Imported}
 
 -- a change of nothing can be made
 made_nothing : (m : Matter) (t : Bool) (told imported : Imported) (rule : Rule) → IsValid m → told.change ≡ Nothing → cond t (Ok told) (Err rule) ≡ Ok imported → CanBeMade m imported.change

@@ -25,9 +25,9 @@ use Rattle.bp_freeze.specs.Freezing.{freeze_of}
 use Rattle.bp_rules.specs.Importing.{import_of}
 use Rattle.bp_rules.specs.Running.{answers_of, run_of}
 use Rattle.bp_rules.specs.Stepping.{done, step_of, told}
-use Rattle.bp_rules.specs.declared.running.RunAnswer.TheVariants as answers
-use Rattle.bp_rules.specs.declared.running.RunStep.{RunStep}
-use Rattle.bp_rules.specs.declared.running.RunStep.TheVariants as asks
+use Rattle.bp_rules.specs.declared.histories.RunAnswer.TheVariants as answers
+use Rattle.bp_rules.specs.declared.histories.RunStep.{RunStep}
+use Rattle.bp_rules.specs.declared.histories.RunStep.TheVariants as asks
 
 -- ---- documents 1 to 3 are a family with 2, 40 and 3 pages, of which the second is withheld; 4 is alone
 

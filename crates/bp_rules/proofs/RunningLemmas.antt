@@ -12,8 +12,8 @@ use Rattle.bp_matter.specs.Valid.{IsValid}
 use Rattle.bp_rules.specs.Loading.{LoadedFrom}
 use Rattle.bp_rules.specs.Running.{RunState, Ran, RunLoads, Stopped, StopsAt, answered, answers_of, run_state, faults_stopped, run_of}
 use Rattle.bp_rules.specs.Steps.{KeepsRows, Stays, never}
-use Rattle.bp_rules.specs.declared.running.RunAnswer.{RunAnswer}
-use Rattle.bp_rules.specs.declared.running.RunStep.{RunStep}
+use Rattle.bp_rules.specs.declared.histories.RunAnswer.{RunAnswer}
+use Rattle.bp_rules.specs.declared.histories.RunStep.{RunStep}
 use Rattle.bp_rules.specs.declared.refusals.MatterRefusal.{MatterRefusal}
 
 -- ---- rows told

@@ -26,8 +26,8 @@ use Rattle.bp_rules.specs.Refusing.{no_document, no_page, staff_there}
 use Rattle.bp_rules.specs.Roles.{may}
 use Rattle.bp_rules.specs.Running.{run_of}
 use Rattle.bp_rules.specs.Stepping.{done, step_of, told}
-use Rattle.bp_rules.specs.declared.running.RunStep.{RunStep}
-use Rattle.bp_rules.specs.declared.running.RunStep.TheVariants as asks
+use Rattle.bp_rules.specs.declared.histories.RunStep.{RunStep}
+use Rattle.bp_rules.specs.declared.histories.RunStep.TheVariants as asks
 
 -- ---- a matter of one document of one page, 8 by 1 and white
 

@@ -22,12 +22,12 @@ use Rattle.bp_rules.specs.Running.{AnswersOne, Answered, OneAnswered, StopsAt, a
 use Rattle.bp_rules.specs.Steps.{KeepsRows, StepsImport, counted_of}
 use Rattle.bp_rules.specs.declared.changes.Edit.TheVariants.{Nothing}
 use Rattle.bp_rules.specs.declared.changes.ImportRows.{ImportRows}
-use Rattle.bp_rules.specs.declared.importing.Imported.{Imported}
-use Rattle.bp_rules.specs.declared.running.RunAnswer.{RunAnswer}
-use Rattle.bp_rules.specs.declared.running.RunAnswer.TheVariants as answers
-use Rattle.bp_rules.specs.declared.running.RunStep.{RunStep}
-use Rattle.bp_rules.specs.declared.running.RunStep.TheVariants as asks
-use Rattle.bp_rules.specs.declared.stepping.Counted.{Counted}
+use Rattle.bp_rules.specs.declared.decide_imports.Imported.{Imported}
+use Rattle.bp_rules.specs.declared.histories.RunAnswer.{RunAnswer}
+use Rattle.bp_rules.specs.declared.histories.RunAnswer.TheVariants as answers
+use Rattle.bp_rules.specs.declared.histories.RunStep.{RunStep}
+use Rattle.bp_rules.specs.declared.histories.RunStep.TheVariants as asks
+use Rattle.bp_rules.specs.declared.steps.Counted.{Counted}
 use Rattle.bp_rules.specs.declared.refusals.MatterRefusal.{MatterRefusal}
 use Rattle.bp_rules.specs.declared.refusals.MatterRefusal.TheVariants.{KeeperFault, OutOfMemory}
 use Rattle.bp_rules.specs.declared.refusals.MatterRefusal.TheVariants as stops

@@ -35,17 +35,19 @@ with_call row m = record m { calls = put call_key row m.calls }
 abbrev pub without_call : ℕ → Matter → Matter
 without_call doc m = record m { calls = without call_key doc m.calls }
 
--- a box put, in place of the document's box of its number; and a box gone
+-- a box put, in place of the document's box of its number
 abbrev pub with_box : DocBox → Matter → Matter
 with_box row m = record m { boxes = put box_key row m.boxes }
 
+-- a box of a document gone, by its number
 abbrev pub without_box : ℕ → ℕ → Matter → Matter
 without_box doc num m = record m { boxes = without box_key (two_keys doc num) m.boxes }
 
--- a field held back, in place of what it was held for; and a field freed
+-- a field held back, in place of what it was held for
 abbrev pub with_held : DocHeld → Matter → Matter
 with_held row m = record m { held = put held_key row m.held }
 
+-- a field of a document freed
 abbrev pub without_held : ℕ → ℕ → Matter → Matter
 without_held doc field m = record m { held = without held_key (two_keys doc field) m.held }
 
@@ -53,10 +55,11 @@ without_held doc field m = record m { held = without held_key (two_keys doc fiel
 abbrev pub with_entry : DocEntry → Matter → Matter
 with_entry row m = record m { entries = put entry_key row m.entries }
 
--- the box of a document's number, and what a field of it is held for
+-- the box of a document that has this number
 abbrev pub box_with : ℕ → ℕ → Matter → Option DocBox
 box_with doc num m = find_key box_key (two_keys doc num) m.boxes
 
+-- what a field of a document is held for
 abbrev pub held_with : ℕ → ℕ → Matter → Option DocHeld
 held_with doc field m = find_key held_key (two_keys doc field) m.held
 
@@ -79,18 +82,21 @@ confirmed_state caller Uncalled = Uncalled
 confirmed_state caller (First editor) = Confirmed editor caller
 confirmed_state caller (Confirmed editor confirmer) = Confirmed editor confirmer
 
+-- the row of a call that this person confirms
 abbrev pub confirmed_by : StaffNo → CallRow → CallRow
 confirmed_by caller row = record row { state = confirmed_state caller row.state }
 
--- what is shown of a call; of none: not responsive, to be produced, without designation
+-- whether a document is shown as responsive: what its call says, and of none no
 abbrev pub shown_responsive : Option CallRow → Bool
 shown_responsive None = false
 shown_responsive (Some row) = row.responsive
 
+-- the treatment that is shown: that of the call, or to be produced
 abbrev pub shown_treatment : Option CallRow → Treatment
 shown_treatment None = Produce
 shown_treatment (Some row) = row.treatment
 
+-- the designation that is shown: that of the call, or none
 abbrev pub shown_designation : Option CallRow → List ℕ
 shown_designation None = []
 shown_designation (Some row) = row.designation

@@ -39,17 +39,19 @@ calls_after call_edits.Stays calls = calls
 calls_after (call_edits.Put row) calls = put call_key row calls
 calls_after (call_edits.Gone doc) calls = without call_key doc.0 calls
 
--- the boxes, the held fields and the log entries, where one of them is changed
+-- the boxes, where one of them is changed
 abbrev pub boxes_after : MarkEdit → List DocBox → List DocBox
 boxes_after (mark_edits.PutBox row) boxes = put box_key row boxes
 boxes_after (mark_edits.DropBox doc num) boxes = without box_key (two_keys doc.0 num) boxes
 boxes_after _ boxes = boxes
 
+-- the held fields, where one of them is changed
 abbrev pub held_after : MarkEdit → List DocHeld → List DocHeld
 held_after (mark_edits.PutHeld row) held = put held_key row held
 held_after (mark_edits.DropHeld doc field) held = without held_key (two_keys doc.0 field) held
 held_after _ held = held
 
+-- the log entries, where one of them is changed
 abbrev pub entries_after : MarkEdit → List DocEntry → List DocEntry
 entries_after (mark_edits.PutEntry row) entries = put entry_key row entries
 entries_after _ entries = entries

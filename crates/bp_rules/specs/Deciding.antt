@@ -20,7 +20,7 @@ use Rattle.bp_rules.specs.declared.changes.CallEdit.TheVariants as call_edits
 use Rattle.bp_rules.specs.declared.changes.Edit.TheVariants.{Review}
 use Rattle.bp_rules.specs.declared.changes.MarkEdit.{MarkEdit}
 use Rattle.bp_rules.specs.declared.changes.MarkEdit.TheVariants as mark_edits
-use Rattle.bp_rules.specs.declared.deciding.Decided.{Decided}
+use Rattle.bp_rules.specs.declared.decided.Decided.{Decided}
 
 -- the reply, and the matter after the change
 abbrev pub stepped_of : Matter → Decided → Stepped
@@ -39,11 +39,12 @@ Decides m step (Ok decided) = DecidedAs m step decided
 Decides m step (Err (refusals.Rule rule)) = step ≡ Err rule
 Decides m step (Err refusals.OutOfMemory) = Unit {0}
 
--- a row that goes is there
+-- the call that goes is there
 abbrev pub call_there : Matter → CallEdit → Bool
 call_there m (call_edits.Gone doc) = is_some (call_with doc.0 m)
 call_there m _ = true
 
+-- the box that goes is there, and the field that is freed is held
 abbrev pub mark_there : Matter → MarkEdit → Bool
 mark_there m (mark_edits.DropBox doc num) = is_some (box_with doc.0 num m)
 mark_there m (mark_edits.DropHeld doc field) = is_some (held_with doc.0 field m)

@@ -14,7 +14,7 @@ use Rattle.bp_rules.specs.Changes.{CanBeMade}
 use Rattle.bp_rules.specs.ImportRows.{import_rows}
 use Rattle.bp_rules.specs.Limits.{limit_passed}
 use Rattle.bp_rules.specs.declared.changes.Edit.TheVariants.{Import, Nothing}
-use Rattle.bp_rules.specs.declared.importing.Imported.{Imported}
+use Rattle.bp_rules.specs.declared.decide_imports.Imported.{Imported}
 
 -- the batch of a name
 abbrev pub batch_with : List ℕ → Matter → Option BatchRow

@@ -11,19 +11,23 @@ use Rattle.bp_matter.specs.declared.batches.BatchPage.{BatchPage}
 use Rattle.bp_matter.specs.declared.limits.TheConstants.{MAX_BATCHES, MAX_DOCUMENTS, MAX_FIELDS, MAX_PAGES, MAX_PIXELS}
 use Rattle.bp_rules.specs.ImportRows.{lacking}
 
--- the number of each limit
+-- the number of the limit of documents
 abbrev pub documents_limit : ℕ
 documents_limit = 1
 
+-- the number of the limit of pages
 abbrev pub pages_limit : ℕ
 pages_limit = 2
 
+-- the number of the limit of pixels
 abbrev pub pixels_limit : ℕ
 pixels_limit = 3
 
+-- the number of the limit of fields
 abbrev pub fields_limit : ℕ
 fields_limit = 4
 
+-- the number of the limit of batches
 abbrev pub batches_limit : ℕ
 batches_limit = 6
 
@@ -41,19 +45,23 @@ abbrev pub pixels_in : List BatchDoc → ℕ
 pixels_in [] = 0
 pixels_in (doc ∷ docs) = pixels_on doc.pages + pixels_in docs
 
--- what the matter would reach of each
+-- how many documents the matter would have with the batch
 abbrev pub documents_after : Matter → BatchShown → ℕ
 documents_after m b = length m.docs + length b.docs
 
+-- how many pages the matter would have with the batch
 abbrev pub pages_after : Matter → BatchShown → ℕ
 pages_after m b = length m.pages + pages_in b.docs
 
+-- how many pixels its pages would have together
 abbrev pub pixels_after : Matter → BatchShown → ℕ
 pixels_after m b = pixels_of m.pages + pixels_in b.docs
 
+-- how many fields it would have: its own, and those of the batch that it lacks
 abbrev pub fields_after : Matter → BatchShown → ℕ
 fields_after m b = length m.fields + length (lacking m.fields b.fields)
 
+-- how many batches it would have
 abbrev pub batches_after : Matter → ℕ
 batches_after m = length m.batches + 1
 

@@ -36,6 +36,7 @@ IsLoadRule NoMatter = Unit {0}
 IsLoadRule KeptRowBad = Unit {0}
 IsLoadRule _ = ⊥
 
+-- a rule that loading breaks is one of these
 abbrev pub HasLoadRule : Result Shown MatterRefusal → Type 0
 HasLoadRule (Err (loads.Rule rule)) = IsLoadRule rule.kind
 HasLoadRule _ = Unit {0}

@@ -20,10 +20,11 @@ use Rattle.bp_rules.specs.Limits.{full_rule}
 abbrev pub refused : {A : Type 0} → RuleKind → Result A Rule
 refused kind = Err (bare_rule kind)
 
--- there is no such document; the document has no such page
+-- there is no such document
 abbrev pub no_document : ℕ → Rule
 no_document doc = record (bare_rule NoDocument) { a = doc }
 
+-- the document has no such page
 abbrev pub no_page : ℕ → Rule
 no_page page = record (bare_rule NoPage) { a = page }
 

@@ -44,13 +44,14 @@ abbrev pub HasRoomForCall : List ℕ → CallEdit → Type 0
 HasRoomForCall rooms (call_edits.Put row) = 1 ≤ room_of rooms row.doc.0
 HasRoomForCall rooms _ = IsTrue true
 
--- and so does the box, the held field or the log entry
+-- and so does the box, the held field or the log entry that it puts
 abbrev pub HasRoomForMark : List ℕ → List ℕ → List ℕ → MarkEdit → Type 0
 HasRoomForMark boxes held entries (mark_edits.PutBox row) = 1 ≤ room_of boxes row.doc.0
 HasRoomForMark boxes held entries (mark_edits.PutHeld row) = 1 ≤ room_of held row.doc.0
 HasRoomForMark boxes held entries (mark_edits.PutEntry row) = 1 ≤ room_of entries row.doc.0
 HasRoomForMark boxes held entries _ = IsTrue true
 
+-- the call and the mark of a review both find room
 abbrev pub HasRoomForEdit : ShelfRooms → CallEdit → MarkEdit → Type 0
 HasRoomForEdit rooms call mark =
     HasRoomForCall rooms.calls call × HasRoomForMark rooms.boxes rooms.held rooms.entries mark

@@ -11,12 +11,12 @@ use Rattle.bp_rules.specs.Importing.{import_of}
 use Rattle.bp_rules.specs.Loading.{LoadsTables}
 use Rattle.bp_rules.specs.Stepping.{Stepped, step_of}
 use Rattle.bp_rules.specs.Steps.{KeepsRows, Stays, counted_of}
-use Rattle.bp_rules.specs.declared.importing.Imported.{Imported}
-use Rattle.bp_rules.specs.declared.running.RunAnswer.{RunAnswer}
-use Rattle.bp_rules.specs.declared.running.RunAnswer.TheVariants as answers
-use Rattle.bp_rules.specs.declared.running.RunStep.{RunStep}
-use Rattle.bp_rules.specs.declared.running.RunStep.TheVariants as asks
-use Rattle.bp_rules.specs.declared.stepping.Counted.{Counted}
+use Rattle.bp_rules.specs.declared.decide_imports.Imported.{Imported}
+use Rattle.bp_rules.specs.declared.histories.RunAnswer.{RunAnswer}
+use Rattle.bp_rules.specs.declared.histories.RunAnswer.TheVariants as answers
+use Rattle.bp_rules.specs.declared.histories.RunStep.{RunStep}
+use Rattle.bp_rules.specs.declared.histories.RunStep.TheVariants as asks
+use Rattle.bp_rules.specs.declared.steps.Counted.{Counted}
 use Rattle.bp_rules.specs.declared.refusals.MatterRefusal.{MatterRefusal}
 use Rattle.bp_rules.specs.declared.refusals.MatterRefusal.TheVariants as stops
 
@@ -63,6 +63,7 @@ pub record RunState : Type 0 where
   pub keeper : KeeperView
   pub answers : List RunAnswer
 
+-- the same, of its three parts
 abbrev pub run_state : Matter → KeeperView → List RunAnswer → RunState
 run_state m keeper told = record { matter = m; keeper = keeper; answers = told }
 
@@ -118,10 +119,12 @@ refusal_answer (stops.Rule rule) = Ok (answers.Refused rule)
 refusal_answer stops.KeeperFault = Err stops.KeeperFault
 refusal_answer stops.OutOfMemory = Err stops.OutOfMemory
 
+-- what a call gave, as an answer of the run
 abbrev pub reply_answer : Result Reply MatterRefusal → Result RunAnswer MatterRefusal
 reply_answer (Ok reply) = Ok (answers.Replied reply)
 reply_answer (Err refusal) = refusal_answer refusal
 
+-- what an import gave, as an answer of the run
 abbrev pub counted_answer : Result Counted MatterRefusal → Result RunAnswer MatterRefusal
 counted_answer (Ok counted) = Ok (answers.Counted counted)
 counted_answer (Err refusal) = refusal_answer refusal

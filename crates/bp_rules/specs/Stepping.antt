@@ -62,6 +62,7 @@ staff_by m new None =
     if nat_le MAX_STAFF (length m.staff) then Err (staff_full (length m.staff))
     else Ok (record { reply = replies.Staff new.staff; matter = with_staff new m })
 
+-- a member comes whose name is fit to be kept
 abbrev pub add_staff : Matter → StaffRow → Result Stepped Rule
 add_staff m new =
     if not (is_staff_name new.name) then refused kinds.TextRefused
@@ -75,6 +76,7 @@ set_call m row =
     else (if not (is_redact row.treatment) && has_marks row.doc.0 m then refused kinds.BoxesRemain
     else done (with_call row m)))
 
+-- a box is put on a page of a document that is called Redact
 abbrev pub put_box : Matter → StaffNo → DocBox → PageRow → Result Stepped Rule
 put_box m caller box page =
     if not (is_box box.row) then refused kinds.BoxShape
@@ -88,6 +90,7 @@ drop_box m caller doc num =
     if is_some (box_with doc num m) then done (without_box doc num (edited caller doc m))
     else done m
 
+-- the value of a field is held back in a document that is called Redact
 abbrev pub hold_field : Matter → StaffNo → DocNo → Basis → Option FieldRow → Result Stepped Rule
 hold_field m caller doc basis None = refused kinds.NoField
 hold_field m caller doc basis (Some row) =
@@ -101,10 +104,12 @@ free_held m caller doc field =
     if is_some (held_with doc field m) then done (without_held doc field (edited caller doc m))
     else done m
 
+-- a field of the matter is freed
 abbrev pub free_field : Matter → StaffNo → ℕ → Option FieldRow → Result Stepped Rule
 free_field m caller doc None = refused kinds.NoField
 free_field m caller doc (Some row) = free_held m caller doc row.field
 
+-- the log says this of a document
 abbrev pub put_entry : Matter → StaffNo → DocEntry → Result Stepped Rule
 put_entry m caller row =
     if not (entry_fits row.entry) then refused kinds.TextRefused
@@ -115,6 +120,7 @@ abbrev pub confirm_unless : Matter → StaffNo → CallRow → Option RuleKind �
 confirm_unless m caller row (Some kind) = refused kind
 confirm_unless m caller row None = done (with_call (confirmed_by caller row) m)
 
+-- a called document is confirmed by this person
 abbrev pub confirm : Matter → StaffNo → ℕ → Option CallRow → Result Stepped Rule
 confirm m caller doc None = refused kinds.NotCalled
 confirm m caller doc (Some row) =

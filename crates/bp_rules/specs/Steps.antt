@@ -16,8 +16,8 @@ use Rattle.bp_rules.specs.Changes.{after, puts_of}
 use Rattle.bp_rules.specs.Importing.{import_of}
 use Rattle.bp_rules.specs.Stepping.{step_of}
 use Rattle.bp_rules.specs.declared.changes.Edit.{Edit}
-use Rattle.bp_rules.specs.declared.importing.Imported.{Imported}
-use Rattle.bp_rules.specs.declared.stepping.Counted.{Counted}
+use Rattle.bp_rules.specs.declared.decide_imports.Imported.{Imported}
+use Rattle.bp_rules.specs.declared.steps.Counted.{Counted}
 use Rattle.bp_rules.specs.declared.refusals.MatterRefusal.{MatterRefusal}
 use Rattle.bp_rules.specs.declared.refusals.MatterRefusal.TheVariants as stops
 

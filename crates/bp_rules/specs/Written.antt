@@ -18,11 +18,12 @@ pub record RowsWritten (rows : ImportRows) : Type 0 where
   pub batch : IsTrue (batch_written rows.batch)
   pub words : IsTrue (list_all words_written rows.words)
 
--- a row that is put has one
+-- a call that is put has a writing
 abbrev pub call_edit_written : CallEdit → Bool
 call_edit_written (call_edits.Put row) = call_written row
 call_edit_written _ = true
 
+-- a box, a held field or a log entry that is put has one
 abbrev pub mark_edit_written : MarkEdit → Bool
 mark_edit_written (mark_edits.PutBox row) = box_written row
 mark_edit_written (mark_edits.PutHeld row) = held_written row

@@ -1,7 +1,9 @@
 // The door in memory, with ample memory.
-use crate::lists::{inputs, numbers};
-use bp_outside::{Door, DoorRefusal, Exchange, MemDoor, send};
-use std::alloc::Global;
+ghost use Rattle.std.specs.Prelude.{◌≡◌, ◌≤◌, ◌||◌, ℕ, nat_le, true, length};
+
+use crate::lists::{counted, inputs, numbers};
+use bp_outside::{Door, DoorRefusal, Enough, Exchange, InputStop, MemDoor, read_input, send};
+use std::alloc::{AllocError, Global};
 use std::test::Fail;
 
 // What passed in an exchange: the bytes read, whether its end was met, the bytes written, whether a
@@ -28,7 +30,8 @@ fn converse(alloc: Global, door: &mut MemDoor) -> Result<bool, DoorRefusal> {
     Ok(true)
 }
 
-fn know_send<D: Door + Send>(_door: &D) {}
+// The door may be moved to another thread.
+pub fn know_send<D: Door + Send>(_door: &D) {}
 
 // Two peers, and the door is closed after them.
 #[test]
@@ -90,5 +93,66 @@ fn a_peer_waits_for_the_next_accept(rt: HostRuntime) -> Result<(), Fail> {
     assert_eq!(rt; door.accept(alloc), Err(DoorRefusal::Failed));
     assert_eq!(rt; door.exchanges().len(), 0);
     assert_eq!(rt; converse(alloc, &mut door), Ok(true));
+    Ok(())
+}
+
+// Enough are so many bytes, and in any case the most.
+#[derive(Clone, Copy)]
+struct Bytewise {
+    few: usize,
+    most: usize,
+}
+
+impl Enough for Bytewise {
+    ghost Tells = { λ until bytes told. told
+        ≡ nat_le until.most (length bytes) || nat_le until.few (length bytes) };
+
+    ghost limit = { λ until. until.most };
+
+    fn enough(&self, bytes: &[u8]) -> bool {
+        self.most <= bytes.len() || self.few <= bytes.len()
+    }
+
+    fn limit(&self) -> usize {
+        self.most
+    }
+}
+
+// How many bytes are read of an input of 10,000, where so many are enough.
+fn read_of(
+    alloc: Global,
+    given: &[u8],
+    failing: u64,
+    until: &Bytewise,
+) -> Result<Result<usize, InputStop>, AllocError> {
+    let mut door = MemDoor::over(inputs(alloc, &[given])?, numbers(alloc, &[failing])?);
+    if door.accept(alloc) != Ok(true) {
+        return Ok(Ok(0));
+    }
+    Ok(read_input(alloc, &mut door, until).map(|bytes| bytes.len()))
+}
+
+// An input of 10,000 bytes. The calls are accept (0) and reads of at most 4,096 bytes (1, 2, 3, and
+// 4 for the end). Enough are some bytes in the middle of what was sent, none, all, and more than
+// all; or they are passed, up to the most. No read is asked for after that.
+#[test]
+fn an_input_is_read_until_it_is_enough(rt: HostRuntime) -> Result<(), Fail> {
+    let alloc = rt.alloc();
+    let long = counted(alloc, 10_000)?;
+    let failed = Err(InputStop::Refused(DoorRefusal::Failed));
+    for (few, most, failing, answer) in [
+        (5_000, 5_000, 3, Ok(5_000)),
+        (0, 9, 1, Ok(0)),
+        (10_000, 10_000, 4, Ok(10_000)),
+        (10_001, 10_001, 9, Ok(10_000)),
+        (10_001, 10_001, 4, failed),
+        (5_000, 5_000, 2, failed),
+        (5_000, 8_000, 3, Ok(8_000)),
+        (5_000, 9_000, 3, Ok(8_192)),
+    ] {
+        let until = Bytewise { few, most };
+        let told = read_of(alloc, long.as_slice(), failing, &until)?;
+        assert_eq!(rt; told, answer, "{few} up to {most}");
+    }
     Ok(())
 }

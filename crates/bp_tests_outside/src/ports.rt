@@ -1,4 +1,5 @@
 // Doors at ports: over a runtime of the tests' own, call by call, and over real sockets.
+use crate::doors::know_send;
 use crate::lists::counted;
 use crate::stage::{CLOSED_PIPE, NO_SPACE, NONE, Stage, WOULD_WAIT};
 use bp_outside::{Door, DoorRefusal, TcpDoor, send};
@@ -149,6 +150,7 @@ fn reply<S: Read + Drop>(alloc: Global, peer: Option<S>) -> io::Result<Vec<u8>> 
 }
 
 // The door reads 4 bytes of 20,000, and the peer gets the whole reply all the same.
+// A door of the system itself may be moved to the thread that serves it.
 #[test]
 fn a_peer_gets_the_reply(rt: HostRuntime) -> Result<(), Fail> {
     let alloc = rt.alloc();
@@ -158,5 +160,6 @@ fn a_peer_gets_the_reply(rt: HostRuntime) -> Result<(), Fail> {
     assert_eq!(rt; serve(alloc, &mut door), Ok(4));
     let bytes = reply(alloc, network.take_peer())?;
     assert_eq!(rt; bytes.as_slice(), b"pong".as_slice());
+    know_send(&TcpDoor::of(&rt, 1));
     Ok(())
 }

@@ -1,6 +1,6 @@
 -- Lemmas of arguments: from the stop that the system's answer became to what the run promises over
 -- that answer, and from there to what the program promises.
-use Rattle.std.proofs.Common.{ℕ, ◌≡◌, ◌↔◌, ◌<◌, List, [], ◌∷◌, ◌++◌, length, drop, Option, Some, None, Ok, Err, ap, subst, inl, inr, arith}
+use Rattle.std.proofs.Common.{ℕ, ◌≡◌, ◌↔◌, ◌<◌, List, [], ◌∷◌, ◌++◌, length, drop, Option, Some, None, Ok, Err, ap, subst, ◌∙◌, inl, inr, arith}
 use Rattle.std.specs.Prelude.{IsSome, IsSomeAnd, String, Vec, option_to_list}
 use Rattle.std.specs.declared.alloc.Global.{Global}
 use Rattle.std.proofs.lemmas.Bool.{false≢true}
@@ -22,12 +22,13 @@ stopped_at_once before after stop status (Ok arguments) is stopped = inr (subst 
 stopped_at_once before after stop status (Err error) is stopped = subst (λ (s : Stop). StopsAtOnce s before after status) is stopped
 
 -- a run of the words that were taken
-pub took_words : {K : Type 0} (answer : Answer) (words : Vec (String Global) Global) (kept : Option K) (before : Outside) (after : K → Outside) (status : ℕ) → TakesWords answer (Ok words) → IsSomeAnd kept (λ k. Runs (command_of (word_bytes words.items)) before (after k) status)
+pub took_words : {K : Type 0} (answer : Answer) (words : Vec (String Global) Global) (lent : List (String Global)) (kept : Option K) (before : Outside) (after : K → Outside) (status : ℕ) → TakesWords answer (Ok words) → lent ≡ words.items
+    → IsSomeAnd kept (λ k. Runs (command_of (word_bytes lent)) before (after k) status)
     → IsSomeAnd kept (λ k. RunsArguments answer before (after k) status)
-took_words answer words None before after status took runs = absurd runs
-took_words (Ok arguments) words (Some k) before after status took runs =
-    inl (subst (λ (ws : List (String Global)). Runs (command_of (word_bytes ws)) before (after k) status) took runs)
-took_words (Err error) words (Some k) before after status took runs = absurd took
+took_words answer words lent None before after status took same runs = absurd runs
+took_words (Ok arguments) words lent (Some k) before after status took same runs =
+    inl (subst (λ (ws : List (String Global)). Runs (command_of (word_bytes ws)) before (after k) status) (same ∙ took) runs)
+took_words (Err error) words lent (Some k) before after status took same runs = absurd took
 
 -- what is left after the first item was taken
 pub left_after_first : {X : Type 0} (old new : List X) (n : ℕ) (first : Option X) → n ≡ length old → old ≡ option_to_list first ++ new → IsSome first ↔ (0 < n) → drop 1 old ≡ new

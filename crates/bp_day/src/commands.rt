@@ -14,6 +14,7 @@ use crate::told::{constant, unread};
 use anyhow::Result;
 use bp_cli::run::{Ended, run};
 use bp_core::{Bytes, ListOf, NumberList, RowList};
+use bp_desk::History;
 use bp_keep::MemKeeper;
 use bp_outside::{MemDoor, MemFolder, MemOut, MemSource};
 use bp_script::{Words, escaped};
@@ -192,15 +193,33 @@ impl Stage {
 }
 
 fn take_back(ended: Ended<MemKeeper, MemDoor>, day: &mut Day) -> u8 {
-    if let Some(keeper) = ended.keeper {
+    let Ended {
+        status,
+        keeper,
+        doors,
+        history,
+    } = ended;
+    take_keeper(day, keeper);
+    take_door(day, doors);
+    day.outside.calls = count_of(&history);
+    status
+}
+
+fn take_keeper(day: &mut Day, keeper: Option<MemKeeper>) {
+    if let Some(keeper) = keeper {
         day.keeper = keeper;
     }
-    let mut doors = ended.doors;
+}
+
+fn take_door(day: &mut Day, mut doors: Vec<MemDoor>) {
     if let Some(door) = doors.pop() {
         day.outside.served = door;
     }
-    if let Some(history) = &ended.history {
-        day.outside.calls = Some(history.len() as u64);
+}
+
+fn count_of(history: &Option<History>) -> Option<u64> {
+    match history {
+        Some(history) => Some(history.len() as u64),
+        None => None,
     }
-    ended.status
 }

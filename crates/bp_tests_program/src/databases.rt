@@ -90,8 +90,14 @@ fn ran<R: Threads + Sync>(
 }
 
 fn handed_back(ended: Ended<Rows, MemDoor>) -> Result<(u8, Rows), Fail> {
-    match ended.keeper {
-        Some(keeper) => Ok((ended.status, keeper)),
+    let Ended {
+        status,
+        keeper,
+        doors: _,
+        history: _,
+    } = ended;
+    match keeper {
+        Some(keeper) => Ok((status, keeper)),
         None => Err(Fail::from("no keeper came back")),
     }
 }

@@ -1,11 +1,11 @@
 #!/bin/sh
-# Makes the pictures of README.md, produced.png, withheld.png and foot.png, of the volume that produce_batch.sh wrote: a page
+# Makes the pictures of README.md, produced.png, withheld.png and foot.png, of the volume that office.sh wrote: a page
 # with a covered paragraph, and a slip sheet, each scaled down to 680 columns with 8 levels of grey; and the foot of the first,
 # the right half of its last 220 rows, pixel by pixel. Needs netpbm.
 set -eu
 cd "$(dirname "$0")"
 
-page() { tifftopnm -quiet "out/VOL001/IMAGES/0001/$1.TIF"; }
+page() { tifftopnm -quiet "out/office/out/VOL001/IMAGES/0001/$1.TIF"; }
 
 # page, picture
 picture() { page "$1" | pamdepth -quiet 255 | pamscale -quiet -xsize 680 | pamdepth -quiet 7 | pnmtopng -quiet -compression 9 > "$2"; }

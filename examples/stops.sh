@@ -1,7 +1,7 @@
 #!/bin/sh
 # Kills the program at random moments of `import` and of `produce`, and opens matter.db again: the program has to find the rows
 # from before the command or those after it, and sqlite3 a whole database with the same rows. Says how often it found which.
-# For `produce` each document of the example batch is called Produce by rows that python3 writes, as no desk takes calls yet.
+# For `produce` each document of the example batch is called Produce by rows that python3 writes, without a desk.
 # Words: how often each, 100 where there is none. Needs rt on PATH where the program isn't built; sqlite3 and python3.
 set -eu
 times=${1:-100}

@@ -12,7 +12,7 @@ use Rattle.std.proofs.lemmas.List.{append-nil, take_at, drop_at, take-append-dro
 use Rattle.std.proofs.lemmas.Nat.{le_bytes_4, from_le_bytes-to_le_bytes_4, le_bytes_8, from_le_bytes-to_le_bytes_8}
 use Rattle.bp_matter.specs.Fields.{byte, word, long, text, list}
 use Rattle.bp_matter.specs.Written.{is_word, is_long, is_short, are_few}
-use Rattle.bp_matter.specs.Reading.{Read, ◌>>=◌, word_at, characters_at, text_at, value_of, bytes_at, many_at, many_on, list_at, long_at, Fails}
+use Rattle.bp_matter.specs.Reading.{Read, ◌>>=◌, u32_at, characters_at, text_at, value_of, bytes_at, many_at, many_on, list_at, u64_at, Fails}
 use Rattle.bp_matter.specs.declared.read_fault.ReadFault.{ReadFault}
 use Rattle.bp_matter.specs.declared.read_fault.ReadFault.TheVariants as faults
 use Rattle.bp_matter.proofs.CodecLemmas.{IsBytes, Codec, bind_some, last_of, byte_codec, IsBytes-after, same}
@@ -45,10 +45,10 @@ guard_some : {A : Type 0} (b : Bool) (x y : A) → cond b None (Some x) ≡ Some
 guard_some true x y e = absurd cc
 guard_some false x y e = (refl, cc)
 
-word_again : (front rest : List ℕ) (n : ℕ) → length front ≡ 4 → ltb (length (front ++ rest)) 4 ≡ false → from_le_bytes w32 front ≡ n → word_at (front ++ rest) ≡ Some (n, rest)
+word_again : (front rest : List ℕ) (n : ℕ) → length front ≡ 4 → ltb (length (front ++ rest)) 4 ≡ false → from_le_bytes w32 front ≡ n → u32_at (front ++ rest) ≡ Some (n, rest)
 word_again front rest n len long is = rw (long, take_at front rest 4 len, drop_at front rest 4 len, is) refl
 
-pub word_codec : Codec (λ n. IsTrue (is_word n)) word word_at
+pub word_codec : Codec (λ n. IsTrue (is_word n)) word u32_at
 unfolding word
 word_codec = record {
   takes = λ bytes n rest h e.
@@ -66,10 +66,10 @@ word_codec = record {
       word_again (word n) rest n refl long (from_le_bytes-to_le_bytes_4 n lt);
 }
 
-long_again : (front rest : List ℕ) (n : ℕ) → length front ≡ 8 → ltb (length (front ++ rest)) 8 ≡ false → from_le_bytes w64 front ≡ n → long_at (front ++ rest) ≡ Some (n, rest)
+long_again : (front rest : List ℕ) (n : ℕ) → length front ≡ 8 → ltb (length (front ++ rest)) 8 ≡ false → from_le_bytes w64 front ≡ n → u64_at (front ++ rest) ≡ Some (n, rest)
 long_again front rest n len enough is = rw (enough, take_at front rest 8 len, drop_at front rest 8 len, is) refl
 
-pub long_codec : Codec (λ n. IsTrue (is_long n)) long long_at
+pub long_codec : Codec (λ n. IsTrue (is_long n)) long u64_at
 unfolding long
 long_codec = record {
   takes = λ bytes n rest h e.
@@ -115,7 +115,7 @@ pub text_codec : Codec (λ t. IsTrue (is_short t)) text text_at
 unfolding text_at
 text_codec = record {
   takes = λ bytes t rest h e.
-      let step = bind_some (word_at bytes) (λ n. characters_at n.0 n.1) (t, rest) e in
+      let step = bind_some (u32_at bytes) (λ n. characters_at n.0 n.1) (t, rest) e in
       let first = word_codec.takes bytes step.0.0 step.0.1 h step.1 in
       let read = characters_takes step.0.0 step.0.1 t rest step.2 in
       let len : step.0.0 ≡ length (encode_utf8_all t) = read.1 in (
@@ -124,7 +124,7 @@ text_codec = record {
       );
   again = λ t rest h.
       let parts = and_parts (all_scalars t) (is_word (length (encode_utf8_all t))) h in
-      ap (λ (b : List ℕ). word_at b >>= λ n. characters_at n.0 n.1) (append_assoc (word (length (encode_utf8_all t))) (encode_utf8_all t) rest)
+      ap (λ (b : List ℕ). u32_at b >>= λ n. characters_at n.0 n.1) (append_assoc (word (length (encode_utf8_all t))) (encode_utf8_all t) rest)
       ∙ ap (λ (r : Read ℕ). r >>= λ n. characters_at n.0 n.1) (word_codec.again (length (encode_utf8_all t)) (encode_utf8_all t ++ rest) parts.1)
       ∙ characters_again t rest parts.0;
 }
@@ -189,14 +189,14 @@ ListOf P vs = AllByRecursion P vs × IsTrue (is_word (length vs))
 pub list_codec : {V : Type 0} {P : V → Type 0} {write : V → List ℕ} {read : List ℕ → Read V} → Codec P write read → Codec (ListOf P) (list write) (list_at read)
 list_codec {V} {P} {write} {read} one = record {
   takes = λ bytes vs rest h e.
-      let step = bind_some (word_at bytes) (λ n. many_at read n.0 n.1) (vs, rest) e in
+      let step = bind_some (u32_at bytes) (λ n. many_at read n.0 n.1) (vs, rest) e in
       let first = word_codec.takes bytes step.0.0 step.0.1 h step.1 in
       let next = many_takes one step.0.0 step.0.1 vs rest (IsBytes-after (word step.0.0) step.0.1 bytes first.1 h) step.2 in (
         (next.0, subst (λ (n : ℕ). IsTrue (is_word n)) next.1 first.0),
         first.1 ∙ ap (λ (b : List ℕ). word step.0.0 ++ b) next.2 ∙ ap (λ (n : ℕ). word n ++ (flat_map write vs ++ rest)) next.1 ∙ sym (append_assoc (word (length vs)) (flat_map write vs) rest),
       );
   again = λ vs rest h.
-      ap (λ (b : List ℕ). word_at b >>= λ n. many_at read n.0 n.1) (append_assoc (word (length vs)) (flat_map write vs) rest)
+      ap (λ (b : List ℕ). u32_at b >>= λ n. many_at read n.0 n.1) (append_assoc (word (length vs)) (flat_map write vs) rest)
       ∙ ap (λ (r : Read ℕ). r >>= λ n. many_at read n.0 n.1) (word_codec.again (length vs) (flat_map write vs ++ rest) h.1)
       ∙ many_again one vs rest h.0;
 }

@@ -12,5 +12,5 @@ pub mod NumberedLemmas
 pub mod OrderLemmas
 pub mod ReachLemmas
 pub mod RowLemmas
-pub mod RunLemmas
+pub mod SegmentLemmas
 mod ValidExamples

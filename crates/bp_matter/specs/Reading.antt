@@ -62,19 +62,19 @@ Gives view (Err fault) read = Fails fault read
 -- ---- fields
 
 -- a number of 8 bits
-abbrev pub byte_at : List ℕ → Read ℕ
-byte_at [] = None
-byte_at (b ∷ bytes) = Some (b, bytes)
+abbrev pub u8_at : List ℕ → Read ℕ
+u8_at [] = None
+u8_at (b ∷ bytes) = Some (b, bytes)
 
 -- a number of 32 bits
-abbrev pub word_at : List ℕ → Read ℕ
-word_at bytes =
+abbrev pub u32_at : List ℕ → Read ℕ
+u32_at bytes =
     if nat_lt (length bytes) 4 then None
     else Some (from_le_bytes w32 (take 4 bytes), drop 4 bytes)
 
 -- a number of 64 bits
-abbrev pub long_at : List ℕ → Read ℕ
-long_at bytes =
+abbrev pub u64_at : List ℕ → Read ℕ
+u64_at bytes =
     if nat_lt (length bytes) 8 then None
     else Some (from_le_bytes w64 (take 8 bytes), drop 8 bytes)
 
@@ -87,13 +87,13 @@ characters_at n bytes =
 -- a text after its length
 unfoldable pub text_at : List ℕ → Read (List ℕ)
 text_at bytes = do
-  n ← word_at bytes
+  n ← u32_at bytes
   characters_at n.0 n.1
 
 -- a value of a byte, where it has one
 abbrev pub value_of : {V : Type 0} → (ℕ → Option V) → List ℕ → Read V
 value_of value bytes = do
-  b ← byte_at bytes
+  b ← u8_at bytes
   v ← value b.0
   Some (v, b.1)
 
@@ -149,7 +149,7 @@ many_on before (Some x) = Some (before ++ x.0, x.1)
 -- a list after its count
 abbrev pub list_at : {V : Type 0} → (List ℕ → Read V) → List ℕ → Read (List V)
 list_at read bytes = do
-  n ← word_at bytes
+  n ← u32_at bytes
   many_at read n.0 n.1
 
 -- a called state
@@ -162,9 +162,9 @@ state_of n editor confirmer =
 -- a state of a call
 unfoldable pub state_at : List ℕ → Read State
 state_at bytes = do
-  n ← byte_at bytes
-  editor ← word_at n.1
-  confirmer ← word_at editor.1
+  n ← u8_at bytes
+  editor ← u32_at n.1
+  confirmer ← u32_at editor.1
   state ← state_of n.0 editor.0 confirmer.0
   Some (state, confirmer.1)
 
@@ -184,24 +184,24 @@ optional_at read bytes = do
 -- parts that several bodies share
 unfoldable pub rect_at : List ℕ → Read Rect
 rect_at bytes = do
-  left ← word_at bytes
-  top ← word_at left.1
-  width ← word_at top.1
-  height ← word_at width.1
+  left ← u32_at bytes
+  top ← u32_at left.1
+  width ← u32_at top.1
+  height ← u32_at width.1
   Some (record { left = left.0; top = top.0; width = width.0; height = height.0 }, height.1)
 
 -- a span at the front of bytes
 unfoldable pub span_at : List ℕ → Read Span
 span_at bytes = do
-  first ← long_at bytes
-  last ← long_at first.1
+  first ← u64_at bytes
+  last ← u64_at first.1
   Some (record { first = first.0; last = last.0 }, last.1)
 
 -- a prefix at the front of bytes
 unfoldable pub prefix_at : List ℕ → Read Prefix
 prefix_at bytes = do
   text ← text_at bytes
-  width ← byte_at text.1
+  width ← u8_at text.1
   Some (record { text = text.0; width = width.0 }, width.1)
 
 -- ---- parts of bodies
@@ -226,7 +226,7 @@ entry_fields_at bytes = do
 -- the box of that number
 unfoldable pub box_rest_at : ℕ → List ℕ → Read BoxRow
 box_rest_at num bytes = do
-  page ← word_at bytes
+  page ← u32_at bytes
   rect ← rect_at page.1
   basis ← value_of basis_of rect.1
   Some (record { num = num; page = record { 0 = page.0 }; rect = rect.0; basis = basis.0 }, basis.1)
@@ -234,20 +234,20 @@ box_rest_at num bytes = do
 -- a box with its number
 unfoldable pub box_part_at : List ℕ → Read BoxRow
 box_part_at bytes = do
-  num ← word_at bytes
+  num ← u32_at bytes
   box_rest_at num.0 num.1
 
 -- a held field with its number
 unfoldable pub held_part_at : List ℕ → Read HeldRow
 held_part_at bytes = do
-  field ← word_at bytes
+  field ← u32_at bytes
   basis ← value_of basis_of field.1
   Some (record { field = field.0; basis = basis.0 }, basis.1)
 
 -- a word of a page
 unfoldable pub word_part_at : List ℕ → Read Word
 word_part_at bytes = do
-  line ← word_at bytes
+  line ← u32_at bytes
   rect ← rect_at line.1
   text ← text_at rect.1
   Some (record { line = line.0; rect = rect.0; text = text.0 }, text.1)
@@ -255,8 +255,8 @@ word_part_at bytes = do
 -- an item of a production
 unfoldable pub item_at : List ℕ → Read Item
 item_at bytes = do
-  doc ← word_at bytes
-  parent ← word_at doc.1
+  doc ← u32_at bytes
+  parent ← u32_at doc.1
   treatment ← value_of treatment_of parent.1
   boxes ← list_at box_part_at treatment.1
   held ← list_at held_part_at boxes.1
@@ -283,8 +283,8 @@ request_at bytes = do
   id ← text_at bytes
   volume ← text_at id.1
   prefix ← prefix_at volume.1
-  from ← word_at prefix.1
-  to ← word_at from.1
+  from ← u32_at prefix.1
+  to ← u32_at from.1
   fields ← list_at text_at to.1
   Some (
     record {
@@ -328,9 +328,9 @@ field_at field bytes = do
 unfoldable pub doc_at : ℕ → List ℕ → Read DocRow
 doc_at doc bytes = do
   version ← value_of one_of bytes
-  parent ← word_at version.1
-  pages ← word_at parent.1
-  batch ← word_at pages.1
+  parent ← u32_at version.1
+  pages ← u32_at parent.1
+  batch ← u32_at pages.1
   id ← text_at batch.1
   values ← list_at text_at id.1
   Some (
@@ -348,12 +348,12 @@ doc_at doc bytes = do
 -- an image whose strip is all that is left
 unfoldable pub image_at : List ℕ → Option Image
 image_at bytes = do
-  width ← word_at bytes
-  height ← word_at width.1
-  xres_num ← word_at height.1
-  xres_den ← word_at xres_num.1
-  yres_num ← word_at xres_den.1
-  yres_den ← word_at yres_num.1
+  width ← u32_at bytes
+  height ← u32_at width.1
+  xres_num ← u32_at height.1
+  xres_den ← u32_at xres_num.1
+  yres_num ← u32_at xres_den.1
+  yres_den ← u32_at yres_num.1
   unit ← value_of unit_of yres_den.1
   lines ← lines_of width.0 height.0 unit.1
   Some (record {
@@ -428,8 +428,8 @@ entry_at doc bytes = do
 unfoldable pub prefix_row_at : ℕ → List ℕ → Read PrefixRow
 prefix_row_at num bytes = do
   version ← value_of one_of bytes
-  width ← byte_at version.1
-  next ← long_at width.1
+  width ← u8_at version.1
+  next ← u64_at width.1
   text ← text_at next.1
   Some (
     record {
@@ -463,8 +463,8 @@ unfoldable pub batch_at : ℕ → List ℕ → Read BatchRow
 batch_at num bytes = do
   version ← value_of one_of bytes
   digest ← bytes_at 32 version.1
-  documents ← word_at digest.1
-  pages ← word_at documents.1
+  documents ← u32_at digest.1
+  pages ← u32_at documents.1
   name ← text_at pages.1
   Some (
     record {

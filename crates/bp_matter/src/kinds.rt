@@ -4,7 +4,7 @@ ghost use Rattle.std.specs.List.{list_all};
 ghost use Rattle.bp_core.specs.declared.kept.Row.{Row};
 ghost use Rattle.bp_shelves.specs.Shelves.{rows_on};
 ghost use Rattle.bp_matter.specs.KeptRows.{box_kept, call_kept, entry_kept, held_kept};
-ghost use Rattle.bp_matter.specs.ReadRows.{run_of};
+ghost use Rattle.bp_matter.specs.ReadRows.{segment_of};
 ghost use Rattle.bp_matter.specs.Written.{box_written, call_written, entry_written, held_written};
 ghost use Rattle.bp_matter.specs.declared.read_fault.ReadFault.TheVariants.{Malformed};
 
@@ -497,8 +497,8 @@ pub(crate) fn take_rows<T: Kind>(
     alloc: Global,
     rows: &[Row],
 ) -> Result<(Vec<T>, &[Row]), OutOfMemory>
-    ensures values { IfOk result (λ x. x.0.items ≡ (run_of T.read_of rows.now).0) }
-    ensures rest { IfOk result (λ x. x.1.now ≡ (run_of T.read_of rows.now).1) }
+    ensures values { IfOk result (λ x. x.0.items ≡ (segment_of T.read_of rows.now).0) }
+    ensures rest { IfOk result (λ x. x.1.now ≡ (segment_of T.read_of rows.now).1) }
     ensures parts { IfOk result (λ x. rows.now ≡ map T.kept_of x.0.items ++ x.1.now) }
     ensures written { IfOk result (λ x. IsTrue (list_all T.is_written x.0.items)) }
 {

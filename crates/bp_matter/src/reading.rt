@@ -1,7 +1,7 @@
 // Reading the bodies of kept rows.
 ghost use Rattle.std.specs.Prelude.{◌≡◌, ◌<◌, ◌≤◌, ◌^◌, length};
 ghost use Rattle.bp_matter.specs.Written.{span_of, first_number, last_number};
-ghost use Rattle.bp_matter.specs.Reading.{Gives, byte_at, word_at, long_at, text_at, characters_at, value_of, one_of, flag_of, basis_of, treatment_of, state_at, state_of, role_of, bytes_at, many_at, list_at, value_there, optional_at, rect_at, span_at, prefix_at, entry_fields_at, box_rest_at, box_part_at, held_part_at, word_part_at, item_at, request_at, unit_of, image_at, staff_at, field_at, doc_at, page_at, call_at, box_at, held_at, entry_at, prefix_row_at, production_at, batch_at, words_at};
+ghost use Rattle.bp_matter.specs.Reading.{Gives, u8_at, u32_at, u64_at, text_at, characters_at, value_of, one_of, flag_of, basis_of, treatment_of, state_at, state_of, role_of, bytes_at, many_at, list_at, value_there, optional_at, rect_at, span_at, prefix_at, entry_fields_at, box_rest_at, box_part_at, held_part_at, word_part_at, item_at, request_at, unit_of, image_at, staff_at, field_at, doc_at, page_at, call_at, box_at, held_at, entry_at, prefix_row_at, production_at, batch_at, words_at};
 
 use crate::images::read_image;
 use crate::parts::Part;
@@ -17,8 +17,8 @@ use bp_rows::{Page, Res, Unit};
 use bp_text::Word;
 use std::alloc::{AllocError, Global};
 
-fn take_byte(bytes: &[u8]) -> Result<(u8, &[u8]), ReadFault>
-    ensures { Gives (λ x. (x.0, x.1.now)) result (byte_at bytes.now) }
+fn take_u8(bytes: &[u8]) -> Result<(u8, &[u8]), ReadFault>
+    ensures { Gives (λ x. (x.0, x.1.now)) result (u8_at bytes.now) }
 {
     match bytes {
         [] => Err(ReadFault::Malformed),
@@ -26,8 +26,8 @@ fn take_byte(bytes: &[u8]) -> Result<(u8, &[u8]), ReadFault>
     }
 }
 
-fn take_word(bytes: &[u8]) -> Result<(u32, &[u8]), ReadFault>
-    ensures { Gives (λ x. (x.0, x.1.now)) result (word_at bytes.now) }
+fn take_u32(bytes: &[u8]) -> Result<(u32, &[u8]), ReadFault>
+    ensures { Gives (λ x. (x.0, x.1.now)) result (u32_at bytes.now) }
 {
     if bytes.len() < 4 {
         return Err(ReadFault::Malformed);
@@ -54,14 +54,14 @@ fn take_characters(alloc: Global, len: usize, bytes: &[u8]) -> Result<(Text, &[u
 pub(crate) fn take_text(alloc: Global, bytes: &[u8]) -> Result<(Text, &[u8]), ReadFault>
     ensures { Gives (λ x. (x.0, x.1.now)) result (text_at bytes.now) }
 {
-    let (len, rest) = take_word(bytes)?;
+    let (len, rest) = take_u32(bytes)?;
     take_characters(alloc, len as usize, rest)
 }
 
 fn take_version(bytes: &[u8]) -> Result<((), &[u8]), ReadFault>
     ensures { Gives (λ x. (x.0, x.1.now)) result (value_of one_of bytes.now) }
 {
-    let (byte, rest) = take_byte(bytes)?;
+    let (byte, rest) = take_u8(bytes)?;
     if byte == 1 {
         Ok(((), rest))
     } else {
@@ -72,7 +72,7 @@ fn take_version(bytes: &[u8]) -> Result<((), &[u8]), ReadFault>
 fn take_flag(bytes: &[u8]) -> Result<(bool, &[u8]), ReadFault>
     ensures { Gives (λ x. (x.0, x.1.now)) result (value_of flag_of bytes.now) }
 {
-    let (byte, rest) = take_byte(bytes)?;
+    let (byte, rest) = take_u8(bytes)?;
     match byte {
         0 => Ok((false, rest)),
         1 => Ok((true, rest)),
@@ -83,7 +83,7 @@ fn take_flag(bytes: &[u8]) -> Result<(bool, &[u8]), ReadFault>
 fn take_treatment(bytes: &[u8]) -> Result<(Treatment, &[u8]), ReadFault>
     ensures { Gives (λ x. (x.0, x.1.now)) result (value_of treatment_of bytes.now) }
 {
-    let (byte, rest) = take_byte(bytes)?;
+    let (byte, rest) = take_u8(bytes)?;
     match byte {
         0 => Ok((Treatment::Produce, rest)),
         1 => Ok((Treatment::Redact, rest)),
@@ -109,17 +109,17 @@ fn state_of(number: u8, editor: u32, confirmer: u32) -> Option<State>
 fn take_state(bytes: &[u8]) -> Result<(State, &[u8]), ReadFault>
     ensures { Gives (λ x. (x.0, x.1.now)) result (state_at bytes.now) }
 {
-    let (number, rest) = take_byte(bytes)?;
-    let (editor, rest) = take_word(rest)?;
-    let (confirmer, rest) = take_word(rest)?;
+    let (number, rest) = take_u8(bytes)?;
+    let (editor, rest) = take_u32(rest)?;
+    let (confirmer, rest) = take_u32(rest)?;
     match state_of(number, editor, confirmer) {
         Some(state) => Ok((state, rest)),
         None => Err(ReadFault::Malformed),
     }
 }
 
-fn take_long(bytes: &[u8]) -> Result<(u64, &[u8]), ReadFault>
-    ensures { Gives (λ x. (x.0, x.1.now)) result (long_at bytes.now) }
+fn take_u64(bytes: &[u8]) -> Result<(u64, &[u8]), ReadFault>
+    ensures { Gives (λ x. (x.0, x.1.now)) result (u64_at bytes.now) }
 {
     if bytes.len() < 8 {
         return Err(ReadFault::Malformed);
@@ -157,7 +157,7 @@ fn take_many<T: Part>(alloc: Global, count: u32, bytes: &[u8]) -> Result<(Vec<T>
 fn take_list<T: Part>(alloc: Global, bytes: &[u8]) -> Result<(ListOf<T>, &[u8]), ReadFault>
     ensures { Gives (λ x. (x.0, x.1.now)) result (list_at T.read_at bytes.now) }
 {
-    let (count, rest) = take_word(bytes)?;
+    let (count, rest) = take_u32(bytes)?;
     let (values, rest) = take_many(alloc, count, rest)?;
     Ok((ListOf::from_vec(values), rest))
 }
@@ -179,10 +179,10 @@ fn take_entry_if(alloc: Global, bytes: &[u8]) -> Result<(Option<Entry>, &[u8]), 
 fn take_rect(bytes: &[u8]) -> Result<(Rect, &[u8]), ReadFault>
     ensures { Gives (λ x. (x.0, x.1.now)) result (rect_at bytes.now) }
 {
-    let (left, rest) = take_word(bytes)?;
-    let (top, rest) = take_word(rest)?;
-    let (width, rest) = take_word(rest)?;
-    let (height, rest) = take_word(rest)?;
+    let (left, rest) = take_u32(bytes)?;
+    let (top, rest) = take_u32(rest)?;
+    let (width, rest) = take_u32(rest)?;
+    let (height, rest) = take_u32(rest)?;
     let row = Rect {
         left,
         top,
@@ -196,8 +196,8 @@ fn take_rect(bytes: &[u8]) -> Result<(Rect, &[u8]), ReadFault>
 fn take_span(bytes: &[u8]) -> Result<(Span, &[u8]), ReadFault>
     ensures { Gives (λ x. (x.0, x.1.now)) result (span_at bytes.now) }
 {
-    let (first, rest) = take_long(bytes)?;
-    let (last, rest) = take_long(rest)?;
+    let (first, rest) = take_u64(bytes)?;
+    let (last, rest) = take_u64(rest)?;
     Ok((Span { first, last }, rest))
 }
 
@@ -206,7 +206,7 @@ fn take_prefix_part(alloc: Global, bytes: &[u8]) -> Result<(Prefix, &[u8]), Read
     ensures { Gives (λ x. (x.0, x.1.now)) result (prefix_at bytes.now) }
 {
     let (text, rest) = take_text(alloc, bytes)?;
-    let (width, rest) = take_byte(rest)?;
+    let (width, rest) = take_u8(rest)?;
     Ok((Prefix { text, width }, rest))
 }
 
@@ -231,7 +231,7 @@ fn take_entry_fields(alloc: Global, bytes: &[u8]) -> Result<(Entry, &[u8]), Read
 fn take_box_rest(num: u32, bytes: &[u8]) -> Result<(BoxRow, &[u8]), ReadFault>
     ensures { Gives (λ x. (x.0, x.1.now)) result (box_rest_at num bytes.now) }
 {
-    let (page, rest) = take_word(bytes)?;
+    let (page, rest) = take_u32(bytes)?;
     let (rect, rest) = take_rect(rest)?;
     let (basis, rest) = take_basis(rest)?;
     let row = BoxRow {
@@ -247,7 +247,7 @@ fn take_box_rest(num: u32, bytes: &[u8]) -> Result<(BoxRow, &[u8]), ReadFault>
 pub(crate) fn take_box_part(bytes: &[u8]) -> Result<(BoxRow, &[u8]), ReadFault>
     ensures { Gives (λ x. (x.0, x.1.now)) result (box_part_at bytes.now) }
 {
-    let (num, rest) = take_word(bytes)?;
+    let (num, rest) = take_u32(bytes)?;
     take_box_rest(num, rest)
 }
 
@@ -255,7 +255,7 @@ pub(crate) fn take_box_part(bytes: &[u8]) -> Result<(BoxRow, &[u8]), ReadFault>
 pub(crate) fn take_held_part(bytes: &[u8]) -> Result<(HeldRow, &[u8]), ReadFault>
     ensures { Gives (λ x. (x.0, x.1.now)) result (held_part_at bytes.now) }
 {
-    let (field, rest) = take_word(bytes)?;
+    let (field, rest) = take_u32(bytes)?;
     let (basis, rest) = take_basis(rest)?;
     Ok((HeldRow { field, basis }, rest))
 }
@@ -264,7 +264,7 @@ pub(crate) fn take_held_part(bytes: &[u8]) -> Result<(HeldRow, &[u8]), ReadFault
 pub(crate) fn take_word_part(alloc: Global, bytes: &[u8]) -> Result<(Word, &[u8]), ReadFault>
     ensures { Gives (λ x. (x.0, x.1.now)) result (word_part_at bytes.now) }
 {
-    let (line, rest) = take_word(bytes)?;
+    let (line, rest) = take_u32(bytes)?;
     let (rect, rest) = take_rect(rest)?;
     let (text, rest) = take_text(alloc, rest)?;
     Ok((Word { line, rect, text }, rest))
@@ -274,8 +274,8 @@ pub(crate) fn take_word_part(alloc: Global, bytes: &[u8]) -> Result<(Word, &[u8]
 pub(crate) fn take_item(alloc: Global, bytes: &[u8]) -> Result<(Item, &[u8]), ReadFault>
     ensures { Gives (λ x. (x.0, x.1.now)) result (item_at bytes.now) }
 {
-    let (doc, rest) = take_word(bytes)?;
-    let (parent, rest) = take_word(rest)?;
+    let (doc, rest) = take_u32(bytes)?;
+    let (parent, rest) = take_u32(rest)?;
     let (treatment, rest) = take_treatment(rest)?;
     let (boxes, rest) = take_list(alloc, rest)?;
     let (held, rest) = take_list(alloc, rest)?;
@@ -302,8 +302,8 @@ fn take_request(alloc: Global, bytes: &[u8]) -> Result<(Request, &[u8]), ReadFau
     let (id, rest) = take_text(alloc, bytes)?;
     let (volume, rest) = take_text(alloc, rest)?;
     let (prefix, rest) = take_prefix_part(alloc, rest)?;
-    let (from, rest) = take_word(rest)?;
-    let (to, rest) = take_word(rest)?;
+    let (from, rest) = take_u32(rest)?;
+    let (to, rest) = take_u32(rest)?;
     let (fields, rest) = take_list(alloc, rest)?;
     let row = Request {
         id,
@@ -319,7 +319,7 @@ fn take_request(alloc: Global, bytes: &[u8]) -> Result<(Request, &[u8]), ReadFau
 fn take_role(bytes: &[u8]) -> Result<(Role, &[u8]), ReadFault>
     ensures { Gives (λ x. (x.0, x.1.now)) result (value_of role_of bytes.now) }
 {
-    let (byte, rest) = take_byte(bytes)?;
+    let (byte, rest) = take_u8(bytes)?;
     match byte {
         0 => Ok((Role::Reviewer, rest)),
         1 => Ok((Role::Second, rest)),
@@ -333,7 +333,7 @@ fn take_role(bytes: &[u8]) -> Result<(Role, &[u8]), ReadFault>
 fn take_basis(bytes: &[u8]) -> Result<(Basis, &[u8]), ReadFault>
     ensures { Gives (λ x. (x.0, x.1.now)) result (value_of basis_of bytes.now) }
 {
-    let (byte, rest) = take_byte(bytes)?;
+    let (byte, rest) = take_u8(bytes)?;
     match byte {
         0 => Ok((Basis::Ac, rest)),
         1 => Ok((Basis::Wp, rest)),
@@ -394,9 +394,9 @@ pub(crate) fn take_doc(alloc: Global, doc: u32, bytes: &[u8]) -> Result<(DocRow,
     ensures { Gives (λ x. (x.0, x.1.now)) result (doc_at doc bytes.now) }
 {
     let (_version, rest) = take_version(bytes)?;
-    let (parent, rest) = take_word(rest)?;
-    let (pages, rest) = take_word(rest)?;
-    let (batch, rest) = take_word(rest)?;
+    let (parent, rest) = take_u32(rest)?;
+    let (pages, rest) = take_u32(rest)?;
+    let (batch, rest) = take_u32(rest)?;
     let (id, rest) = take_text(alloc, rest)?;
     let (values, rest) = take_list(alloc, rest)?;
     let row = DocRow {
@@ -413,7 +413,7 @@ pub(crate) fn take_doc(alloc: Global, doc: u32, bytes: &[u8]) -> Result<(DocRow,
 fn take_unit(bytes: &[u8]) -> Result<(Unit, &[u8]), ReadFault>
     ensures { Gives (λ x. (x.0, x.1.now)) result (value_of unit_of bytes.now) }
 {
-    let (byte, rest) = take_byte(bytes)?;
+    let (byte, rest) = take_u8(bytes)?;
     match byte {
         1 => Ok((Unit::None, rest)),
         2 => Ok((Unit::Inch, rest)),
@@ -426,12 +426,12 @@ fn take_unit(bytes: &[u8]) -> Result<(Unit, &[u8]), ReadFault>
 fn take_image(alloc: Global, bytes: &[u8]) -> Result<Page, ReadFault>
     ensures { Gives (λ x. x) result (image_at bytes.now) }
 {
-    let (width, rest) = take_word(bytes)?;
-    let (height, rest) = take_word(rest)?;
-    let (xres_num, rest) = take_word(rest)?;
-    let (xres_den, rest) = take_word(rest)?;
-    let (yres_num, rest) = take_word(rest)?;
-    let (yres_den, rest) = take_word(rest)?;
+    let (width, rest) = take_u32(bytes)?;
+    let (height, rest) = take_u32(rest)?;
+    let (xres_num, rest) = take_u32(rest)?;
+    let (xres_den, rest) = take_u32(rest)?;
+    let (yres_num, rest) = take_u32(rest)?;
+    let (yres_den, rest) = take_u32(rest)?;
     let (unit, rest) = take_unit(rest)?;
     let page = read_image(alloc, width, height, rest)?;
     let xres = Res {
@@ -530,8 +530,8 @@ pub(crate) fn take_prefix(
     ensures { Gives (λ x. (x.0, x.1.now)) result (prefix_row_at num bytes.now) }
 {
     let (_version, rest) = take_version(bytes)?;
-    let (width, rest) = take_byte(rest)?;
-    let (next, rest) = take_long(rest)?;
+    let (width, rest) = take_u8(rest)?;
+    let (next, rest) = take_u64(rest)?;
     let (text, rest) = take_text(alloc, rest)?;
     let prefix = Prefix { text, width };
     Ok((PrefixRow { num, prefix, next }, rest))
@@ -595,8 +595,8 @@ pub(crate) fn take_batch(
 {
     let (_version, rest) = take_version(bytes)?;
     let (digest, rest) = take_digest(rest)?;
-    let (documents, rest) = take_word(rest)?;
-    let (pages, rest) = take_word(rest)?;
+    let (documents, rest) = take_u32(rest)?;
+    let (pages, rest) = take_u32(rest)?;
     let (name, rest) = take_text(alloc, rest)?;
     let row = BatchRow {
         num,

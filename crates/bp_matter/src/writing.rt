@@ -19,7 +19,7 @@ use bp_rows::{Page, Unit};
 use bp_text::Word;
 use std::alloc::Global;
 
-fn put_byte(out: &mut Vec<u8>, number: u8) -> Result<(), OutOfMemory>
+fn put_u8(out: &mut Vec<u8>, number: u8) -> Result<(), OutOfMemory>
     ensures { OnOk result (out.new.items ≡ out.old.items ++ byte number) }
 {
     out.push(number)?;
@@ -27,7 +27,7 @@ fn put_byte(out: &mut Vec<u8>, number: u8) -> Result<(), OutOfMemory>
 }
 
 #[tactic(auto, unfolding(crate::specs::Fields::word))]
-fn put_word(out: &mut Vec<u8>, number: u32) -> Result<(), OutOfMemory>
+fn put_u32(out: &mut Vec<u8>, number: u32) -> Result<(), OutOfMemory>
     ensures { OnOk result (out.new.items ≡ out.old.items ++ word number) }
 {
     out.extend_from_slice(&number.to_le_bytes())?;
@@ -38,7 +38,7 @@ pub(crate) fn put_text(out: &mut Vec<u8>, characters: &Text) -> Result<(), OutOf
     requires { length (encode_utf8_all characters.now) < 2 ^ 32 }
     ensures { OnOk result (out.new.items ≡ out.old.items ++ text characters.now) }
 {
-    put_word(out, characters.len() as u32)?;
+    put_u32(out, characters.len() as u32)?;
     out.extend_from_slice(characters.as_str().as_bytes())?;
     Ok(())
 }
@@ -51,9 +51,9 @@ fn put_state(out: &mut Vec<u8>, of: State) -> Result<(), OutOfMemory>
         State::First(editor) => (1, editor.0, 0),
         State::Confirmed(editor, confirmer) => (2, editor.0, confirmer.0),
     };
-    put_byte(out, number)?;
-    put_word(out, editor)?;
-    put_word(out, confirmer)
+    put_u8(out, number)?;
+    put_u32(out, editor)?;
+    put_u32(out, confirmer)
 }
 
 fn treatment_number(of: Treatment) -> u8
@@ -69,7 +69,7 @@ fn treatment_number(of: Treatment) -> u8
 }
 
 #[tactic(auto, unfolding(crate::specs::Fields::long))]
-fn put_long(out: &mut Vec<u8>, number: u64) -> Result<(), OutOfMemory>
+fn put_u64(out: &mut Vec<u8>, number: u64) -> Result<(), OutOfMemory>
     ensures { OnOk result (out.new.items ≡ out.old.items ++ long number) }
 {
     out.extend_from_slice(&number.to_le_bytes())?;
@@ -80,7 +80,7 @@ fn put_list<T: Part>(out: &mut Vec<u8>, values: &[T]) -> Result<(), OutOfMemory>
     requires { IsTrue (are_few T.is_written values.now) }
     ensures { OnOk result (out.new.items ≡ out.old.items ++ list T.part_of values.now) }
 {
-    put_word(out, values.len() as u32)?;
+    put_u32(out, values.len() as u32)?;
     put_many(out, values)
 }
 
@@ -97,17 +97,17 @@ fn put_many<T: Part>(out: &mut Vec<u8>, values: &[T]) -> Result<(), OutOfMemory>
 fn put_rect(out: &mut Vec<u8>, of: Rect) -> Result<(), OutOfMemory>
     ensures { OnOk result (out.new.items ≡ out.old.items ++ rect of) }
 {
-    put_word(out, of.left)?;
-    put_word(out, of.top)?;
-    put_word(out, of.width)?;
-    put_word(out, of.height)
+    put_u32(out, of.left)?;
+    put_u32(out, of.top)?;
+    put_u32(out, of.width)?;
+    put_u32(out, of.height)
 }
 
 fn put_span(out: &mut Vec<u8>, of: Span) -> Result<(), OutOfMemory>
     ensures { OnOk result (out.new.items ≡ out.old.items ++ span of) }
 {
-    put_long(out, of.first)?;
-    put_long(out, of.last)
+    put_u64(out, of.first)?;
+    put_u64(out, of.last)
 }
 
 fn put_prefix(out: &mut Vec<u8>, of: &Prefix) -> Result<(), OutOfMemory>
@@ -115,7 +115,7 @@ fn put_prefix(out: &mut Vec<u8>, of: &Prefix) -> Result<(), OutOfMemory>
     ensures { OnOk result (out.new.items ≡ out.old.items ++ prefix of.now) }
 {
     put_text(out, &of.text)?;
-    put_byte(out, of.width)
+    put_u8(out, of.width)
 }
 
 fn put_entry_fields(out: &mut Vec<u8>, entry: &Entry) -> Result<(), OutOfMemory>
@@ -133,9 +133,9 @@ fn put_entry_if(out: &mut Vec<u8>, entry: &Option<Entry>) -> Result<(), OutOfMem
     ensures { OnOk result (out.new.items ≡ out.old.items ++ optional entry_part entry.now) }
 {
     match entry {
-        None => put_byte(out, 0),
+        None => put_u8(out, 0),
         Some(entry) => {
-            put_byte(out, 1)?;
+            put_u8(out, 1)?;
             put_entry_fields(out, entry)
         }
     }
@@ -144,30 +144,30 @@ fn put_entry_if(out: &mut Vec<u8>, entry: &Option<Entry>) -> Result<(), OutOfMem
 fn put_box_rest(out: &mut Vec<u8>, row: &BoxRow) -> Result<(), OutOfMemory>
     ensures { OnOk result (out.new.items ≡ out.old.items ++ box_rest row.now) }
 {
-    put_word(out, row.page.0)?;
+    put_u32(out, row.page.0)?;
     put_rect(out, row.rect)?;
-    put_byte(out, row.basis as u8)
+    put_u8(out, row.basis as u8)
 }
 
 pub(crate) fn put_box_part(out: &mut Vec<u8>, row: &BoxRow) -> Result<(), OutOfMemory>
     ensures { OnOk result (out.new.items ≡ out.old.items ++ box_part row.now) }
 {
-    put_word(out, row.num)?;
+    put_u32(out, row.num)?;
     put_box_rest(out, row)
 }
 
 pub(crate) fn put_held_part(out: &mut Vec<u8>, row: &HeldRow) -> Result<(), OutOfMemory>
     ensures { OnOk result (out.new.items ≡ out.old.items ++ held_part row.now) }
 {
-    put_word(out, row.field)?;
-    put_byte(out, row.basis as u8)
+    put_u32(out, row.field)?;
+    put_u8(out, row.basis as u8)
 }
 
 pub(crate) fn put_word_part(out: &mut Vec<u8>, of: &Word) -> Result<(), OutOfMemory>
     requires { IsTrue (word_written of.now) }
     ensures { OnOk result (out.new.items ≡ out.old.items ++ word_part of.now) }
 {
-    put_word(out, of.line)?;
+    put_u32(out, of.line)?;
     put_rect(out, of.rect)?;
     put_text(out, &of.text)
 }
@@ -188,9 +188,9 @@ pub(crate) fn put_item(out: &mut Vec<u8>, item: &Item) -> Result<(), OutOfMemory
     requires { IsTrue (item_written item.now) }
     ensures { OnOk result (out.new.items ≡ out.old.items ++ item_part item.now) }
 {
-    put_word(out, item.doc.0)?;
-    put_word(out, item.parent.0)?;
-    put_byte(out, treatment_number(item.treatment))?;
+    put_u32(out, item.doc.0)?;
+    put_u32(out, item.parent.0)?;
+    put_u8(out, treatment_number(item.treatment))?;
     put_list(out, item.boxes.as_slice())?;
     put_list(out, item.held.as_slice())?;
     put_item_end(out, item)
@@ -203,8 +203,8 @@ fn put_request(out: &mut Vec<u8>, of: &Request) -> Result<(), OutOfMemory>
     put_text(out, &of.id)?;
     put_text(out, &of.volume)?;
     put_prefix(out, &of.prefix)?;
-    put_word(out, of.from.0)?;
-    put_word(out, of.to.0)?;
+    put_u32(out, of.from.0)?;
+    put_u32(out, of.to.0)?;
     put_list(out, of.fields.as_slice())
 }
 
@@ -224,9 +224,9 @@ fn put_image_end(alloc: Global, out: &mut Vec<u8>, of: &Page) -> Result<(), OutO
         ++ (byte (unit_number of.now.unit) ++ strip of.now)))) }
 {
     let yres = of.yres();
-    put_word(out, yres.num)?;
-    put_word(out, yres.den)?;
-    put_byte(out, unit_number(of.unit()))?;
+    put_u32(out, yres.num)?;
+    put_u32(out, yres.den)?;
+    put_u8(out, unit_number(of.unit()))?;
     put_strip(alloc, out, of)
 }
 
@@ -234,10 +234,10 @@ fn put_image(alloc: Global, out: &mut Vec<u8>, of: &Page) -> Result<(), OutOfMem
     ensures { OnOk result (out.new.items ≡ out.old.items ++ image_part of.now) }
 {
     let xres = of.xres();
-    put_word(out, of.width())?;
-    put_word(out, of.height())?;
-    put_word(out, xres.num)?;
-    put_word(out, xres.den)?;
+    put_u32(out, of.width())?;
+    put_u32(out, of.height())?;
+    put_u32(out, xres.num)?;
+    put_u32(out, xres.den)?;
     put_image_end(alloc, out, of)
 }
 
@@ -259,8 +259,8 @@ pub(crate) fn put_staff_body(out: &mut Vec<u8>, row: &StaffRow) -> Result<(), Ou
     requires { IsTrue (staff_written row.now) }
     ensures { OnOk result (out.new.items ≡ out.old.items ++ staff_body row.now) }
 {
-    put_byte(out, 1)?;
-    put_byte(out, role_number(row.role))?;
+    put_u8(out, 1)?;
+    put_u8(out, role_number(row.role))?;
     put_bytes(out, &row.digest)?;
     put_text(out, &row.name)
 }
@@ -270,7 +270,7 @@ pub(crate) fn put_field_body(out: &mut Vec<u8>, row: &FieldRow) -> Result<(), Ou
     requires { IsTrue (field_written row.now) }
     ensures { OnOk result (out.new.items ≡ out.old.items ++ field_body row.now) }
 {
-    put_byte(out, 1)?;
+    put_u8(out, 1)?;
     put_text(out, &row.name)
 }
 
@@ -279,10 +279,10 @@ pub(crate) fn put_doc_body(out: &mut Vec<u8>, row: &DocRow) -> Result<(), OutOfM
     requires { IsTrue (doc_written row.now) }
     ensures { OnOk result (out.new.items ≡ out.old.items ++ doc_body row.now) }
 {
-    put_byte(out, 1)?;
-    put_word(out, row.parent.0)?;
-    put_word(out, row.pages)?;
-    put_word(out, row.batch)?;
+    put_u8(out, 1)?;
+    put_u32(out, row.parent.0)?;
+    put_u32(out, row.pages)?;
+    put_u32(out, row.batch)?;
     put_text(out, &row.id)?;
     put_list(out, row.values.as_slice())
 }
@@ -295,7 +295,7 @@ pub(crate) fn put_page_body(
 ) -> Result<(), OutOfMemory>
     ensures { OnOk result (out.new.items ≡ out.old.items ++ page_body row.now) }
 {
-    put_byte(out, 1)?;
+    put_u8(out, 1)?;
     put_image(alloc, out, row.image.page())
 }
 
@@ -304,10 +304,10 @@ pub fn put_call_body(out: &mut Vec<u8>, row: &CallRow) -> Result<(), OutOfMemory
     requires { IsTrue (call_written row.now) }
     ensures { OnOk result (out.new.items ≡ out.old.items ++ call_body row.now) }
 {
-    put_byte(out, 1)?;
+    put_u8(out, 1)?;
     put_state(out, row.state)?;
-    put_byte(out, u8::from(row.responsive))?;
-    put_byte(out, treatment_number(row.treatment))?;
+    put_u8(out, u8::from(row.responsive))?;
+    put_u8(out, treatment_number(row.treatment))?;
     put_text(out, &row.designation)
 }
 
@@ -315,7 +315,7 @@ pub fn put_call_body(out: &mut Vec<u8>, row: &CallRow) -> Result<(), OutOfMemory
 pub(crate) fn put_box_body(out: &mut Vec<u8>, row: &DocBox) -> Result<(), OutOfMemory>
     ensures { OnOk result (out.new.items ≡ out.old.items ++ box_body row.now) }
 {
-    put_byte(out, 1)?;
+    put_u8(out, 1)?;
     put_box_rest(out, &row.row)
 }
 
@@ -323,8 +323,8 @@ pub(crate) fn put_box_body(out: &mut Vec<u8>, row: &DocBox) -> Result<(), OutOfM
 pub(crate) fn put_held_body(out: &mut Vec<u8>, row: &DocHeld) -> Result<(), OutOfMemory>
     ensures { OnOk result (out.new.items ≡ out.old.items ++ held_body row.now) }
 {
-    put_byte(out, 1)?;
-    put_byte(out, row.row.basis as u8)
+    put_u8(out, 1)?;
+    put_u8(out, row.row.basis as u8)
 }
 
 // Adds the body of a log entry.
@@ -332,7 +332,7 @@ pub(crate) fn put_entry_body(out: &mut Vec<u8>, row: &DocEntry) -> Result<(), Ou
     requires { IsTrue (entry_written row.now) }
     ensures { OnOk result (out.new.items ≡ out.old.items ++ entry_body row.now) }
 {
-    put_byte(out, 1)?;
+    put_u8(out, 1)?;
     put_entry_fields(out, &row.entry)
 }
 
@@ -341,9 +341,9 @@ pub(crate) fn put_prefix_body(out: &mut Vec<u8>, row: &PrefixRow) -> Result<(), 
     requires { IsTrue (prefix_written row.now) }
     ensures { OnOk result (out.new.items ≡ out.old.items ++ prefix_body row.now) }
 {
-    put_byte(out, 1)?;
-    put_byte(out, row.prefix.width)?;
-    put_long(out, row.next)?;
+    put_u8(out, 1)?;
+    put_u8(out, row.prefix.width)?;
+    put_u64(out, row.next)?;
     put_text(out, &row.prefix.text)
 }
 
@@ -352,7 +352,7 @@ pub(crate) fn put_production_body(out: &mut Vec<u8>, row: &ProductionRow) -> Res
     requires { IsTrue (production_written row.now) }
     ensures { OnOk result (out.new.items ≡ out.old.items ++ production_body row.now) }
 {
-    put_byte(out, 1)?;
+    put_u8(out, 1)?;
     put_request(out, &row.production.request)?;
     put_list(out, row.production.items.as_slice())
 }
@@ -362,10 +362,10 @@ pub(crate) fn put_batch_body(out: &mut Vec<u8>, row: &BatchRow) -> Result<(), Ou
     requires { IsTrue (batch_written row.now) }
     ensures { OnOk result (out.new.items ≡ out.old.items ++ batch_body row.now) }
 {
-    put_byte(out, 1)?;
+    put_u8(out, 1)?;
     put_bytes(out, &row.digest)?;
-    put_word(out, row.documents)?;
-    put_word(out, row.pages)?;
+    put_u32(out, row.documents)?;
+    put_u32(out, row.pages)?;
     put_text(out, &row.name)
 }
 
@@ -374,6 +374,6 @@ pub(crate) fn put_words_body(out: &mut Vec<u8>, row: &PageWords) -> Result<(), O
     requires { IsTrue (words_written row.now) }
     ensures { OnOk result (out.new.items ≡ out.old.items ++ words_body row.now) }
 {
-    put_byte(out, 1)?;
+    put_u8(out, 1)?;
     put_list(out, row.words.as_slice())
 }

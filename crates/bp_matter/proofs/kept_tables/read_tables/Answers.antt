@@ -4,7 +4,7 @@ use Rattle.bp_matter.specs.KeptRows.{rows_of}
 use Rattle.bp_matter.specs.Lists.{matter_of}
 use Rattle.bp_matter.specs.ReadTables.{bad_rule, least_bad}
 use Rattle.bp_matter.proofs.CheckLemmas.{all_of_them}
-use Rattle.bp_matter.proofs.RunLemmas.{of_none}
+use Rattle.bp_matter.proofs.SegmentLemmas.{of_none}
 use Rattle.bp_matter.proofs.kept_tables.read_tables.Goals as goal
 use Rattle.bp_matter.proofs.kept_tables.read_tables.Goals.{else-is_empty-via-then-is_empty+else-good, else-is_empty-via-else-is_empty}
 

@@ -1,13 +1,13 @@
 use Rattle.std.proofs.Common.{◌≡◌, ◌++◌, length, map}
 use Rattle.std.specs.Prelude.{IsTrue}
 use Rattle.std.specs.List.{list_all}
-use Rattle.bp_matter.specs.ReadRows.{run_of}
+use Rattle.bp_matter.specs.ReadRows.{segment_of}
 use Rattle.bp_matter.proofs.kinds.take_rows.Given as goal
 
 abbrev pub invariant-loop-first : goal.invariant-loop-first
 invariant-loop-first g l = record {
-  values : (run_of g.T.Kind.read_of l.rows).0 ≡ l.values.items ++ (run_of g.T.Kind.read_of l.rest).0;
-  rest : (run_of g.T.Kind.read_of l.rows).1 ≡ (run_of g.T.Kind.read_of l.rest).1;
+  values : (segment_of g.T.Kind.read_of l.rows).0 ≡ l.values.items ++ (segment_of g.T.Kind.read_of l.rest).0;
+  rest : (segment_of g.T.Kind.read_of l.rows).1 ≡ (segment_of g.T.Kind.read_of l.rest).1;
   parts : l.rows ≡ map g.T.Kind.kept_of l.values.items ++ l.rest;
   written : IsTrue (list_all g.T.Kind.is_written l.values.items);
 }

@@ -1,4 +1,4 @@
-use Rattle.bp_matter.proofs.RunLemmas.{are_written, rows_of-injective}
+use Rattle.bp_matter.proofs.SegmentLemmas.{are_written, rows_of-injective}
 use Rattle.bp_matter.proofs.laws.rows_law.Goals as goal
 
 pub returns : goal.returns

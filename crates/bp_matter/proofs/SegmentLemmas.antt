@@ -6,7 +6,7 @@ use Rattle.std.proofs.lemmas.List.{append-nil}
 use Rattle.bp_core.specs.declared.kept.Row.{Row}
 use Rattle.bp_matter.proofs.ImageLemmas.{StripLaw}
 use Rattle.bp_matter.specs.KeptRows.{staff_kept, field_kept, doc_kept, page_kept, call_kept, box_kept, held_kept, entry_kept, prefix_kept, production_kept, batch_kept, words_kept, rows_of}
-use Rattle.bp_matter.specs.ReadRows.{held_of, Run, run_of, run_from, runs, staff_of, field_of, doc_of, page_of, call_of, box_of, entry_of, prefix_of, production_of, batch_of, words_of}
+use Rattle.bp_matter.specs.ReadRows.{held_of, Segment, segment_of, segment_from, matter_at_front, staff_of, field_of, doc_of, page_of, call_of, box_of, entry_of, prefix_of, production_of, batch_of, words_of}
 use Rattle.bp_matter.specs.Written.{staff_written, field_written, doc_written, page_written, call_written, box_written, held_written, entry_written, prefix_written, production_written, batch_written, words_written}
 use Rattle.bp_matter.specs.Matter.{Matter}
 use Rattle.bp_matter.specs.Valid.{IsValid, AreWritten}
@@ -32,20 +32,20 @@ pub refuses : {V : Type 0} (n : ℕ) (read : Row → Option V) (rows : List Row)
 refuses n read [] other h = tt
 refuses n read (row ∷ rows) other h = other row (ne_eqb row.kind n (λ e. omega (arith, h.0, e)))
 
-run-again : {V : Type 0} (kept : V → Row) (read : Row → Option V) (written : V → Bool) → ((v : V) → written v ≡ true → read (kept v) ≡ Some v) → (vs : List V) (rest : List Row) → list_all written vs ≡ true → Refuses read rest
-    → run_of read (map kept vs ++ rest) ≡ (vs, rest)
-run-again kept read written again [] [] all h = refl
-run-again {V} kept read written again [] (row ∷ rest) all h = ap (λ (o : Option V). run_from o (row ∷ rest) (run_of read rest)) h
-run-again {V} kept read written again (v ∷ vs) rest all h =
+segment-again : {V : Type 0} (kept : V → Row) (read : Row → Option V) (written : V → Bool) → ((v : V) → written v ≡ true → read (kept v) ≡ Some v) → (vs : List V) (rest : List Row) → list_all written vs ≡ true → Refuses read rest
+    → segment_of read (map kept vs ++ rest) ≡ (vs, rest)
+segment-again kept read written again [] [] all h = refl
+segment-again {V} kept read written again [] (row ∷ rest) all h = ap (λ (o : Option V). segment_from o (row ∷ rest) (segment_of read rest)) h
+segment-again {V} kept read written again (v ∷ vs) rest all h =
     let parts = and_parts (written v) (list_all written vs) all in
-    ap (λ (o : Option V). run_from o (kept v ∷ (map kept vs ++ rest)) (run_of read (map kept vs ++ rest))) (again v parts.0)
-    ∙ ap (λ (r : Run V). run_from (Some v) (kept v ∷ (map kept vs ++ rest)) r) (run-again kept read written again vs rest parts.1 h)
+    ap (λ (o : Option V). segment_from o (kept v ∷ (map kept vs ++ rest)) (segment_of read (map kept vs ++ rest))) (again v parts.0)
+    ∙ ap (λ (r : Segment V). segment_from (Some v) (kept v ∷ (map kept vs ++ rest)) r) (segment-again kept read written again vs rest parts.1 h)
 
-run_last : {V : Type 0} (kept : V → Row) (read : Row → Option V) (written : V → Bool) → ((v : V) → written v ≡ true → read (kept v) ≡ Some v) → (vs : List V) → list_all written vs ≡ true → run_of read (map kept vs) ≡ (vs, [])
-run_last kept read written again vs all = ap (run_of read) (sym (append-nil (map kept vs))) ∙ run-again kept read written again vs [] all tt
+segment_last : {V : Type 0} (kept : V → Row) (read : Row → Option V) (written : V → Bool) → ((v : V) → written v ≡ true → read (kept v) ≡ Some v) → (vs : List V) → list_all written vs ≡ true → segment_of read (map kept vs) ≡ (vs, [])
+segment_last kept read written again vs all = ap (segment_of read) (sym (append-nil (map kept vs))) ∙ segment-again kept read written again vs [] all tt
 
-pub runs-again : StripLaw → (m : Matter) → AreWritten m → runs (rows_of m) ≡ (m, [])
-runs-again law m w =
+pub front-again : StripLaw → (m : Matter) → AreWritten m → matter_at_front (rows_of m) ≡ (m, [])
+front-again law m w =
     let words = map words_kept m.words in
     let batches = map batch_kept m.batches ++ words in
     let productions = map production_kept m.productions ++ batches in
@@ -69,18 +69,18 @@ runs-again law m w =
     let beyond-pages : Beyond 3 pages = beyond 3 page_kept m.pages calls (λ v. refl) beyond-calls in
     let beyond-docs : Beyond 2 docs = beyond 2 doc_kept m.docs pages (λ v. refl) beyond-pages in
     let beyond-fields : Beyond 1 fields = beyond 1 field_kept m.fields docs (λ v. refl) beyond-docs in
-    let e1 : run_of staff_of staff ≡ (m.staff, fields) = run-again staff_kept staff_of staff_written staff_again m.staff fields w.staff (refuses 1 staff_of fields (λ row other. rw other refl) beyond-fields) in
-    let e2 : run_of field_of fields ≡ (m.fields, docs) = run-again field_kept field_of field_written field_again m.fields docs w.fields (refuses 2 field_of docs (λ row other. rw other refl) beyond-docs) in
-    let e3 : run_of doc_of docs ≡ (m.docs, pages) = run-again doc_kept doc_of doc_written doc_again m.docs pages w.docs (refuses 3 doc_of pages (λ row other. rw other refl) beyond-pages) in
-    let e4 : run_of page_of pages ≡ (m.pages, calls) = run-again page_kept page_of page_written (page_again law) m.pages calls w.pages (refuses 4 page_of calls (λ row other. rw other refl) beyond-calls) in
-    let e5 : run_of call_of calls ≡ (m.calls, boxes) = run-again call_kept call_of call_written call_again m.calls boxes w.calls (refuses 5 call_of boxes (λ row other. rw other refl) beyond-boxes) in
-    let e6 : run_of box_of boxes ≡ (m.boxes, held) = run-again box_kept box_of box_written box_again m.boxes held w.boxes (refuses 6 box_of held (λ row other. rw other refl) beyond-held) in
-    let e7 : run_of held_of held ≡ (m.held, entries) = run-again held_kept held_of held_written held_again m.held entries w.held (refuses 7 held_of entries (λ row other. rw other refl) beyond-entries) in
-    let e8 : run_of entry_of entries ≡ (m.entries, prefixes) = run-again entry_kept entry_of entry_written entry_again m.entries prefixes w.entries (refuses 8 entry_of prefixes (λ row other. rw other refl) beyond-prefixes) in
-    let e9 : run_of prefix_of prefixes ≡ (m.prefixes, productions) = run-again prefix_kept prefix_of prefix_written prefix_again m.prefixes productions w.prefixes (refuses 9 prefix_of productions (λ row other. rw other refl) beyond-productions) in
-    let e10 : run_of production_of productions ≡ (m.productions, batches) = run-again production_kept production_of production_written production_again m.productions batches w.productions (refuses 10 production_of batches (λ row other. rw other refl) beyond-batches) in
-    let e11 : run_of batch_of batches ≡ (m.batches, words) = run-again batch_kept batch_of batch_written batch_again m.batches words w.batches (refuses 11 batch_of words (λ row other. rw other refl) beyond-words) in
-    let e12 : run_of words_of words ≡ (m.words, []) = run_last words_kept words_of words_written words_again m.words w.words in
+    let e1 : segment_of staff_of staff ≡ (m.staff, fields) = segment-again staff_kept staff_of staff_written staff_again m.staff fields w.staff (refuses 1 staff_of fields (λ row other. rw other refl) beyond-fields) in
+    let e2 : segment_of field_of fields ≡ (m.fields, docs) = segment-again field_kept field_of field_written field_again m.fields docs w.fields (refuses 2 field_of docs (λ row other. rw other refl) beyond-docs) in
+    let e3 : segment_of doc_of docs ≡ (m.docs, pages) = segment-again doc_kept doc_of doc_written doc_again m.docs pages w.docs (refuses 3 doc_of pages (λ row other. rw other refl) beyond-pages) in
+    let e4 : segment_of page_of pages ≡ (m.pages, calls) = segment-again page_kept page_of page_written (page_again law) m.pages calls w.pages (refuses 4 page_of calls (λ row other. rw other refl) beyond-calls) in
+    let e5 : segment_of call_of calls ≡ (m.calls, boxes) = segment-again call_kept call_of call_written call_again m.calls boxes w.calls (refuses 5 call_of boxes (λ row other. rw other refl) beyond-boxes) in
+    let e6 : segment_of box_of boxes ≡ (m.boxes, held) = segment-again box_kept box_of box_written box_again m.boxes held w.boxes (refuses 6 box_of held (λ row other. rw other refl) beyond-held) in
+    let e7 : segment_of held_of held ≡ (m.held, entries) = segment-again held_kept held_of held_written held_again m.held entries w.held (refuses 7 held_of entries (λ row other. rw other refl) beyond-entries) in
+    let e8 : segment_of entry_of entries ≡ (m.entries, prefixes) = segment-again entry_kept entry_of entry_written entry_again m.entries prefixes w.entries (refuses 8 entry_of prefixes (λ row other. rw other refl) beyond-prefixes) in
+    let e9 : segment_of prefix_of prefixes ≡ (m.prefixes, productions) = segment-again prefix_kept prefix_of prefix_written prefix_again m.prefixes productions w.prefixes (refuses 9 prefix_of productions (λ row other. rw other refl) beyond-productions) in
+    let e10 : segment_of production_of productions ≡ (m.productions, batches) = segment-again production_kept production_of production_written production_again m.productions batches w.productions (refuses 10 production_of batches (λ row other. rw other refl) beyond-batches) in
+    let e11 : segment_of batch_of batches ≡ (m.batches, words) = segment-again batch_kept batch_of batch_written batch_again m.batches words w.batches (refuses 11 batch_of words (λ row other. rw other refl) beyond-words) in
+    let e12 : segment_of words_of words ≡ (m.words, []) = segment_last words_kept words_of words_written words_again m.words w.words in
     rw (e1, e2, e3, e4, e5, e6, e7, e8, e9, e10, e11, e12) refl
 
 pub are_written : (m : Matter) → IsValid m → AreWritten m
@@ -101,12 +101,12 @@ are_written m v = record {
 
 -- equal rows are of equal matters
 pub rows_of-injective : StripLaw → (m n : Matter) → AreWritten m → AreWritten n → rows_of m ≡ rows_of n → m ≡ n
-rows_of-injective law m n v w e = ap (λ (r : Matter × List Row). r.0) (sym (runs-again law m v) ∙ ap runs e ∙ runs-again law n w)
+rows_of-injective law m n v w e = ap (λ (r : Matter × List Row). r.0) (sym (front-again law m v) ∙ ap matter_at_front e ∙ front-again law n w)
 
 -- what was read isn't all, or isn't valid: then the rows are of no valid matter
-pub of_none : StripLaw → (rows rest : List Row) (found : Matter) (good : Bool) → found ≡ (runs rows).0 → rest ≡ (runs rows).1 → (IsValid found → good ≡ true) → (eqb (length rest) 0 && good) ≡ false → (m : Matter) → IsValid m → rows ≡ rows_of m → ⊥
+pub of_none : StripLaw → (rows rest : List Row) (found : Matter) (good : Bool) → found ≡ (matter_at_front rows).0 → rest ≡ (matter_at_front rows).1 → (IsValid found → good ≡ true) → (eqb (length rest) 0 && good) ≡ false → (m : Matter) → IsValid m → rows ≡ rows_of m → ⊥
 of_none law rows rest found good e f valid bad m v is =
-    let all : runs rows ≡ (m, []) = ap runs is ∙ runs-again law m (are_written m v) in
+    let all : matter_at_front rows ≡ (m, []) = ap matter_at_front is ∙ front-again law m (are_written m v) in
     let same : found ≡ m = e ∙ ap (λ (r : Matter × List Row). r.0) all in
     let nothing : rest ≡ [] = f ∙ ap (λ (r : Matter × List Row). r.1) all in
     let passes : good ≡ true = valid (subst IsValid (sym same) v) in

@@ -11,7 +11,6 @@
 //     bp_bench strips FILE PAGES TIMES
 //     bp_bench import FOLDER NAME TIMES
 //     bp_bench import_parts FOLDER NAME TIMES
-//     bp_bench volume FOLDER NAME OUT
 //     bp_bench calls DOCS BOXES MIX COUNT
 //     bp_bench scattered_calls DOCS BOXES MIX COUNT
 //     bp_bench call_rows DOCS BOXES MIX COUNT
@@ -69,7 +68,6 @@ fn run<R: Files + Alloc + Threads + Sync>(rt: &R, alloc: Global, words: &[String
         "strips" => matter::strips(rt, alloc, operands),
         "import" => import::import(rt, alloc, operands),
         "import_parts" => import::parts(rt, alloc, operands),
-        "volume" => volume::volume(rt, alloc, operands),
         other => decide_or_press(rt, alloc, other, operands),
     }
 }

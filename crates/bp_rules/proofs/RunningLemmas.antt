@@ -6,30 +6,48 @@ use Rattle.std.proofs.Math.Seq.{take-suc}
 use native.Mathlib.Numerals.{unary_clauses}
 use Rattle.bp_core.specs.declared.kept.Row.{Row}
 use Rattle.bp_keep.specs.Keeper.{KeeperView, SameRows}
+use Rattle.bp_keep.specs.Puts.{put_all}
 use Rattle.bp_matter.specs.KeptRows.{rows_of}
 use Rattle.bp_matter.specs.Matter.{Matter, Shown}
 use Rattle.bp_matter.specs.Valid.{IsValid}
+use Rattle.bp_rules.specs.Changes.{puts_of}
 use Rattle.bp_rules.specs.Loading.{LoadedFrom}
-use Rattle.bp_rules.specs.Running.{RunState, Ran, RunLoads, Stopped, StopsAt, answered, answers_of, run_state, faults_stopped, run_of}
-use Rattle.bp_rules.specs.Steps.{KeepsRows, Stays, never}
+use Rattle.bp_rules.specs.Running.{Answered, AreChanges, ChangesPut, OneAnswered, RunState, Ran, RunLoads, Stopped, StopsAt, answered, answers_of, put_changes, run_state, faults_stopped, run_of}
+use Rattle.bp_rules.specs.Steps.{KeepsRows, PutsMade, Stays, never}
+use Rattle.bp_rules.specs.declared.changes.Edit.{Edit}
 use Rattle.bp_rules.specs.declared.histories.RunAnswer.{RunAnswer}
 use Rattle.bp_rules.specs.declared.histories.RunStep.{RunStep}
 use Rattle.bp_rules.specs.declared.refusals.MatterRefusal.{MatterRefusal}
 
 -- ---- rows told
 
-told-on : (a b c : Option (List Row)) → IfSome b (λ _. is_some a ≡ true) → IfSome c (λ _. is_some b ≡ true) → IfSome c (λ _. is_some a ≡ true)
-told-on a b None h k = tt
-told-on a None (Some c) h k = absurd cc
-told-on a (Some b) (Some c) h k = h
+-- without a change they stay
+puts-none : (a : Option (List Row)) → ChangesPut a [] a
+puts-none None = tt
+puts-none (Some a) = refl
 
-told-same : (a b : Option (List Row)) → IfSome b (λ rows. a ≡ Some rows) → IfSome b (λ _. is_some a ≡ true)
-told-same a None h = tt
-told-same a (Some b) h = ap is_some h
+puts-same : (a b : Option (List Row)) → IfSome b (λ rows. a ≡ Some rows) → ChangesPut a [] b
+puts-same a None same = tt
+puts-same None (Some b) same = absurd cc
+puts-same (Some a) (Some b) same = same
 
-told-itself : (a : Option (List Row)) → IfSome a (λ _. is_some a ≡ true)
-told-itself None = tt
-told-itself (Some a) = refl
+-- one change has the puts of a step
+puts-one : (edit : Edit) (a b : Option (List Row)) → PutsMade a edit b → ChangesPut a (edit ∷ []) b
+puts-one edit a None made = tt
+puts-one edit None (Some b) made = absurd cc
+puts-one edit (Some a) (Some b) made = made
+
+changes-behind : (xs ys : List Edit) (rows : List Row) → put_changes (xs ++ ys) rows ≡ put_changes ys (put_changes xs rows)
+changes-behind [] ys rows = refl
+changes-behind (x ∷ xs) ys rows = changes-behind xs ys (put_all (puts_of x) rows)
+
+puts-behind : (xs ys : List Edit) (a b c : Option (List Row)) → ChangesPut a xs b → ChangesPut b ys c → ChangesPut a (xs ++ ys) c
+puts-behind xs ys a b None h k = tt
+puts-behind xs ys a None (Some c) h k = absurd cc
+puts-behind xs ys None (Some b) (Some c) h k = absurd cc
+puts-behind xs ys (Some a) (Some b) (Some c) h k =
+    let it : put_changes xs a ≡ b = cc in
+    ap (λ (l : List Row). Some l) (changes-behind xs ys a ∙ ap (put_changes ys) it) ∙ k
 
 kept-on : (m : Matter) (a b : Option (List Row)) → IfSome b (λ now. a ≡ Some now) → IfSome a (λ rows. rows ≡ rows_of m) → IfSome b (λ rows. rows ≡ rows_of m)
 kept-on m a None same h = tt
@@ -39,7 +57,32 @@ kept-on m (Some a) (Some b) same h = (let it : b ≡ a = cc in it ∙ h)
 -- ---- a run of none, and of one
 
 pub ran-none : (book : RunState) → Ran book [] book.keeper.faults book
-ran-none book = record { matter = refl; answers = sym (append-nil book.answers); kept = λ h. h; told = told-itself book.keeper.rows; faults = refl; sure = refl }
+ran-none book =
+    record {
+      matter = refl;
+      answers = sym (append-nil book.answers);
+      edits = [];
+      changed = refl;
+      puts = puts-none book.keeper.rows;
+      kept = λ h. h;
+      faults = refl;
+      sure = refl;
+    }
+
+-- a run of one that was answered
+pub one-ran : (m : Matter) (asked : RunStep) (keeper : KeeperView) (told now : List RunAnswer) (answer : RunAnswer) (n : Matter) (after_it : KeeperView) → now ≡ told ++ answer ∷ [] → OneAnswered m asked keeper answer n after_it
+    → Ran (run_state m keeper told) (asked ∷ []) keeper.faults (run_state n after_it now)
+one-ran m asked keeper told now answer n after_it is s =
+    record {
+      matter = sym (ap (λ (a : Answered). a.matter) s.answered);
+      answers = is ∙ ap (λ (x : RunAnswer). told ++ x ∷ []) (sym (ap (λ (a : Answered). a.answer) s.answered));
+      edits = s.edit ∷ [];
+      changed = (s.changed, refl);
+      puts = puts-one s.edit keeper.rows after_it.rows s.puts;
+      kept = s.kept;
+      faults = s.faults;
+      sure = s.sure;
+    }
 
 -- a run that stopped before its first
 pub one-stopped : (m : Matter) (asked : RunStep) (keeper : KeeperView) (told now : List RunAnswer) (refusal : MatterRefusal) (n : Matter) (after_it : KeeperView) → now ≡ told → StopsAt m refusal (answered m asked) → Stays m keeper (faults_stopped keeper.faults refusal) n after_it
@@ -53,8 +96,10 @@ one-stopped m asked keeper told now refusal n after_it same reason s =
       ran = record {
         matter = s.matter;
         answers = same ∙ sym (append-nil told);
+        edits = [];
+        changed = refl;
+        puts = puts-same keeper.rows after_it.rows s.rows;
         kept = λ h. subst (λ (x : Matter). KeepsRows after_it x) (sym s.matter) (kept-on m keeper.rows after_it.rows s.rows h);
-        told = told-same keeper.rows after_it.rows s.rows;
         faults = s.faults;
         sure = s.sure;
       };
@@ -78,6 +123,12 @@ answers-behind : (m : Matter) (xs ys : List RunStep) → answers_of m (xs ++ ys)
 answers-behind m [] ys = refl
 answers-behind m (x ∷ xs) ys = ap (λ (l : List RunAnswer). (answered m x).answer ∷ l) (answers-behind (answered m x).matter xs ys)
 
+changed-behind : (m : Matter) (xs ys : List RunStep) (es fs : List Edit) → AreChanges m xs es → AreChanges (run_of m xs) ys fs → AreChanges m (xs ++ ys) (es ++ fs)
+changed-behind m [] ys [] fs h k = k
+changed-behind m [] ys (e ∷ es) fs h k = absurd cc
+changed-behind m (x ∷ xs) ys [] fs h k = absurd h
+changed-behind m (x ∷ xs) ys (e ∷ es) fs h k = (h.0, changed-behind (answered m x).matter xs ys es fs h.1 k)
+
 -- with the faults of the last
 pub ran-behind : (a b c : RunState) (xs ys : List RunStep) (count : ℕ) → Ran a xs a.keeper.faults b → Ran b ys count c → Ran a (xs ++ ys) count c
 ran-behind a b c xs ys count r s =
@@ -85,8 +136,10 @@ ran-behind a b c xs ys count r s =
       matter = s.matter ∙ ap (λ (x : Matter). run_of x ys) r.matter ∙ sym (run-behind a.matter xs ys);
       answers = s.answers ∙ ap (λ (l : List RunAnswer). l ++ answers_of b.matter ys) r.answers ∙ append_assoc a.answers (answers_of a.matter xs) (answers_of b.matter ys)
           ∙ ap (λ (x : Matter). a.answers ++ (answers_of a.matter xs ++ answers_of x ys)) r.matter ∙ ap (λ (l : List RunAnswer). a.answers ++ l) (sym (answers-behind a.matter xs ys));
+      edits = r.edits ++ s.edits;
+      changed = changed-behind a.matter xs ys r.edits s.edits r.changed (subst (λ (x : Matter). AreChanges x ys s.edits) r.matter s.changed);
+      puts = puts-behind r.edits s.edits a.keeper.rows b.keeper.rows c.keeper.rows r.puts s.puts;
       kept = λ h. s.kept (r.kept h);
-      told = told-on a.keeper.rows b.keeper.rows c.keeper.rows r.told s.told;
       faults = s.faults;
       sure = s.sure ∙ r.sure;
     }

@@ -42,7 +42,7 @@ abbrev pub unless_full : Matter → BatchShown → Option Rule → Result Import
 unless_full m b (Some rule) = Err rule
 unless_full m b None = Ok (all_new m b)
 
--- by whether a batch of its name is there
+-- what an import comes to, by whether a batch of its name is there
 abbrev pub import_by : Matter → BatchShown → Option BatchRow → Result Imported Rule
 import_by m b (Some row) = repeated row b
 import_by m b None = unless_full m b (limit_passed m b)

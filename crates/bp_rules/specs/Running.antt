@@ -1,16 +1,21 @@
 -- Calls and imports in turn on a matter, with what is answered to each.
-use Rattle.std.specs.Prelude.{◌≡◌, ◌≢◌, ℕ, Bool, false, true, IsTrue, not, List, [], ◌∷◌, ◌++◌, is_some, Result, Ok, Err, IfSome}
+use Rattle.std.specs.Prelude.{◌≡◌, ◌≢◌, ℕ, Bool, false, true, IsTrue, not, List, [], ◌∷◌, ◌++◌, is_some, Option, Some, Result, Ok, Err, IfSome}
+use Rattle.std.specs.Option.{option_map}
 use Rattle.bp_core.specs.Counts.{risen}
+use Rattle.bp_core.specs.declared.kept.Row.{Row}
 use Rattle.bp_core.specs.declared.rules.Rule.{Rule}
 use Rattle.bp_keep.specs.Keeper.{KeeperView}
+use Rattle.bp_keep.specs.Puts.{put_all}
 use Rattle.bp_matter.specs.Matter.{Matter, Shown}
 use Rattle.bp_matter.specs.Valid.{IsValid}
 use Rattle.bp_matter.specs.declared.calls.Reply.{Reply}
-use Rattle.bp_rules.specs.Changes.{after}
+use Rattle.bp_rules.specs.Changes.{after, puts_of}
 use Rattle.bp_rules.specs.Importing.{import_of}
 use Rattle.bp_rules.specs.Loading.{LoadsTables}
 use Rattle.bp_rules.specs.Stepping.{Stepped, step_of}
-use Rattle.bp_rules.specs.Steps.{KeepsRows, Stays, counted_of}
+use Rattle.bp_rules.specs.Steps.{KeepsRows, PutsMade, Stays, counted_of}
+use Rattle.bp_rules.specs.declared.changes.Edit.{Edit}
+use Rattle.bp_rules.specs.declared.changes.Edit.TheVariants.{Nothing}
 use Rattle.bp_rules.specs.declared.decide_imports.Imported.{Imported}
 use Rattle.bp_rules.specs.declared.histories.RunAnswer.{RunAnswer}
 use Rattle.bp_rules.specs.declared.histories.RunAnswer.TheVariants as answers
@@ -57,6 +62,33 @@ answers_of m [] = []
 answers_of m (asked ∷ more) =
     (answered m asked).answer ∷ answers_of (answered m asked).matter more
 
+-- a broken rule is answered
+abbrev pub is_broken : RunAnswer → Bool
+is_broken (answers.Refused rule) = true
+is_broken _ = false
+
+-- a change makes the matter after what was asked; a broken rule changes nothing
+abbrev pub IsChange : Matter → Answered → Edit → Type 0
+IsChange m next edit =
+    (next.matter ≡ after m edit) × (IsTrue (is_broken next.answer) → edit ≡ Nothing)
+
+-- the changes of all that was asked, in order
+abbrev pub AreChanges : Matter → List RunStep → List Edit → Type 0
+AreChanges m [] edits = edits ≡ []
+AreChanges m (asked ∷ more) [] = ⊥
+AreChanges m (asked ∷ more) (edit ∷ edits) =
+    IsChange m (answered m asked) edit × AreChanges (answered m asked).matter more edits
+
+-- rows with the puts of these changes in turn
+abbrev pub put_changes : List Edit → List Row → List Row
+put_changes [] rows = rows
+put_changes (edit ∷ edits) rows = put_changes edits (put_all (puts_of edit) rows)
+
+-- the rows that are told now were told before, and are those with the puts of these changes
+abbrev pub ChangesPut : Option (List Row) → List Edit → Option (List Row) → Type 0
+ChangesPut before edits now =
+    IfSome now (λ rows. option_map (put_changes edits) before ≡ Some rows)
+
 -- a matter, its keeper, and the answers that were given
 pub record RunState : Type 0 where
   pub matter : Matter
@@ -67,21 +99,18 @@ pub record RunState : Type 0 where
 abbrev pub run_state : Matter → KeeperView → List RunAnswer → RunState
 run_state m keeper told = record { matter = m; keeper = keeper; answers = told }
 
--- all of this was asked in turn and answered, broken rules among the answers: a keeper that kept
--- the matter keeps the matter after it, and it tells rows only where it told them before
+-- all of this was asked in turn and answered, broken rules among the answers: the puts of each change
+-- are made of whatever rows, so a keeper that kept the matter keeps the matter after it
 pub record Ran (before : RunState) (asked : List RunStep) (count : ℕ)
     (now : RunState) : Type 0 where
   pub matter : now.matter ≡ run_of before.matter asked
   pub answers : now.answers ≡ before.answers ++ answers_of before.matter asked
+  pub edits : List Edit
+  pub changed : AreChanges before.matter asked edits
+  pub puts : ChangesPut before.keeper.rows edits now.keeper.rows
   pub kept : KeepsRows before.keeper before.matter → KeepsRows now.keeper now.matter
-  pub told : IfSome now.keeper.rows (λ _. IsTrue (is_some before.keeper.rows))
   pub faults : now.keeper.faults ≡ count
   pub sure : now.keeper.sure ≡ before.keeper.sure
-
--- a broken rule is answered
-abbrev pub is_broken : RunAnswer → Bool
-is_broken (answers.Refused rule) = true
-is_broken _ = false
 
 -- a run stops where the keeper fails at what breaks no rule and changes the matter, and at no
 -- broken rule
@@ -132,9 +161,11 @@ counted_answer (Err refusal) = refusal_answer refusal
 -- one that is asked was made, or broke a rule, with this answer
 pub record OneAnswered (m : Matter) (asked : RunStep) (keeper : KeeperView) (answer : RunAnswer)
     (m' : Matter) (keeper' : KeeperView) : Type 0 where
-  pub answered : answered m asked ≡ record { answer = answer; matter = m' }
+  pub edit : Edit
+  pub changed : IsChange m (answered m asked) edit
+  pub puts : PutsMade keeper.rows edit keeper'.rows
   pub kept : KeepsRows keeper m → KeepsRows keeper' m'
-  pub told : IfSome keeper'.rows (λ _. IsTrue (is_some keeper.rows))
+  pub answered : answered m asked ≡ record { answer = answer; matter = m' }
   pub faults : keeper'.faults ≡ keeper.faults
   pub sure : keeper'.sure ≡ keeper.sure
 

@@ -112,3 +112,19 @@ fn a_piece_is_written_whole_or_in_part(rt: HostRuntime) -> Result<(), Fail> {
     }
     Ok(())
 }
+
+// A volume of the most files: each call takes memory as it needs it, and none lacks it.
+#[test]
+fn a_folder_takes_40_000_files(rt: HostRuntime) -> Result<(), Fail> {
+    let alloc = rt.alloc();
+    let mut folder = MemFolder::over(rows(alloc, &[])?, numbers(alloc, &[])?);
+    for number in 0..40_000 {
+        let path = format!(in alloc; "v/{number}.tif")?;
+        assert!(rt; put_file(alloc, &mut folder, path.as_str(), b"scan").is_ok());
+    }
+    assert_eq!(rt; folder.files().len(), 40_000);
+    for file in folder.files() {
+        assert_eq!(rt; file.bytes.as_slice(), b"scan".as_slice());
+    }
+    Ok(())
+}

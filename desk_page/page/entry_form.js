@@ -10,6 +10,10 @@ export class EntryForm {
       event.preventDefault()
       return this.send()
     }))
+    // in the description Enter is a new line
+    form.elements.description.addEventListener('keydown', (event) => {
+      if (event.key === 'Enter' && event.ctrlKey) form.requestSubmit()
+    })
   }
 
   // what was typed and not sent stays where the same document is told anew

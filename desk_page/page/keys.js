@@ -25,6 +25,7 @@ const ROWS = [
   ['d', 'to the designation'],
   ['g', 'to the log entry'],
   ['h', 'to the held fields'],
+  ['CtrlEnter', 'put the log entry from its description', 'Ctrl Enter'],
   ['Boxes'],
   ['b', 'a new box'],
   ['e', 'choose the next box of the page'],

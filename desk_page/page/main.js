@@ -20,7 +20,6 @@ const the = (id) => document.getElementById(id)
 function say(text, isRefused = false) {
   the('said').textContent = `${isRefused ? '✗' : '✓'} ${text}`
   the('said').classList.toggle('refused', isRefused)
-  the('said').hidden = false
 }
 
 const isTold = (why) => why instanceof Refused || why instanceof NoAnswer || why instanceof NotNow

@@ -3,8 +3,6 @@
 import { TREATMENTS, inFull } from './states.js'
 import { NotNow } from './review.js'
 
-const ran = (numbers) => numbers.join(', ')
-
 export class SecondReview {
   constructor(review, { dialog, summary, yes, no, confirm, back, act }) {
     Object.assign(this, { review, dialog, summary, yes, work: null })
@@ -38,7 +36,7 @@ export class SecondReview {
     if (doc.held.length > 0) lines.push(`Held fields: ${doc.held.length}.`)
     if (doc.entry !== null) lines.push(`Log entry: ${doc.entry.date}, ${doc.entry.author} to ${doc.entry.recipients}: ${doc.entry.description}`)
     const unseen = this.unseen(doc)
-    if (unseen.length > 0) lines.push(`You haven’t looked at page ${ran(unseen)}.`)
+    if (unseen.length > 0) lines.push(`You haven’t looked at page${unseen.length > 1 ? 's' : ''} ${unseen.join(', ')}.`)
     return lines
   }
 

@@ -102,7 +102,8 @@ class Chromium:
             self.log.append(json.dumps(event["params"]["exceptionDetails"]))
         elif event["method"] == "Log.entryAdded":
             entry = event["params"]["entry"]
-            if entry["source"] != "network":  # a desk that refuses is no fault of the page
+            # a desk that refuses is no fault of the page, and the advice on reading a canvas is for the test
+            if entry["source"] != "network" and "willReadFrequently" not in entry["text"]:
                 self.log.append(entry["text"])
         elif event["method"] == "Runtime.consoleAPICalled":
             self.log.append(json.dumps(event["params"]["args"]))

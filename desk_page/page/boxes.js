@@ -6,6 +6,7 @@ import { between, cornersOf, moved, opposite, sameRectangle, sized, touches } fr
 // A box of fewer pixels a side was a click.
 const LEAST = 4
 const NEW_BOX = { width: 600, height: 60 }
+const MARK = 16 // height of a box's mark on the screen
 
 export class Boxes {
   constructor(review, paper, { list, basis, showWords, act }) {
@@ -60,8 +61,10 @@ export class Boxes {
   boxShapes(box, kind) {
     const drawn = rectangle(box, kind)
     drawn.dataset.num = box.num
-    const mark = shape('text', { x: box.left, y: box.top, class: 'mark' }, `${box.num} ${box.basis}`)
-    return [drawn, mark]
+    // the mark stands above the box, so that it covers none of it; at the upper edge of the page inside
+    const isInside = box.top * this.paper.scale < MARK
+    const place = { x: box.left, y: box.top, class: isInside ? 'mark inside' : 'mark' }
+    return [drawn, shape('text', place, `${box.num} ${box.basis}`)]
   }
 
   draftShapes(box) {

@@ -9,6 +9,7 @@ import { Family } from './family.js'
 import { HeldFields } from './held_fields.js'
 import { Keys, listKeys } from './keys.js'
 import { Paper } from './paper.js'
+import { People } from './people.js'
 import { NotNow, Review } from './review.js'
 import { SecondReview } from './second_review.js'
 import { inFull, lacksOf, progressOf, signOf } from './states.js'
@@ -51,6 +52,9 @@ function build(desk) {
     dialog: the('ask'), summary: the('asked'), yes: the('yes'), no: the('no'), confirm: the('confirm'), back: the('back'), act,
   })
   new Family(review, { place: the('family'), act })
+  new People(desk, {
+    dialog: the('people'), form: the('person'), handed: the('handed'), show: the('show_people'), close: the('close_people'), act,
+  })
   review.addEventListener('doc', ({ detail }) => showHead(detail))
   review.addEventListener('page', act(({ detail }) => showPlace(review, detail)))
   review.unsent = () => [

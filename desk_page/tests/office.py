@@ -111,15 +111,20 @@ class Office:
             if old not in site:
                 raise RuntimeError(f"the configuration has no {old}")
             site = site.replace(old, new)
+        site = self.site_of(site)
         temps = "".join(f"{kind}_temp_path {self.folder}/{kind};" for kind in ("client_body", "proxy", "fastcgi", "uwsgi", "scgi"))
         user = "user root;" if os.geteuid() == 0 else ""
         with open(os.path.join(self.folder, "nginx.conf"), "w", encoding="utf-8") as file:
             file.write(f"{user} worker_processes 1; daemon off; pid {self.folder}/nginx.pid; error_log {self.folder}/error.log;"
-                       f"events {{ worker_connections 256; }} http {{ {temps}\n{site} }}")
+                       f"events {{ worker_connections 2048; }} http {{ {temps}\n{site} }}")
         words = [shutil.which("nginx"), "-p", self.folder, "-c", "nginx.conf", "-e", f"{self.folder}/error.log"]
         nginx = subprocess.Popen(words)
         self.processes.append(nginx)
         wait_for(self.port, nginx)
+
+    # the configuration of a test that changes more of it
+    def site_of(self, site):
+        return site
 
     # ---- requests of another client, by way of nginx
 

@@ -410,6 +410,39 @@ def try_secrets(person, key, office):
     check("nothing that the browser or its policy refused", not person.log, person.log)
 
 
+# what the routes of review may answer
+RULES = """KeyUnknown NoDocument NoPage RoleRefused BoxOutside BoxShape WrongTreatment BoxesRemain BadBasis NotCalled SamePerson
+NothingRedacted EntryMissing NoField TextRefused MatterFull StaffThere HeadRefused BodyRefused BodyLimit KeyMissing NoRoute
+JournalFull KeeperFault OutOfMemory""".split()
+
+
+def try_words(person):
+    plain = person.js("(async () => { const { inWords } = await import('./refusals.js'); return "
+                      f"{json.dumps(RULES)}.filter((name) => inWords({{ name, a: 1 }}).includes('The desk refused this')) }})()")
+    check(f"each of {len(RULES)} refusals has words of its own", plain == [], plain)
+
+
+def try_people(person, office, shots):
+    """The lead takes a person in, who comes with the key that was shown."""
+    person.enter(office.url, LEAD)
+    person.click("#show_people")
+    person.click("#person [name=name]")
+    person.type("Osei")
+    person.key("Enter")
+    person.until("document.getElementById('handed').textContent !== ''")
+    told = person.text("handed")
+    check("a person taken in", told.startswith("Osei is staff 4. "), told)
+    person.shot(os.path.join(shots, "people.png"))
+    person.key("Escape")
+    person.until("!document.getElementById('people').open")
+    check("the key is gone with the dialog", person.text("handed") == "")
+    person.enter(office.url, told.split()[-1])
+    check("and opens the desk", person.text("count") == "12 documents")
+    person.click("#leave")
+    person.until("document.getElementById('enter').checkVisibility()")
+    check("Leave forgets it", person.js("document.querySelectorAll('#tall .row').length") == 0)
+
+
 def try_keys_list(person, shots):
     person.key("?")
     person.until("document.getElementById('keys').open")
@@ -457,10 +490,13 @@ def main():
         try_note(ellis, shots)
         try_unsent(ellis)
         try_keys_list(ellis, shots)
+        try_words(ellis)
         try_secrets(ellis, ELLIS, office)
         marlow = Person(scratch)
         try_second(marlow, office, shots)
         try_large_letters(office, shots)
+        try_people(marlow, office, shots)
+        marlow.enter(office.url, MARLOW)
         try_without_desk(marlow, office)
         try_secrets(marlow, MARLOW, office)
         if office.program:

@@ -439,7 +439,7 @@ def try_people(person, office, shots):
     person.enter(office.url, told.split()[-1])
     check("and opens the desk", person.text("count") == "12 documents")
     person.click("#leave")
-    person.until("document.getElementById('enter').checkVisibility()")
+    person.until("document.getElementById('enter')?.checkVisibility() === true")
     check("Leave forgets it", person.js("document.querySelectorAll('#tall .row').length") == 0)
 
 

@@ -53,7 +53,8 @@ function build(desk) {
   })
   new Family(review, { place: the('family'), act })
   new People(desk, {
-    dialog: the('people'), form: the('person'), handed: the('handed'), show: the('show_people'), close: the('close_people'), act,
+    dialog: the('people'), form: the('person'), handed: the('handed'), newKey: the('new_key'), show: the('show_people'),
+    close: the('close_people'), act,
   })
   review.addEventListener('doc', ({ detail }) => showHead(detail))
   review.addEventListener('page', act(({ detail }) => showPlace(review, detail)))

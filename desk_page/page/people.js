@@ -5,7 +5,7 @@ const LETTERS = 'abcdefghijkmnpqrstuvwxyz23456789' // 32, without l and o, which
 const GROUPS = 5 // of five letters: 125 bits
 
 // 25 letters in groups of five
-function newKey() {
+function makeKey() {
   const letters = Array.from(crypto.getRandomValues(new Uint8Array(GROUPS * 5)), (byte) => LETTERS[byte & 31])
   return Array.from({ length: GROUPS }, (_, k) => letters.slice(5 * k, 5 * k + 5).join('')).join('-')
 }
@@ -16,8 +16,8 @@ async function digestOf(key) {
 }
 
 export class People {
-  constructor(desk, { dialog, form, handed, show, close, act }) {
-    Object.assign(this, { desk, form, handed })
+  constructor(desk, { dialog, form, handed, newKey, show, close, act }) {
+    Object.assign(this, { desk, form, handed, newKey })
     show.addEventListener('click', () => dialog.showModal())
     close.addEventListener('click', () => dialog.close())
     dialog.addEventListener('close', () => this.clear())
@@ -29,19 +29,25 @@ export class People {
 
   clear() {
     this.form.reset()
-    this.handed.textContent = ''
+    this.tell('')
+  }
+
+  tell(text, key = '') {
+    this.handed.textContent = text
+    this.newKey.textContent = key
   }
 
   async add() {
     const { name, role } = this.form.elements
-    this.handed.textContent = ''
-    const key = newKey()
+    this.tell('')
+    const key = makeKey()
     try {
-      const { staff } = await this.desk.make('/staff', { name: name.value, role: role.value, digest: await digestOf(key) })
-      this.handed.textContent = `${name.value} is staff ${staff}. The key, which is shown this once: ${key}`
+      const digest = await digestOf(key)
+      const { staff } = await this.desk.make('/staff', { name: name.value, role: role.value, digest })
+      this.tell(`${name.value} is staff ${staff}. Hand this key over; it is shown this once:`, key)
     } catch (why) {
       // the dialog stands before what is said on the page
-      this.handed.textContent = `✗ ${why.message}`
+      this.tell(`✗ ${why.message}`)
       throw why
     }
     this.form.reset()

@@ -1,8 +1,9 @@
 #!/usr/bin/env python3
 """The page's reader of TIFF files beside libtiff (netpbm's tifftopnm), in a headless Chromium, pixel by pixel: every page
 file of the repository, the pages of bench/pages.sh plain and in Group 4 by tiffcp in five forms, the forms of
-bench/tiff_forms.py, and bench/hostile_files.py's with the refusals that are due. Then damaged files: what the page reads of
-one, libtiff reads too, and the refusals are those of bench/t6_model.py or, where the program is given, its own.
+bench/tiff_forms.py, and bench/hostile_files.py's with the refusals that are due. Then strips of codes by chance, which are
+read or refused as bench/t6_model.py does, and damaged files: what the page reads of one, libtiff reads too, and the refusals
+are the model's or, where the program is given, its own.
 
     decoder.py SCRATCH [PROGRAM]
 """
@@ -25,7 +26,8 @@ sys.dont_write_bytecode = True
 import t6_model  # noqa: E402
 
 NAMES = {70: "T6ShortData", 71: "T6EarlyEnd", 72: "T6Extension", 73: "T6BadCode", 74: "T6BadPlace"}
-SEED, DAMAGED = 7, 400
+SEED, DAMAGED, BY_CHANCE = 7, 400, 1500
+MOST_TOLD = 20
 FORMS = {"g4": [], "rows": ["-r", "1"], "strips": ["-r", "64"], "big-endian": ["-B"], "low-first": ["-f", "lsb2msb"]}
 
 
@@ -59,14 +61,16 @@ def page_digest(path):
 class Trial:
     def __init__(self, folder, window):
         self.folder, self.window = folder, window
-        self.failed, self.same, self.refused = 0, 0, 0
+        # `alone` counts what libtiff refuses and the page reads: a tag that says nothing of the pixels
+        self.failed, self.same, self.refused, self.alone = 0, 0, 0, 0
 
     def read(self, name):
         return self.window.js(f"pageOf({name!r})")
 
     def fail(self, name, why):
         self.failed += 1
-        print(f"NOT AS DUE: {name}: {why}", flush=True)
+        if self.failed <= MOST_TOLD:
+            print(f"NOT AS DUE: {name}: {why}", flush=True)
 
     def whole(self, name):
         """A sound file: the page's pixels are libtiff's."""
@@ -99,7 +103,9 @@ class Trial:
             self.fail(name, f"{refused} in place of {due[0]}")
         elif refused:
             self.refused += 1
-        elif (page := page_digest(os.path.join(self.folder, name))) and page != told["digest"]:
+        elif (page := page_digest(os.path.join(self.folder, name))) is None:
+            self.alone += 1
+        elif page != told["digest"]:
             self.fail(name, "other pixels than libtiff's")
         else:
             self.same += 1
@@ -147,6 +153,45 @@ def damage(data, chance):
     return bytes(data)
 
 
+def strip_file(plain, strip, sides=None):
+    """The plain page file with this strip of Group 4 in place of its own, and with these sides."""
+    head = bytearray(plain[:186])
+    head[54] = 4  # Compression
+    head[126:130] = len(strip).to_bytes(4, "little")
+    if sides:
+        width, height = (side.to_bytes(4, "little") for side in sides)
+        head[18:22], head[30:34], head[114:118] = width, height, height
+    return bytes(head) + strip
+
+
+def strip_by_chance(chance):
+    """Codes of modes and short runs as they come, most of a colour that may follow."""
+    bits, black = "", False
+    for _ in range(chance.randrange(1, 25)):
+        mode = chance.choice([*t6_model.MODE_CODES, 0, 0, "horizontal"])
+        bits += t6_model.MODE_CODES[mode]
+        if mode == "horizontal":
+            for colour in (black, not black):
+                codes = t6_model.RUN_CODES[colour != (chance.randrange(12) == 0)]
+                bits += codes[chance.choice((0, 0, 1, 2, 3, 5, 8, 64))]
+        elif mode != "pass":
+            black = black != (chance.randrange(6) > 0)
+    bits += chance.choice(("", "1" * 8, t6_model.END_OF_BLOCK, t6_model.EXTENSION, "0" * 9))
+    bits += "0" * (-len(bits) % 8)
+    return int(bits, 2).to_bytes(len(bits) // 8, "big")
+
+
+def by_model(strip, width, height):
+    """The digest of the page, or the refusal."""
+    try:
+        lines = t6_model.read(strip, width, height)
+    except t6_model.Refused as refused:
+        number, row, bit = refused.args
+        return None, [NAMES[number], row, bit]
+    rows = b"".join(t6_model.packed_row(line, width) for line in lines)
+    return hashlib.sha256(b"P4\n%d %d\n" % (width, height) + rows).hexdigest(), None
+
+
 def damaged_strip(plain, chance):
     """A strip of Group 4 with a few of its bytes changed, as a page file with the refusal that the model finds."""
     width, lines = t6_model.lines_of(plain)
@@ -157,16 +202,7 @@ def damaged_strip(plain, chance):
         strip[chance.randrange(len(strip) or 1) : 1] = b""
         if strip:
             strip[chance.randrange(len(strip))] = chance.choice((0, 1, 2, 0xFF, chance.randrange(256)))
-    head = bytearray(plain[:186])
-    head[54] = 4  # Compression
-    head[126:130] = len(strip).to_bytes(4, "little")
-    try:
-        t6_model.read(bytes(strip), width, len(lines))
-        due = None
-    except t6_model.Refused as refused:
-        number, row, bit = refused.args
-        due = [NAMES[number], row, bit]
-    return bytes(head + strip), due
+    return strip_file(plain, bytes(strip)), by_model(bytes(strip), width, len(lines))[1]
 
 
 def refusal_of(program, folder, name):
@@ -222,10 +258,29 @@ def try_hostile(trial):
     print(f"{len(told.stdout.splitlines())} files of bench/hostile_files.py", flush=True)
 
 
-def try_damaged(trial, page, program):
+def plain_of(page):
+    words = [sys.executable, os.path.join(BENCH, "plain_page.py"), "300"]
+    return subprocess.run(words, input=page, capture_output=True, check=True).stdout
+
+
+def try_by_chance(trial, plain):
     chance = random.Random(SEED)
-    plain = subprocess.run([sys.executable, os.path.join(BENCH, "plain_page.py"), "300"], input=page, capture_output=True,
-                           check=True).stdout
+    refused = 0
+    for k in range(BY_CHANCE):
+        sides = chance.choice((1, 7, 8, 20, 70)), chance.choice((1, 2, 3))
+        strip = strip_by_chance(chance)
+        digest, due = by_model(strip, *sides)
+        told = trial.read(put(trial.folder, "by-chance.tif", strip_file(plain, strip, sides)))
+        if told.get("refused") != due or told.get("digest") != digest:
+            trial.fail(f"strip {strip.hex()} of {sides}", f"{told} in place of {due or digest}")
+        refused += due is not None
+    trial.refused += refused
+    trial.same += BY_CHANCE - refused
+    print(f"{BY_CHANCE} strips of codes by chance: {refused} refused, {BY_CHANCE - refused} read, as by bench/t6_model.py", flush=True)
+
+
+def try_damaged(trial, plain, program):
+    chance = random.Random(SEED)
     put(trial.folder, "small.tif", plain)
     sources = [os.path.join(trial.folder, name) for name in ["small.tif", *copies(trial.folder, "small.tif")]]
     contents = [open(path, "rb").read() for path in sources]
@@ -246,7 +301,7 @@ def try_damaged(trial, page, program):
         trial.damaged(name, due)
     refused, read = trial.refused - before[0], trial.same - before[1]
     by = "the program" if program else "bench/t6_model.py, of the damaged strips"
-    print(f"{DAMAGED} damaged files: {refused} refused, {read} read as libtiff does; refusals as those of {by}", flush=True)
+    print(f"{DAMAGED} damaged files: {refused} refused, {read} read as libtiff does, {trial.alone} that it refuses; refusals as by {by}", flush=True)
 
 
 def main():
@@ -265,10 +320,12 @@ def main():
         try_bench_pages(trial)
         try_forms(trial, page)
         try_hostile(trial)
-        try_damaged(trial, page, program)
+        plain = plain_of(page)
+        try_by_chance(trial, plain)
+        try_damaged(trial, plain, program)
         for line in window.log:
             trial.fail("the window", line)
-        print(f"the reader of pages: {trial.same} files read as libtiff does, {trial.refused} refused, {trial.failed} not as due")
+        print(f"the reader of pages: {trial.same} files read as is due, {trial.refused} refused, {trial.failed} not as due")
         sys.exit(trial.failed > 0)
     finally:
         window.close()

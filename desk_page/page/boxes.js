@@ -5,6 +5,8 @@ import { between, cornersOf, moved, opposite, sameRectangle, sized, touches } fr
 
 // A box of fewer pixels a side was a click.
 const LEAST = 4
+// A pointer that goes less far on the screen was a click, and moves nothing.
+const STILL = 4
 const NEW_BOX = { width: 600, height: 60 }
 const MARK = 16 // height of a box's mark on the screen
 
@@ -179,7 +181,7 @@ export class Boxes {
       this.drag = { fixed: opposite(this.draft, corner) }
     } else if (box !== undefined) {
       if (this.draft?.num !== box.num) this.edit(box)
-      this.drag = { from, box: { ...this.draft } }
+      this.drag = { from, box: { ...this.draft }, start: event }
     } else {
       this.draft = null
       this.draw()
@@ -190,7 +192,11 @@ export class Boxes {
   pull(event) {
     if (this.drag === null) return
     const to = this.paper.placeOf(event)
-    const { fixed, from, box, starts } = this.drag
+    const { fixed, from, box, starts, start } = this.drag
+    if (start !== undefined) {
+      if (Math.hypot(event.clientX - start.clientX, event.clientY - start.clientY) < STILL) return
+      delete this.drag.start
+    }
     if (starts && this.draft === null) this.start(between(fixed, to))
     else if (fixed !== undefined) this.change(between(fixed, to))
     else this.change(moved(box, to.x - from.x, to.y - from.y, this.review.image))

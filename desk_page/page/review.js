@@ -22,6 +22,7 @@ export class Review extends EventTarget {
     this.pages = new Map() // pages read, the latest last
     this.words = new Map()
     this.isShown = false // the open page stands on the screen, so that calls may be made
+    this.undoing = null // the confirmed document that is about to be edited
     this.unsent = () => [] // what a panel holds that wasn't sent
   }
 
@@ -111,6 +112,7 @@ export class Review extends EventTarget {
   }
 
   show(doc, page, image) {
+    this.undoing = null
     Object.assign(this, { doc, page, image })
     const seen = this.seen.get(doc.doc) ?? new Set()
     this.seen.set(doc.doc, seen.add(page))
@@ -130,9 +132,20 @@ export class Review extends EventTarget {
   async edit(what, members) {
     if (!this.isShown) throw new NotNow('The document isn’t on the screen yet. Press again.')
     const { doc } = this.doc
+    this.warnOfConfirmed(what)
     await this.desk.make(`/docs/${doc}/${what}`, members)
     if (this.doc.doc === doc) await this.look()
     else await this.lookAt(doc)
+  }
+
+  // An edit takes a confirmation away: it is made at the second press alone.
+  warnOfConfirmed(what) {
+    const { doc, confirmer } = this.doc
+    const isWarned = this.undoing === doc
+    this.undoing = null
+    if (confirmer === 0 || isWarned || what === 'confirm' || what === 'back') return
+    this.undoing = doc
+    throw new NotNow(`Document ${doc} is confirmed by staff ${confirmer}, and this would undo it. Do it again to go on.`)
   }
 
   async readPage(doc, page) {

@@ -63,8 +63,8 @@ class Person(Chromium):
         self.until(f"document.getElementById('title').textContent === 'Document {number}' && "
                    "document.activeElement.id === 'sheet'")
 
-    def turn(self, page, of):
-        self.key("ArrowRight")
+    def turn(self, page, of, key="ArrowRight"):
+        self.key(key)
         self.until(f"document.getElementById('place').textContent === 'page {page} of {of}'")
 
     def decide(self, number, keys, designation=""):
@@ -92,6 +92,12 @@ class Person(Chromium):
 
     def boxes(self):
         return self.js("Array.from(document.querySelectorAll('#boxes li'), (it) => it.children[0].textContent)")
+
+    def told_box(self, num):
+        """Left and top of a box, by the list."""
+        row = next(row for row in self.boxes() if row.startswith(f"Box {num},"))
+        left, top = row.split(" at ")[1].split(", ")[:2]
+        return int(left), int(top)
 
     def draft(self):
         return self.js("(() => { const it = document.querySelector('.draft'); if (it === null) return null;"
@@ -251,7 +257,7 @@ def try_boxes(person, shots):
     person.size("page")
     person.says("a third box, on the whole page", lambda: person.draw(200, 2900, 300, 80), "Box 3 stands.")
     person.says("moved by the mouse", lambda: person.drag(person.at(350, 2940), person.at(650, 2840)), "Box 3 stands.")
-    left, top = person.draft_or_told(3)
+    left, top = person.told_box(3)
     check("by as much as the mouse", abs(left - 500) < 8 and abs(top - 2800) < 8, (left, top))
     person.says("chosen by the mouse", lambda: press_at(person, person.at(650, 2840)), "Box 3 is chosen")
     person.says("sized at a corner", lambda: person.drag(person.at(left + 300, top + 80), person.at(left + 500, top + 200)), "Box 3 stands.")
@@ -291,16 +297,6 @@ def words_taken():
 def press_at(person, place):
     person.mouse("mousePressed", *place)
     person.mouse("mouseReleased", *place)
-
-
-def told_box(self, num):
-    """Left and top of a box, by the list."""
-    row = next(row for row in self.boxes() if row.startswith(f"Box {num},"))
-    left, top = row.split(" at ")[1].split(", ")[:2]
-    return int(left), int(top)
-
-
-Person.draft_or_told = told_box
 
 
 def hold(person, name, basis):
@@ -374,6 +370,15 @@ def try_second(person, office, shots):
             check("every page was looked at", "looked" not in person.text("asked"), person.text("asked"))
         person.says(f"document {number} confirmed", lambda: person.key("Enter"), f"Document {number} is confirmed.")
     check("by the second person", "confirmed by staff 3" in person.text("state"), person.text("state"))
+    person.says("a call on what is confirmed waits for a second press", lambda: person.key("r"), "would undo it")
+    for page in (3, 2):
+        person.turn(page, 4, "ArrowLeft")
+    person.js("document.getElementById('sheet').scrollTo(0, 0)")
+    person.does(lambda: press_at(person, person.at(1200, 1000)), "Box 1 is chosen")
+    x, y = person.at(1200, 1000)
+    person.says("a click that trembles moves no box", lambda: person.drag((x, y), (x + 2, y + 1)), "Box 1 is chosen")
+    person.says("a box that is moved waits too", lambda: person.drag((x, y), (x + 40, y)), "would undo it")
+    check("and stands where it stood", "confirmed by staff 3" in person.text("state") and person.told_box(1) == (430, 662), person.boxes())
     person.open(11)
     person.key("s")
     person.until("document.getElementById('ask').open")
@@ -466,8 +471,7 @@ def try_large_letters(office, shots):
 
 
 def produce(office):
-    served = office.close_desk()
-    print("           ", served.strip())
+    office.close_desk()
     line = office.run("produce", "R-1", "VOL001", "ABC", "8", "1", "12", "AUTHOR")
     check("the volume is produced", line.startswith("production R-1 labels ABC00000001 to ABC00000023 files 37 "), line)
     told = subprocess.run([os.path.join(TOP, "examples", "check_volume.py"), "out"], cwd=office.folder, capture_output=True,

@@ -84,8 +84,12 @@ export class Boxes {
     const row = document.createElement('li')
     const words = box.page === this.review.page ? this.review.knownWords() : null
     const taken = words === null ? '' : `, takes ${words.filter((word) => touches(box, word)).length} words`
-    const text = `Box ${box.num}, ${box.basis}: page ${box.page}, ${box.width} × ${box.height} at ${box.left}, ${box.top}${taken}`
-    row.append(this.button(text, () => this.choose(box)), this.button('Drop', () => this.drop(box.num), `Drop box ${box.num}`))
+    const { num, basis, page, left, top, width, height } = box
+    const text = `Box ${num}, ${basis}: page ${page}, ${width} × ${height} at ${left}, ${top}${taken}`
+    row.append(
+      this.button(text, () => this.choose(box)),
+      this.button('Drop', () => this.drop(num), `Drop box ${num}`),
+    )
     return row
   }
 
@@ -235,7 +239,8 @@ export class Boxes {
     const width = Math.min(NEW_BOX.width, page.width)
     const height = Math.min(NEW_BOX.height, page.height)
     this.start(moved({ left: 0, top: 0, width, height }, x - (width >> 1), y - (height >> 1), page))
-    return 'A new box: the arrows move it, Shift and the arrows size it, 1 to 4 set its basis, Enter puts it, Escape leaves it.'
+    return 'A new box: the arrows move it, Shift and the arrows size it, 1 to 4 set its basis, Enter puts it, ' +
+      'Escape leaves it.'
   }
 
   // the next box of the page

@@ -70,4 +70,6 @@ function runs(colour) {
 
 export const WHITE_RUNS = runs('white')
 export const BLACK_RUNS = runs('black')
-export const MODE_CODES = { bits: 7, found: lookUp(7, MODES), codes: [...MODES.map(([code]) => code), EXTENSION, END_OF_BLOCK] }
+export const MODE_CODES = {
+  bits: 7, found: lookUp(7, MODES), codes: [...MODES.map(([code]) => code), EXTENSION, END_OF_BLOCK],
+}

@@ -87,7 +87,9 @@ async function lookAgain(review) {
 async function openByNumber(review) {
   const { number } = the('go').elements
   const wanted = Number(number.value)
-  if (!(wanted >= 1 && wanted <= review.count)) throw new NotNow(`There are documents 1 to ${review.count.toLocaleString('en')}.`)
+  if (!(wanted >= 1 && wanted <= review.count)) {
+    throw new NotNow(`There are documents 1 to ${review.count.toLocaleString('en')}.`)
+  }
   await review.open(wanted)
   number.value = ''
   the('sheet').focus()

@@ -27,7 +27,8 @@ function build(review) {
   const held = new HeldFields(review, { form: the('hold'), list: the('held'), known: the('field_names'), act })
   const entry = new EntryForm(review, { form: the('entry'), act })
   const second = new SecondReview(review, {
-    dialog: the('ask'), summary: the('asked'), yes: the('yes'), no: the('no'), confirm: the('confirm'), back: the('back'), act,
+    dialog: the('ask'), summary: the('asked'), yes: the('yes'), no: the('no'),
+    confirm: the('confirm'), back: the('back'), act,
   })
   new Family(review, { place: the('family'), act })
   new People(review.desk, {
@@ -58,7 +59,9 @@ async function showPlace(review, image) {
   the('page_before').disabled = review.page === 1
   the('page_after').disabled = review.page === review.doc.pages
   if (the('show_words').checked) the('show_words').dispatchEvent(new Event('change'))
-  if (image.fault !== undefined) throw new NotNow(`This page can’t be drawn (${image.fault}). Tell the one who looks after the desks.`)
+  if (image.fault !== undefined) {
+    throw new NotNow(`This page can’t be drawn (${image.fault}). Tell the one who looks after the desks.`)
+  }
 }
 
 // ---- the key

@@ -32,9 +32,13 @@ export class SecondReview {
   // what is to be confirmed, for one more look
   lines(doc) {
     const lines = [inFull(doc)]
-    if (doc.boxes.length > 0) lines.push(`Boxes: ${doc.boxes.map(({ num, page, basis }) => `${num} on page ${page} (${basis})`).join(', ')}.`)
+    const boxes = doc.boxes.map(({ num, page, basis }) => `${num} on page ${page} (${basis})`)
+    if (boxes.length > 0) lines.push(`Boxes: ${boxes.join(', ')}.`)
     if (doc.held.length > 0) lines.push(`Held fields: ${doc.held.length}.`)
-    if (doc.entry !== null) lines.push(`Log entry: ${doc.entry.date}, ${doc.entry.author} to ${doc.entry.recipients}: ${doc.entry.description}`)
+    if (doc.entry !== null) {
+      const { date, author, recipients, description } = doc.entry
+      lines.push(`Log entry: ${date}, ${author} to ${recipients}: ${description}`)
+    }
     const unseen = this.unseen(doc)
     if (unseen.length > 0) lines.push(`You haven’t looked at page${unseen.length > 1 ? 's' : ''} ${unseen.join(', ')}.`)
     return lines
@@ -49,13 +53,16 @@ export class SecondReview {
     const { doc, isShown } = this.review
     if (doc === null || !isShown) throw new NotNow('The document isn’t on the screen yet. Press again.')
     const seen = JSON.stringify(doc)
-    this.ask(`Confirm document ${doc.doc}: ${TREATMENTS[doc.treatment]}?`, this.lines(doc), 'Confirm', () => this.confirm(doc.doc, seen))
+    const title = `Confirm document ${doc.doc}: ${TREATMENTS[doc.treatment]}?`
+    this.ask(title, this.lines(doc), 'Confirm', () => this.confirm(doc.doc, seen))
   }
 
   async confirm(number, seen) {
     if (this.review.doc.doc !== number) return null
     await this.review.look()
-    if (JSON.stringify(this.review.doc) !== seen) throw new NotNow('Not confirmed: it was changed since you looked. Look again.')
+    if (JSON.stringify(this.review.doc) !== seen) {
+      throw new NotNow('Not confirmed: it was changed since you looked. Look again.')
+    }
     await this.review.edit('confirm', {})
     return `Document ${number} is confirmed.`
   }

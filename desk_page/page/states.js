@@ -27,7 +27,8 @@ export function inShort(doc) {
 // a sentence for the head of the document
 export function inFull(doc) {
   if (doc.editor === 0) return 'Not called yet.'
-  const called = `${TREATMENTS[doc.treatment]}, ${doc.responsive ? 'responsive' : 'not responsive'}; last edited by staff ${doc.editor}`
+  const responsive = doc.responsive ? 'responsive' : 'not responsive'
+  const called = `${TREATMENTS[doc.treatment]}, ${responsive}; last edited by staff ${doc.editor}`
   if (doc.confirmer !== 0) return `${called}, confirmed by staff ${doc.confirmer}.`
   return progressOf(doc) === 'first' ? `${called}, not confirmed.` : `${called}.`
 }

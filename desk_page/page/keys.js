@@ -1,0 +1,107 @@
+// The keyboard: what each key does, and the list of keys that `?` shows. A text field has its letters for itself.
+
+// key, what it does, how the list shows it where that is another word
+const ROWS = [
+  ['Documents and pages'],
+  ['j', 'next document'],
+  ['k', 'document before'],
+  ['u', 'next document that isn’t settled'],
+  ['o', 'open a document by its number'],
+  ['ArrowRight', 'next page', '→'],
+  ['ArrowLeft', 'page before', '←'],
+  [' ', 'read on, to the next page too', 'Space'],
+  ['+', 'larger'],
+  ['-', 'smaller'],
+  ['0', 'as wide as the window'],
+  ['t', 'show or hide the words'],
+  ['l', 'look again at the document'],
+  ['The call'],
+  ['y', 'responsive'],
+  ['n', 'not responsive'],
+  ['p', 'produce'],
+  ['r', 'redact'],
+  ['a', 'withhold for AC'],
+  ['w', 'withhold for WP'],
+  ['d', 'to the designation'],
+  ['g', 'to the log entry'],
+  ['h', 'to the held fields'],
+  ['CtrlEnter', 'put the log entry from its description', 'Ctrl Enter'],
+  ['Boxes'],
+  ['b', 'a new box'],
+  ['e', 'choose the next box of the page'],
+  ['1', 'basis AC'],
+  ['2', 'basis WP'],
+  ['3', 'basis PI'],
+  ['4', 'basis TS'],
+  ['Arrows', 'move the chosen box; with Shift size it, with Ctrl by one pixel'],
+  ['Enter', 'put the chosen box'],
+  ['Delete', 'drop the chosen box'],
+  ['Escape', 'leave the box, or a text field'],
+  ['Second review'],
+  ['c', 'confirm, after one more look'],
+  ['s', 'send back'],
+  ['?', 'this list'],
+]
+
+const ARROWS = { ArrowLeft: [-1, 0], ArrowRight: [1, 0], ArrowUp: [0, -1], ArrowDown: [0, 1] }
+const STRIDE = 10 // pixels of the page
+
+const isText = (target) => target.matches('textarea, select, input:not([type=radio], [type=checkbox])')
+
+export class Keys {
+  // `does` has for each key what it does; `boxes` has the chosen box, which the arrows move
+  constructor(does, boxes, act) {
+    this.does = does
+    this.boxes = boxes
+    document.addEventListener('keydown', act((event) => this.press(event)))
+  }
+
+  press(event) {
+    const { key, target } = event
+    if (document.querySelector('dialog[open]') !== null) return null
+    if (isText(target)) {
+      if (key === 'Escape') this.does.leaveField()
+      return null
+    }
+    if (event.metaKey || event.altKey) return null
+    if (key in ARROWS && this.moveBox(event)) return null
+    if (event.ctrlKey) return null
+    // a button that has the focus keeps Enter and Space, and a choice its arrows
+    if ((key === 'Enter' || key === ' ') && target.matches('button, input')) return null
+    if (key in ARROWS && target.matches('[type=radio]')) return null
+    const name = key === ' ' && event.shiftKey ? 'back' : key.length === 1 ? key.toLowerCase() : key
+    const work = this.does[name]
+    if (work === undefined) return null
+    event.preventDefault()
+    return work()
+  }
+
+  moveBox(event) {
+    const [right, down] = ARROWS[event.key]
+    const step = event.ctrlKey ? 1 : STRIDE
+    if (!this.boxes.nudge(right * step, down * step, event.shiftKey)) return false
+    event.preventDefault()
+    return true
+  }
+}
+
+// the list of keys, as rows of a table
+export function listKeys(table) {
+  table.replaceChildren(...ROWS.map(([key, does, shown]) => {
+    const row = document.createElement('tr')
+    const first = document.createElement(does === undefined ? 'th' : 'td')
+    if (does === undefined) {
+      first.colSpan = 2
+      first.textContent = key
+      row.append(first)
+      return row
+    }
+    const mark = document.createElement('kbd')
+    mark.textContent = shown ?? (key.length === 1 ? key.toUpperCase() : key)
+    first.append(mark)
+    const second = document.createElement('td')
+    second.textContent = does
+    row.append(first, second)
+    return row
+  }))
+}

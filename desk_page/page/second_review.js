@@ -1,0 +1,82 @@
+// Confirm and send back. A call to confirm carries nothing of what was seen, so the document is looked at once more just
+// before, and nothing is confirmed where it isn't as it was shown.
+import { TREATMENTS, inFull } from './states.js'
+import { NotNow } from './review.js'
+
+export class SecondReview {
+  constructor(review, { dialog, summary, yes, no, confirm, back, act }) {
+    Object.assign(this, { review, dialog, summary, yes, work: null })
+    confirm.addEventListener('click', act(() => this.askConfirm()))
+    back.addEventListener('click', act(() => this.askBack()))
+    no.addEventListener('click', () => dialog.close())
+    yes.addEventListener('click', act(() => {
+      dialog.close()
+      return this.work()
+    }))
+  }
+
+  ask(title, lines, yes, work) {
+    const head = document.createElement('h2')
+    head.textContent = title
+    this.summary.replaceChildren(head, ...lines.map((line) => {
+      const made = document.createElement('p')
+      made.textContent = line
+      return made
+    }))
+    this.yes.textContent = yes
+    this.work = work
+    this.dialog.showModal()
+    this.yes.focus()
+  }
+
+  // what is to be confirmed, for one more look
+  lines(doc) {
+    const lines = [inFull(doc)]
+    const boxes = doc.boxes.map(({ num, page, basis }) => `${num} on page ${page} (${basis})`)
+    if (boxes.length > 0) lines.push(`Boxes: ${boxes.join(', ')}.`)
+    if (doc.held.length > 0) lines.push(`Held fields: ${doc.held.length}.`)
+    if (doc.entry !== null) {
+      const { date, author, recipients, description } = doc.entry
+      lines.push(`Log entry: ${date}, ${author} to ${recipients}: ${description}`)
+    }
+    const unseen = this.unseen(doc)
+    if (unseen.length > 0) lines.push(`You haven’t looked at page${unseen.length > 1 ? 's' : ''} ${unseen.join(', ')}.`)
+    return lines
+  }
+
+  unseen(doc) {
+    const seen = this.review.seen.get(doc.doc) ?? new Set()
+    return Array.from({ length: doc.pages }, (_, k) => k + 1).filter((page) => !seen.has(page))
+  }
+
+  askConfirm() {
+    const { doc, isShown } = this.review
+    if (doc === null || !isShown) throw new NotNow('The document isn’t on the screen yet. Press again.')
+    const seen = JSON.stringify(doc)
+    const title = `Confirm document ${doc.doc}: ${TREATMENTS[doc.treatment]}?`
+    this.ask(title, this.lines(doc), 'Confirm', () => this.confirm(doc.doc, seen))
+  }
+
+  async confirm(number, seen) {
+    if (this.review.doc.doc !== number) return null
+    await this.review.look()
+    if (JSON.stringify(this.review.doc) !== seen) {
+      throw new NotNow('Not confirmed: it was changed since you looked. Look again.')
+    }
+    await this.review.edit('confirm', {})
+    return `Document ${number} is confirmed.`
+  }
+
+  askBack() {
+    const { doc, isShown } = this.review
+    if (doc === null || !isShown) throw new NotNow('The document isn’t on the screen yet. Press again.')
+    const lines = [inFull(doc), 'It will be uncalled; its boxes, held fields and log entry stay.']
+    this.ask(`Send document ${doc.doc} back?`, lines, 'Send back', () => this.sendBack(doc.doc))
+  }
+
+  async sendBack(number) {
+    if (this.review.doc.doc !== number) return null
+    await this.review.edit('back', {})
+    return `Document ${number} is sent back.`
+  }
+}

@@ -1,0 +1,169 @@
+"""A headless Chromium, driven by its own protocol over a websocket (RFC 6455), with nothing but Python's own library."""
+import base64
+import json
+import os
+import secrets
+import shutil
+import socket
+import subprocess
+import tempfile
+import time
+import urllib.request
+
+
+class Socket:
+    """As much of a websocket as the protocol needs: texts both ways."""
+
+    def __init__(self, url):
+        host, _, path = url.removeprefix("ws://").partition("/")
+        name, port = host.split(":")
+        self.peer = socket.create_connection((name, int(port)), timeout=120)
+        key = base64.b64encode(secrets.token_bytes(16)).decode()
+        self.peer.sendall(
+            f"GET /{path} HTTP/1.1\r\nHost: {host}\r\nUpgrade: websocket\r\nConnection: Upgrade\r\n"
+            f"Sec-WebSocket-Key: {key}\r\nSec-WebSocket-Version: 13\r\n\r\n".encode())
+        self.came = b""
+        while b"\r\n\r\n" not in self.came:
+            self.more()
+        head, _, self.came = self.came.partition(b"\r\n\r\n")
+        if not head.startswith(b"HTTP/1.1 101"):
+            raise RuntimeError(head.decode())
+
+    def more(self):
+        piece = self.peer.recv(1 << 20)
+        if not piece:
+            raise RuntimeError("Chromium hung up")
+        self.came += piece
+
+    def take(self, count):
+        while len(self.came) < count:
+            self.more()
+        taken, self.came = self.came[:count], self.came[count:]
+        return taken
+
+    def send(self, text):
+        data, mask = text.encode(), secrets.token_bytes(4)
+        size = bytes([0x80 | len(data)]) if len(data) < 126 else b"\xff" + len(data).to_bytes(8, "big")
+        pattern = (mask * (len(data) // 4 + 1))[: len(data)]
+        masked = (int.from_bytes(data, "big") ^ int.from_bytes(pattern, "big")).to_bytes(len(data), "big")
+        self.peer.sendall(b"\x81" + size + mask + masked)
+
+    def receive(self):
+        text = b""
+        while True:
+            first, size = self.take(2)
+            size = int.from_bytes(self.take({126: 2, 127: 8}[size]), "big") if size > 125 else size
+            data = self.take(size)
+            if first & 15 in (0, 1):
+                text += data
+                if first & 0x80:
+                    return text.decode()
+
+
+class Chromium:
+    """One window. `log` has what the page complained of."""
+
+    def __init__(self, folder, size=(1500, 1000), points=1):
+        self.home = tempfile.mkdtemp(prefix="chromium-", dir=folder)
+        words = ["--headless=new", "--no-sandbox", "--disable-gpu", "--ignore-certificate-errors", "--no-first-run",
+                 "--remote-debugging-port=0", "--hide-scrollbars=false", f"--user-data-dir={self.home}",
+                 f"--window-size={size[0]},{size[1]}", f"--force-device-scale-factor={points}", "about:blank"]
+        with open(os.path.join(self.home, "errors"), "w", encoding="utf-8") as errors:
+            self.process = subprocess.Popen([shutil.which("chromium"), *words], stdout=errors, stderr=errors)
+        self.socket, self.count, self.log, self.requests = Socket(self.tab()), 0, [], []
+        for part in ("Page", "Runtime", "Log", "Network"):
+            self(part + ".enable")
+        self("Emulation.setDeviceMetricsOverride", width=size[0], height=size[1], deviceScaleFactor=points, mobile=False)
+
+    def tab(self):
+        for _ in range(300):
+            try:
+                with open(os.path.join(self.home, "DevToolsActivePort"), encoding="utf-8") as file:
+                    port = file.readline().strip()
+                with urllib.request.urlopen(f"http://127.0.0.1:{port}/json", timeout=10) as answer:
+                    return next(tab for tab in json.load(answer) if tab["type"] == "page")["webSocketDebuggerUrl"]
+            except (OSError, StopIteration):
+                time.sleep(0.2)
+        raise RuntimeError("Chromium didn't start")
+
+    def __call__(self, method, **params):
+        self.count += 1
+        self.socket.send(json.dumps({"id": self.count, "method": method, "params": params}))
+        while True:
+            told = json.loads(self.socket.receive())
+            if told.get("id") == self.count:
+                if "error" in told:
+                    raise RuntimeError(told["error"])
+                return told["result"]
+            self.note(told)
+
+    def note(self, event):
+        if event["method"] == "Runtime.exceptionThrown":
+            self.log.append(json.dumps(event["params"]["exceptionDetails"]))
+        elif event["method"] == "Log.entryAdded":
+            entry = event["params"]["entry"]
+            # a desk that refuses is no fault of the page, and the advice on reading a canvas is for the test
+            if entry["source"] != "network" and "willReadFrequently" not in entry["text"]:
+                self.log.append(entry["text"])
+        elif event["method"] == "Runtime.consoleAPICalled":
+            self.log.append(json.dumps(event["params"]["args"]))
+        elif event["method"] == "Network.requestWillBeSent":
+            self.requests.append(event["params"]["request"])
+
+    def js(self, text):
+        """The value of an expression; a promise is waited for."""
+        told = self("Runtime.evaluate", expression=text, awaitPromise=True, returnByValue=True)
+        if "exceptionDetails" in told:
+            raise RuntimeError(json.dumps(told["exceptionDetails"]))
+        return told["result"].get("value")
+
+    def until(self, text, seconds=60):
+        """Waits until an expression holds."""
+        end = time.time() + seconds
+        while time.time() < end:
+            if self.js(text):
+                return
+            time.sleep(0.05)
+        raise RuntimeError(f"never: {text}")
+
+    def go(self, url):
+        self("Page.navigate", url=url)
+        self.until("document.readyState === 'complete'")
+
+    def key(self, key, modifiers=0):
+        """A key pressed and let go. Modifiers: 1 Alt, 2 Ctrl, 8 Shift."""
+        text = {"Enter": "\r"}.get(key, key if len(key) == 1 else "")
+        codes = {"Enter": 13, "Escape": 27, "Delete": 46, "ArrowLeft": 37, "ArrowUp": 38, "ArrowRight": 39, "ArrowDown": 40,
+                 "Tab": 9, " ": 32}
+        same = dict(key=key, modifiers=modifiers, windowsVirtualKeyCode=codes.get(key, ord(key[0].upper())))
+        self("Input.dispatchKeyEvent", type="keyDown", **same, **({"text": text} if text and modifiers != 2 else {}))
+        self("Input.dispatchKeyEvent", type="keyUp", **same)
+
+    def type(self, text):
+        self("Input.insertText", text=text)
+
+    def mouse(self, kind, x, y):
+        self("Input.dispatchMouseEvent", type=kind, x=x, y=y, button="left", buttons=int(kind != "mouseReleased"), clickCount=1)
+
+    def drag(self, start, end):
+        self.mouse("mousePressed", *start)
+        self.mouse("mouseMoved", (start[0] + end[0]) / 2, (start[1] + end[1]) / 2)
+        self.mouse("mouseMoved", *end)
+        self.mouse("mouseReleased", *end)
+
+    def click(self, selector):
+        """The mouse pressed in the middle of an element, which is scrolled into sight."""
+        place = self.js(
+            f"(() => {{ const it = document.querySelector({json.dumps(selector)}); it.scrollIntoView({{ block: 'nearest' }});"
+            " const on = it.getBoundingClientRect(); return [on.left + on.width / 2, on.top + on.height / 2] })()")
+        self.mouse("mousePressed", *place)
+        self.mouse("mouseReleased", *place)
+
+    def shot(self, path):
+        with open(path, "wb") as file:
+            file.write(base64.b64decode(self("Page.captureScreenshot", format="png")["data"]))
+
+    def close(self):
+        self.process.terminate()
+        self.process.wait()
+        shutil.rmtree(self.home, ignore_errors=True)

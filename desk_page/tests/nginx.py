@@ -1,0 +1,220 @@
+#!/usr/bin/env python3
+"""What nginx does between browsers and desks, by the page's own configuration: which fields a desk gets, that a key stays at
+one desk, that no call is repeated, what is refused ahead of the desks, and what each answer is sent with. The desks are
+sockets that keep what came; the last part is tried with the stand-in, or with the program where it is given.
+
+    nginx.py SCRATCH [PROGRAM]
+"""
+import http.client
+import os
+import socket
+import ssl
+import sys
+import threading
+import time
+
+from office import ELLIS, Office
+
+passed = failed = 0
+DONE = b'HTTP/1.1 200 OK\r\nContent-Type: application/json\r\nContent-Length: 13\r\nConnection: close\r\n\r\n{"done":true}'
+
+
+def check(what, holds, more=""):
+    global passed, failed
+    passed, failed = passed + bool(holds), failed + (not holds)
+    print("ok         " if holds else "NOT AS DUE ", what, "" if holds else more, flush=True)
+
+
+class Desk:
+    """A socket that keeps each request, and answers it or hangs up."""
+
+    def __init__(self, answer=DONE):
+        self.door, self.came, self.answer = socket.create_server(("127.0.0.1", 0)), [], answer
+        self.port = self.door.getsockname()[1]
+        threading.Thread(target=self.serve, daemon=True).start()
+
+    def serve(self):
+        while True:
+            peer, _ = self.door.accept()
+            with peer:
+                request = b""
+                while b"\r\n\r\n" not in request and (piece := peer.recv(65536)):
+                    request += piece
+                head, _, body = request.partition(b"\r\n\r\n")
+                length = next((int(line.split(b":")[1]) for line in head.split(b"\r\n") if line.lower().startswith(b"content-length")), 0)
+                while len(body) < length and (piece := peer.recv(65536)):
+                    body += piece
+                self.came.append((head.decode(), body))
+                if self.answer:
+                    peer.sendall(self.answer)
+
+    def fields(self):
+        """The names of the fields of the last request, and its first line."""
+        lines = self.came[-1][0].split("\r\n")
+        return lines[0], [line.partition(":")[0].lower() for line in lines[1:]]
+
+
+class Behind(Office):
+    """nginx over some desks of this test."""
+
+    def __init__(self, folder, desks):
+        self.desks = desks
+        super().__init__(folder)
+
+    def make_matter(self):
+        pass
+
+    def open_desk(self):
+        self.desk_port = self.desks[0].port
+
+    def ask(self, *_words):
+        pass
+
+    def close(self):
+        for process in self.processes:
+            process.terminate()
+            process.wait()
+
+    def site_of(self, site):
+        more = "".join(f"\n    server 127.0.0.1:{desk.port} max_fails=0;" for desk in self.desks[1:])
+        first = f"server 127.0.0.1:{self.desk_port} max_fails=0;"
+        return site.replace(first, first + more)
+
+
+def raw(office, text):
+    """The status of the reply to bytes as they are."""
+    plain = socket.create_connection(("127.0.0.1", office.port), timeout=60)
+    with ssl._create_unverified_context().wrap_socket(plain) as peer:
+        peer.sendall(text)
+        reply = http.client.HTTPResponse(peer)
+        reply.begin()
+        return reply.status, reply.read()
+
+
+def try_fields(scratch):
+    desk = Desk()
+    office = Behind(make(scratch, "fields"), [desk])
+    try:
+        many = {f"X-Field-{k}": "x" for k in range(40)}
+        status, _, _ = office.request("k", "POST", "/desk/docs/1/call", {"responsive": True}, **{name.replace("-", "_"): "x" for name in many},
+                                      Cookie="a=b", Authorization="Basic eA==", Referer="https://x/", Origin="https://x")
+        line, fields = desk.fields()
+        check("a desk gets host, key, connection and length of a call, and no other field",
+              status == 200 and sorted(fields) == ["connection", "content-length", "desk-key", "host"], (status, fields))
+        check("and the path without /desk", line == "POST /docs/1/call HTTP/1.1", line)
+        status, _ = raw(office, b"POST /desk/docs/1/confirm HTTP/1.1\r\nHost: x\r\nDesk-Key: k\r\nTransfer-Encoding: chunked\r\n\r\n2\r\n{}\r\n0\r\n\r\n")
+        check("a body in chunks comes with its length", status == 200 and desk.came[-1][1] == b"{}" and
+              "transfer-encoding" not in desk.fields()[1], desk.came[-1])
+        status, _, _ = office.request(None, "GET", "/desk/docs/1")
+        check("without a key a desk gets none", status == 200 and "desk-key" not in desk.fields()[1], desk.fields())
+        before = len(desk.came)
+        for target in ("/docs/1", "/desk", "/../desk.conf", "/nginx.conf", "/desk_page.conf", "/page/"):
+            status, _ = raw(office, f"GET {target} HTTP/1.1\r\nHost: x\r\nConnection: close\r\n\r\n".encode())
+            check(f"{target} shows nothing", status in (301, 400, 404), status)
+        for method in ("POST", "PUT", "DELETE"):
+            status, _, _ = office.request("k", method, "/index.html", {})
+            check(f"{method} of the page is refused", status in (403, 405), status)
+        check("and no desk got them", len(desk.came) == before)
+        status, _, _ = office.request("k", "POST", "/desk/docs/1/entry", {"date": "x" * (1 << 20)})
+        check("a body over the desk's limit is refused ahead of it", status == 413 and len(desk.came) == before, status)
+        try_heads(office)
+    finally:
+        office.close()
+
+
+def try_heads(office):
+    for path, due in (("/", 200), ("/main.js", 200), ("/layout.css", 200), ("/fields.json", 200), ("/none", 404), ("/desk/docs/1", 200)):
+        status, head, _ = office.request("k", "GET", path)
+        policy = head.get("Content-Security-Policy", "")
+        check(f"{path} comes with the policy, once, and is kept nowhere",
+              status == due and "default-src 'none'" in policy and "unsafe" not in policy and head["Cache-Control"] == "no-store"
+              and head["X-Content-Type-Options"] == "nosniff" and len(head.get_all("Content-Security-Policy")) == 1, (status, head.items()))
+
+
+def try_flood(scratch):
+    desk = Desk()
+    office = Behind(make(scratch, "flood"), [desk])
+    try:
+        # all are open before the first asks
+        trust = ssl._create_unverified_context()
+        peers = [trust.wrap_socket(socket.create_connection(("127.0.0.1", office.port), timeout=60)) for _ in range(300)]
+        start = time.time()
+        for peer in peers:
+            peer.sendall(b"GET /desk/docs/1 HTTP/1.1\r\nHost: x\r\nDesk-Key: k\r\nConnection: close\r\n\r\n")
+        statuses = [int(peer.recv(65536).split(b" ")[1]) for peer in peers]
+        took = time.time() - start
+        check("of 300 requests at once some are refused, and the others wait for their turn",
+              set(statuses) == {200, 429} and len(desk.came) == statuses.count(200) and took > statuses.count(200) / 60,
+              (statuses.count(429), len(desk.came), took))
+    finally:
+        office.close()
+
+
+def try_keys(scratch):
+    desks = [Desk() for _ in range(3)]
+    office = Behind(make(scratch, "keys"), desks)
+    try:
+        went = {}
+        for _ in range(3):
+            for k in range(20):
+                counts = [len(desk.came) for desk in desks]
+                office.request(f"key {k}", "GET", "/desk/docs/1")
+                went.setdefault(k, set()).add(next(d for d, desk in enumerate(desks) if len(desk.came) != counts[d]))
+        check("each of 20 keys stays at one of three desks", all(len(where) == 1 for where in went.values()), went)
+        check("and each desk has some", len(set.union(*went.values())) == 3, went)
+    finally:
+        office.close()
+
+
+def try_repeats(scratch):
+    desks = [Desk(answer=None), Desk(answer=None)]
+    office = Behind(make(scratch, "repeats"), desks)
+    try:
+        for method, members in (("GET", None), ("POST", {})):
+            before = sum(len(desk.came) for desk in desks)
+            status, _, _ = office.request("k", method, "/desk/docs/1/confirm", members)
+            count = sum(len(desk.came) for desk in desks) - before
+            check(f"a {method} whose desk hangs up is made once", status == 502 and count == 1, (status, count))
+    finally:
+        office.close()
+
+
+def try_desk(scratch, program):
+    office = Office(make(scratch, "desk"), program)
+    try:
+        status, head, body = office.request(ELLIS, "GET", "/desk/docs/1")
+        check("a document comes as JSON", status == 200 and head["Content-Type"] == "application/json", (status, head.items()))
+        status, head, body = office.request(ELLIS, "GET", "/desk/docs/1/pages/1")
+        check("a page comes as a TIFF file", status == 200 and head["Content-Type"] == "image/tiff" and body[:2] == b"II", head.items())
+        for key, path, due in (("nobody", "/docs/1", (401, b"KeyUnknown")), (None, "/docs/1", (401, b"KeyMissing")),
+                               (ELLIS, "/docs/99", (404, b"NoDocument")), (ELLIS, "/docs/1?t=1", (404, b"NoRoute"))):
+            status, _, body = office.request(key, "GET", "/desk" + path)
+            check(f"{path} with {'no key' if key is None else 'a key'}: {due[1].decode()}", status == due[0] and due[1] in body, (status, body))
+        status, _, body = office.request(ELLIS, "POST", "/desk/docs/1/entry",
+                                         dict(date="", author="", recipients="", description="x" * 1001))
+        check("a text over its limit is refused by the desk", status == 409 and b"TextRefused" in body, (status, body[:80]))
+        fields = {f"X_{k}": "x" for k in range(40)}
+        status, _, _ = office.request(ELLIS, "GET", "/desk/docs/1", **fields)
+        check("40 fields of a browser are no matter", status == 200, status)
+    finally:
+        office.close()
+
+
+def make(scratch, name):
+    folder = os.path.join(scratch, name)
+    os.mkdir(folder)
+    return folder
+
+
+def main():
+    scratch, program = sys.argv[1], sys.argv[2] if len(sys.argv) > 2 else None
+    try_fields(scratch)
+    try_flood(scratch)
+    try_keys(scratch)
+    try_repeats(scratch)
+    try_desk(scratch, program)
+    print(f"nginx before the desks: {passed} as due, {failed} not")
+    sys.exit(failed > 0)
+
+
+main()

@@ -1,0 +1,153 @@
+"""What a test of the page needs: nginx with the page's own configuration, and behind it a desk, the program's or the
+stand-in, with three people of the staff."""
+import hashlib
+import json
+import os
+import shutil
+import signal
+import socket
+import ssl
+import subprocess
+import sys
+import time
+import urllib.error
+import urllib.request
+
+HERE = os.path.dirname(os.path.abspath(__file__))
+TOP = os.path.dirname(os.path.dirname(HERE))
+BATCH = os.path.join(TOP, "examples", "CVI_001")
+LEAD, ELLIS, MARLOW = "the key of the lead", "the key of Ellis", "the key of Marlow"
+DESK_PORT = 48201
+
+
+def free_port():
+    with socket.socket() as probe:
+        probe.bind(("127.0.0.1", 0))
+        return probe.getsockname()[1]
+
+
+def answers(port):
+    try:
+        socket.create_connection(("127.0.0.1", port), timeout=1).close()
+        return True
+    except OSError:
+        return False
+
+
+def wait_for(port, process):
+    for _ in range(600):
+        if process.poll() is not None:
+            raise RuntimeError(f"{process.args[0]} ended with {process.returncode}")
+        if answers(port):
+            return
+        time.sleep(0.1)
+    raise RuntimeError(f"nobody listens at {port}")
+
+
+def digest(key):
+    return hashlib.sha256(key.encode()).hexdigest()
+
+
+class Office:
+    """Folder is a scratch folder; program the built program, or None for the stand-in."""
+
+    def __init__(self, folder, program=None, copies=1):
+        self.folder, self.program, self.copies = folder, program, copies
+        self.processes, self.desk = [], None
+        self.desk_port = DESK_PORT if program else free_port()
+        self.port = free_port()
+        self.url = f"https://127.0.0.1:{self.port}/"
+        self.make_matter()
+        self.open_desk()
+        self.start_nginx()
+        for name, role, key in (("Ellis", "Reviewer", ELLIS), ("Marlow", "Second", MARLOW)):
+            self.ask(LEAD, "POST", "/staff", dict(name=name, role=role, digest=digest(key)))
+
+    # ---- the desk
+
+    def run(self, *words):
+        told = subprocess.run([self.program, *words], cwd=self.folder, capture_output=True, text=True, check=False)
+        if told.returncode != 0:
+            raise RuntimeError(f"{words}: status {told.returncode}, {told.stdout}")
+        return told.stdout
+
+    def make_matter(self):
+        if self.program:
+            os.symlink(BATCH, os.path.join(self.folder, "CVI_001"))
+            self.run("init", digest(LEAD))
+            self.run("import", "CVI_001")
+
+    def open_desk(self):
+        if self.program:
+            words = [self.program, "serve", "1", "100000"]
+        else:
+            words = [sys.executable, os.path.join(HERE, "stand_in.py"), str(self.desk_port), BATCH, LEAD, str(self.copies)]
+        self.desk = subprocess.Popen(words, cwd=self.folder, stdout=subprocess.PIPE, text=True)
+        wait_for(self.desk_port, self.desk)
+
+    def close_desk(self):
+        self.desk.send_signal(signal.SIGINT)
+        self.desk.wait()
+        return self.desk.stdout.read()
+
+    # ---- nginx, with the configuration that the office gets
+
+    def start_nginx(self):
+        subprocess.run(
+            ["openssl", "req", "-x509", "-newkey", "rsa:2048", "-nodes", "-days", "2", "-subj", "/CN=127.0.0.1",
+             "-keyout", "key.pem", "-out", "cert.pem"], cwd=self.folder, check=True, capture_output=True)
+        page = os.path.join(self.folder, "page")
+        shutil.copytree(os.path.join(HERE, "..", "page"), page)
+        fields = subprocess.run([sys.executable, os.path.join(HERE, "..", "field_names.py"), os.path.join(BATCH, "load.dat")],
+                                capture_output=True, check=True).stdout
+        with open(os.path.join(page, "fields.json"), "wb") as file:
+            file.write(fields)
+        with open(os.path.join(HERE, "..", "nginx", "desk_page.conf"), encoding="utf-8") as file:
+            site = file.read()
+        for old, new in (("listen 443 ssl", f"listen 127.0.0.1:{self.port} ssl"), ("<review.office.example>", "127.0.0.1"),
+                         ("</etc/ssl/certs/review.pem>", f"{self.folder}/cert.pem"),
+                         ("</etc/ssl/private/review.key>", f"{self.folder}/key.pem"), ("</srv/desk_page/page>", page),
+                         (f"server 127.0.0.1:{DESK_PORT} ", f"server 127.0.0.1:{self.desk_port} ")):
+            if old not in site:
+                raise RuntimeError(f"the configuration has no {old}")
+            site = site.replace(old, new)
+        site = self.site_of(site)
+        temps = "".join(f"{kind}_temp_path {self.folder}/{kind};" for kind in ("client_body", "proxy", "fastcgi", "uwsgi", "scgi"))
+        user = "user root;" if os.geteuid() == 0 else ""
+        with open(os.path.join(self.folder, "nginx.conf"), "w", encoding="utf-8") as file:
+            file.write(f"{user} worker_processes 1; daemon off; pid {self.folder}/nginx.pid; error_log {self.folder}/error.log;"
+                       f"events {{ worker_connections 2048; }} http {{ {temps}\n{site} }}")
+        words = [shutil.which("nginx"), "-p", self.folder, "-c", "nginx.conf", "-e", f"{self.folder}/error.log"]
+        nginx = subprocess.Popen(words)
+        self.processes.append(nginx)
+        wait_for(self.port, nginx)
+
+    # the configuration of a test that changes more of it
+    def site_of(self, site):
+        return site
+
+    # ---- requests of another client, by way of nginx
+
+    def request(self, key, method, path, members=None, **fields):
+        """Status, fields and bytes of a reply."""
+        data = None if members is None else json.dumps(members).encode()
+        head = {**({} if key is None else {"Desk-Key": key}), **{name.replace("_", "-"): value for name, value in fields.items()}}
+        request = urllib.request.Request(self.url.rstrip("/") + path, data, head, method=method)
+        trust = ssl._create_unverified_context()  # the certificate is the test's own
+        try:
+            with urllib.request.urlopen(request, timeout=60, context=trust) as reply:
+                return reply.status, reply.headers, reply.read()
+        except urllib.error.HTTPError as reply:
+            return reply.code, reply.headers, reply.read()
+
+    def ask(self, key, method, path, members=None):
+        status, _, body = self.request(key, method, "/desk" + path, members)
+        if status != 200:
+            raise RuntimeError(f"{method} {path}: {status} {body.decode()}")
+        return json.loads(body)
+
+    def close(self):
+        for process in self.processes + [self.desk]:
+            if process.poll() is None:
+                process.terminate()
+                process.wait()

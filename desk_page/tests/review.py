@@ -1,0 +1,517 @@
+#!/usr/bin/env python3
+"""A whole review by the page in a headless Chromium, behind nginx: the decisions of examples/office.sh made with keys and
+mouse, the second review, refusals, and what a person does by mistake. Over the program, where it is given, `produce` then
+writes the volume, and examples/check_volume.py looks at it; else over the stand-in.
+
+    review.py SCRATCH SHOTS [PROGRAM]     pictures of the screens go into the folder SHOTS
+"""
+import hashlib
+import json
+import os
+import subprocess
+import sys
+import time
+
+from chromium import Chromium
+from office import BATCH, ELLIS, LEAD, MARLOW, TOP, Office
+
+CTRL, SHIFT = 2, 8
+passed = failed = 0
+
+
+def check(what, holds, more=""):
+    global passed, failed
+    passed, failed = passed + bool(holds), failed + (not holds)
+    print("ok         " if holds else "NOT AS DUE ", what, "" if holds else more, flush=True)
+
+
+class Person(Chromium):
+    """Who works at the page."""
+
+    def enter(self, url, key):
+        self.go(url)
+        self.click("#key")
+        self.type(key)
+        self.key("Enter")
+        self.until("document.getElementById('title').textContent === 'Document 1'")
+
+    def text(self, name):
+        return self.js(f"document.getElementById({name!r}).textContent")
+
+    def does(self, work, words):
+        """Does something, and waits for what is said of it."""
+        self.js("document.getElementById('said').textContent = ''")
+        work()
+        self.until(f"document.getElementById('said').textContent.includes({json.dumps(words)})", 30)
+
+    def says(self, what, work, words):
+        """A check of what is said."""
+        try:
+            self.does(work, words)
+            check(what, True)
+        except RuntimeError:
+            check(what, False, self.text("said"))
+
+    def press(self, keys):
+        for key in keys:
+            self.key(key)
+
+    def open(self, number):
+        self.key("o")
+        self.type(str(number))
+        self.key("Enter")
+        self.until(f"document.getElementById('title').textContent === 'Document {number}' && "
+                   "document.activeElement.id === 'sheet'")
+
+    def turn(self, page, of, key="ArrowRight"):
+        self.key(key)
+        self.until(f"document.getElementById('place').textContent === 'page {page} of {of}'")
+
+    def decide(self, number, keys, designation=""):
+        self.open(number)
+        if designation:
+            self.key("d")
+            self.type(designation)
+            self.key("Escape")
+        self.does(lambda: self.press(keys), "The call stands.")
+
+    def size(self, value):
+        self.js(f"(() => {{ const it = document.getElementById('size'); it.value = {value!r};"
+                " it.dispatchEvent(new Event('change')) })()")
+
+    def at(self, x, y, sides=(2550, 3300)):
+        """Where a pixel of the page stands in the window."""
+        left, top, width, height = self.js(
+            "(() => { const on = document.getElementById('over').getBoundingClientRect();"
+            " return [on.left, on.top, on.width, on.height] })()")
+        return left + (x + 0.5) * width / sides[0], top + (y + 0.5) * height / sides[1]
+
+    def draw(self, left, top, width, height):
+        self.js("document.getElementById('sheet').scrollTo(0, 0)")
+        self.drag(self.at(left, top), self.at(left + width - 1, top + height - 1))
+
+    def boxes(self):
+        return self.js("Array.from(document.querySelectorAll('#boxes li'), (it) => it.children[0].textContent)")
+
+    def told_box(self, num):
+        """Left and top of a box, by the list."""
+        row = next(row for row in self.boxes() if row.startswith(f"Box {num},"))
+        left, top = row.split(" at ")[1].split(", ")[:2]
+        return int(left), int(top)
+
+    def draft(self):
+        return self.js("(() => { const it = document.querySelector('.draft'); if (it === null) return null;"
+                       " return ['x', 'y', 'width', 'height'].map((name) => Number(it.getAttribute(name))) })()")
+
+    def adjust(self, wanted):
+        """The chosen box by the arrows to where it is wanted: by ten pixels, and then by one."""
+        for is_size, names in ((False, ("ArrowLeft", "ArrowRight", "ArrowUp", "ArrowDown")),
+                               (True, ("ArrowLeft", "ArrowRight", "ArrowUp", "ArrowDown"))):
+            for axis in (0, 1):
+                k = axis + 2 * is_size
+                off = wanted[k] - self.draft()[k]
+                name = names[2 * axis + (off > 0)]
+                for _ in range(abs(off) // 10):
+                    self.key(name, SHIFT * is_size)
+                for _ in range(abs(off) % 10):
+                    self.key(name, SHIFT * is_size | CTRL)
+
+
+def scan(number, page):
+    """The pixels of a page as libtiff reads them: width, height, rows of text with 1 for black."""
+    with open(os.path.join(BATCH, "load.opt"), encoding="utf-8-sig") as file:
+        lines = [line.rstrip("\r\n").split(",") for line in file if line.strip()]
+    starts = [k for k, line in enumerate(lines) if line[3] == "Y"]
+    path = os.path.join(BATCH, lines[starts[number - 1] + page - 1][2].replace("\\", "/"))
+    pnm = subprocess.run(["tifftopnm", "-quiet", path], capture_output=True, check=True).stdout
+    _, sides, rows = pnm.split(b"\n", 2)
+    width, height = map(int, sides.split())
+    stride = (width + 7) // 8
+    row = lambda k: f"{int.from_bytes(rows[k * stride:(k + 1) * stride], 'big'):0{stride * 8}b}"[:width]
+    return width, height, [row(k) for k in range(height)]
+
+
+def grey_of(width, height, rows, across, down):
+    """The bytes of the canvas that the page is due: each cell as dark as the share of its pixels that are black."""
+    columns, lines = [-(-k * width // across) for k in range(across + 1)], [-(-k * height // down) for k in range(down + 1)]
+    out = bytearray()
+    for line in range(down):
+        part = rows[lines[line] : lines[line + 1]]
+        for column in range(across):
+            left, right = columns[column], columns[column + 1]
+            black = sum(row.count("1", left, right) for row in part)
+            # halves are rounded up, as by Math.round
+            out.append(255 - int(255 * black / (len(part) * (right - left)) + 0.5))
+    return bytes(out)
+
+
+CANVAS = """(async () => {
+  const { width, height } = document.getElementById('ink')
+  const { data } = document.getElementById('ink').getContext('2d').getImageData(0, 0, width, height)
+  const grey = data.filter((_, i) => i % 4 === 0)
+  const isGrey = data.every((value, i) => value === (i % 4 === 3 ? 255 : data[i - (i % 4)]))
+  const digest = new Uint8Array(await crypto.subtle.digest('SHA-256', grey))
+  return [width, height, isGrey, Array.from(digest, (byte) => byte.toString(16).padStart(2, '0')).join('')]
+})()"""
+
+
+def canvas_is(what, person, number, page):
+    """The canvas has the scan's pixels, as many of them in a cell as the size says."""
+    across, down, is_grey, digest = person.js(CANVAS)
+    due = hashlib.sha256(grey_of(*scan(number, page), across, down)).hexdigest()
+    check(f"{what}, {across} by {down} cells", is_grey and digest == due, digest)
+
+
+# ---- what is tried
+
+
+def try_keys(person, office):
+    person.go(office.url)
+    for key, words in (("nobody", "KeyUnknown"), ("clé", "plain keyboard")):
+        person.click("#key")
+        person.type(key)
+        person.key("Enter")
+        person.until("document.getElementById('denied').textContent !== ''", 30)
+        check(f"the key {key} is refused in words", words in person.text("denied"), person.text("denied"))
+        person.until("!document.querySelector('#enter button').disabled")
+
+
+def try_looking(person, office, shots):
+    person.shot(os.path.join(shots, "enter.png"))
+    # on the page that refused two keys
+    person.click("#key")
+    person.type(ELLIS)
+    person.key("Enter")
+    person.until("document.getElementById('title').textContent === 'Document 1'")
+    person.until("document.querySelectorAll('#tall .state').length === 12 && "
+                 "[...document.querySelectorAll('#tall .state')].every((it) => it.textContent === 'not called')")
+    check("12 documents, with what stands of each", person.text("count") == "12 documents")
+    person.until("document.querySelectorAll('#family button').length === 3")
+    check("the family of document 1", person.text("family") == "Family: ○ 1○ 2○ 3", person.text("family"))
+    canvas_is("page 1 as wide as the window", person, 1, 1)
+    person.size("1")
+    canvas_is("page 1 at full size", person, 1, 1)
+    person.size("page")
+    canvas_is("page 1 whole", person, 1, 1)
+    person.turn(2, 3)
+    person.size("0.33")
+    canvas_is("page 2 at a third", person, 1, 2)
+    person.key("0")
+    for _ in range(8):
+        person.key(" ")
+        time.sleep(0.1)
+    check("Space reads on to page 3", person.text("place") == "page 3 of 3", person.text("place"))
+    person.key("t")
+    person.until("document.querySelectorAll('#over .word').length > 20")
+    person.key("t")
+    person.until("document.querySelectorAll('#over .word').length === 0")
+    check("words shown and hidden", True)
+
+
+def try_mistakes(person, shots):
+    person.open(5)
+    person.says("a treatment before the answer to responsive", lambda: person.key("p"), "Say first")
+    person.says("a document isn't left with a choice unsent", lambda: person.key("j"), "Not sent: the call")
+    person.js("document.querySelectorAll('#call [type=radio]').forEach((it) => { it.checked = false })")
+    person.says("a box before the call", lambda: person.draw(300, 600, 600, 100), "Call it Redact first")
+    check("and it isn't drawn", person.js("document.querySelectorAll('.box').length") == 0)
+    person.shot(os.path.join(shots, "refused.png"))
+    person.says("a confirmation before the call",
+                lambda: (person.key("c"), person.until("document.getElementById('ask').open"), person.key("Enter")), "RoleRefused")
+
+
+def try_deciding(person):
+    for number, keys in ((1, "yp"), (2, "yp"), (4, "yp"), (6, "yp"), (7, "np"), (8, "np"), (9, "yp"), (11, "yp"), (12, "yp")):
+        person.decide(number, keys)
+    person.decide(3, "ya", "confidential")
+    check("a designation in capitals", person.text("state").startswith("◐ Withhold AC, responsive"), person.text("state"))
+    enter_log(person, "2019-03-04", "Ng", "Ortiz, Berg", "Letter asking counsel for advice on the lease")
+    check("what is lacking", person.text("lacks") == "Needs a second person’s confirmation.", person.text("lacks"))
+
+
+def enter_log(person, date, author, recipients, description):
+    person.key("g")
+    for field, text in (("date", date), ("author", author), ("recipients", recipients), ("description", description)):
+        person.click(f"#entry [name={field}]")
+        person.type(text)
+    person.does(lambda: person.key("Enter", CTRL), "The log entry stands.")
+    person.key("Escape")
+
+
+def try_boxes(person, shots):
+    person.decide(5, "yr")
+    # at full size a point of the screen is a pixel of the page
+    person.size("1")
+    person.js("document.getElementById('sheet').scrollTo(1350, 380)")
+    person.js("document.getElementById('basis').value = 'PI'")
+    person.does(lambda: person.drag(person.at(1420, 460), person.at(2099, 519)), "Box 1 stands.")
+    check("a box drawn by the mouse, pixel by pixel", person.boxes() == ["Box 1, PI: page 1, 680 × 60 at 1420, 460"], person.boxes())
+    person.key("0")
+    person.does(lambda: person.draw(400, 900, 1500, 200), "Box 2 stands.")
+    person.does(lambda: person.key("e"), "Box 1 is chosen")
+    person.does(lambda: person.key("e"), "Box 2 is chosen")
+    person.adjust((325, 950, 1900, 180))
+    check("a box moved and sized by keys", person.draft() == [325, 950, 1900, 180], person.draft())
+    person.does(lambda: person.key("Enter"), "Box 2 stands.")
+    check("it stands there", person.boxes()[1] == "Box 2, PI: page 1, 1900 × 180 at 325, 950", person.boxes())
+    person.size("page")
+    person.says("a third box, on the whole page", lambda: person.draw(200, 2900, 300, 80), "Box 3 stands.")
+    person.says("moved by the mouse", lambda: person.drag(person.at(350, 2940), person.at(650, 2840)), "Box 3 stands.")
+    left, top = person.told_box(3)
+    check("by as much as the mouse", abs(left - 500) < 8 and abs(top - 2800) < 8, (left, top))
+    person.says("chosen by the mouse", lambda: press_at(person, person.at(650, 2840)), "Box 3 is chosen")
+    person.says("sized at a corner", lambda: person.drag(person.at(left + 300, top + 80), person.at(left + 500, top + 200)), "Box 3 stands.")
+    person.does(lambda: press_at(person, person.at(650, 2840)), "Box 3 is chosen")
+    person.says("another basis by a key", lambda: person.key("4"), "Box 3 stands.")
+    check("in the list too", person.boxes()[2].startswith("Box 3, TS"), person.boxes())
+    person.key("b")
+    check("a new box by a key", person.draft() is not None)
+    person.key("Escape")
+    check("left by Escape", person.draft() is None)
+    person.does(lambda: press_at(person, person.at(650, 2840)), "Box 3 is chosen")
+    person.says("dropped by a key", lambda: person.key("Delete"), "Box 3 is dropped")
+    person.key("0")
+    person.key("t")
+    person.until("document.querySelectorAll('#over .word').length > 20")
+    check("the words that the boxes take", [row.split(", ")[-1] for row in person.boxes()] == words_taken(), person.boxes())
+    person.js("document.getElementById('sheet').scrollTo(0, 0)")
+    person.shot(os.path.join(shots, "boxes.png"))
+    person.key("t")
+    person.says("a treatment that boxes forbid", lambda: person.key("p"), "Drop the boxes and free the fields first")
+    check("the treatment that stands is chosen again", person.js("document.querySelector('#call').elements.treatment.value") == "Redact")
+
+
+def words_taken():
+    """By the batch: how many words of page 1 of document 5 each box touches."""
+    import csv
+    with open(os.path.join(BATCH, "load.opt"), encoding="utf-8-sig") as file:
+        lines = [line.split(",") for line in file if line.strip()]
+    image = lines[[k for k, line in enumerate(lines) if line[3] == "Y"][4]][0]
+    with open(os.path.join(BATCH, "words.csv"), encoding="utf-8-sig", newline="") as file:
+        words = [tuple(map(int, row[2:6])) for row in csv.reader(file) if row[0] == image]
+    touch = lambda a, b: all(a[k] < b[k] + b[k + 2] and b[k] < a[k] + a[k + 2] for k in (0, 1))
+    count = lambda box: sum(touch(box, word) for word in words)
+    return [f"takes {count(box)} words" for box in ((1420, 460, 680, 60), (325, 950, 1900, 180))]
+
+
+def press_at(person, place):
+    person.mouse("mousePressed", *place)
+    person.mouse("mouseReleased", *place)
+
+
+def hold(person, name, basis):
+    person.key("h")
+    person.type(name)
+    person.js(f"document.querySelector('#hold').elements.basis.value = {basis!r}")
+    person.key("Enter")
+
+
+def try_fields(person):
+    person.says("a field that isn't there", lambda: hold(person, "Author", "PI"), "no field of this name")
+    person.js("document.querySelector('#hold').elements.field.value = ''")
+    person.key("Escape")
+    person.says("a field held back", lambda: hold(person, "AUTHOR", "AC"), "AUTHOR is held back.")
+    check("by its name in the list", "AUTHOR: AC" in person.text("held"), person.text("held"))
+    person.says("and freed", lambda: person.click("#held button"), "AUTHOR is freed.")
+    person.does(lambda: hold(person, "AUTHOR", "PI"), "AUTHOR is held back.")
+    person.key("Escape")
+
+
+def try_note(person, shots):
+    person.decide(10, "yr")
+    person.turn(2, 4)
+    person.js("document.getElementById('basis').value = 'AC'")
+    person.does(lambda: person.draw(430, 662, 1690, 670), "Box 1 stands.")
+    person.does(lambda: person.key("e"), "Box 1 is chosen")
+    person.adjust((430, 662, 1690, 670))
+    person.shot(os.path.join(shots, "chosen.png"))
+    person.does(lambda: person.key("Enter"), "Box 1 stands.")
+    check("what is lacking of the note", person.text("lacks") == "Needs a log entry, a second person’s confirmation.", person.text("lacks"))
+    enter_log(person, "2019-05-02", "Berg", "Ng", "Note quoting counsel")
+    person.key("u")
+    person.until("document.getElementById('title').textContent === 'Document 3'")
+    check("the next document that isn't settled", True)
+
+
+def try_unsent(person):
+    person.key("g")
+    person.click("#entry [name=author]")
+    person.type(" and others")
+    person.key("Escape")
+    person.says("a log entry isn't left unsent", lambda: person.key("j"), "Not sent: the log entry")
+    person.key("j")
+    person.until("document.getElementById('title').textContent === 'Document 4'")
+    check("but at the second press", True)
+
+
+def ask_confirm(person):
+    person.key("c")
+    person.until("document.getElementById('ask').open")
+
+
+def try_second(person, office, shots):
+    person.enter(office.url, MARLOW)
+    person.open(3)
+    # meanwhile Ellis changes it, and back
+    call = dict(responsive=True, treatment="Withhold-AC", designation="CONFIDENTIAL")
+    ask_confirm(person)
+    office.ask(ELLIS, "POST", "/docs/3/call", dict(call, treatment="Withhold-WP"))
+    person.says("what changed since it was seen isn't confirmed", lambda: person.key("Enter"), "changed since you looked")
+    check("and is shown as it stands", "Withhold WP" in person.text("state") and "not confirmed" in person.text("state"), person.text("state"))
+    office.ask(ELLIS, "POST", "/docs/3/call", call)
+    person.does(lambda: person.key("l"), "as it stands now")
+    for number, pages in ((3, 5), (5, 4), (10, 4)):
+        person.open(number)
+        for page in range(2, pages + 1):
+            person.turn(page, pages)
+        ask_confirm(person)
+        if number == 10:
+            person.shot(os.path.join(shots, "confirm.png"))
+            check("every page was looked at", "looked" not in person.text("asked"), person.text("asked"))
+        person.says(f"document {number} confirmed", lambda: person.key("Enter"), f"Document {number} is confirmed.")
+    check("by the second person", "confirmed by staff 3" in person.text("state"), person.text("state"))
+    person.says("a call on what is confirmed waits for a second press", lambda: person.key("r"), "would undo it")
+    for page in (3, 2):
+        person.turn(page, 4, "ArrowLeft")
+    person.js("document.getElementById('sheet').scrollTo(0, 0)")
+    person.does(lambda: press_at(person, person.at(1200, 1000)), "Box 1 is chosen")
+    x, y = person.at(1200, 1000)
+    person.says("a click that trembles moves no box", lambda: person.drag((x, y), (x + 2, y + 1)), "Box 1 is chosen")
+    person.says("a box that is moved waits too", lambda: person.drag((x, y), (x + 40, y)), "would undo it")
+    check("and stands where it stood", "confirmed by staff 3" in person.text("state") and person.told_box(1) == (430, 662), person.boxes())
+    person.open(11)
+    person.key("s")
+    person.until("document.getElementById('ask').open")
+    person.says("document 11 sent back", lambda: person.key("Enter"), "is sent back")
+    check("it is uncalled", person.text("state") == "○ Not called yet.", person.text("state"))
+    person.does(lambda: person.press("yr"), "The call stands.")
+    ask_confirm(person)
+    person.says("nobody confirms what they edited last", lambda: person.key("Enter"), "Another person has to confirm it")
+    person.does(lambda: person.key("p"), "The call stands.")
+    person.open(10)
+    person.turn(2, 4)
+    person.does(lambda: person.key("l"), "as it stands now")
+    person.shot(os.path.join(shots, "review.png"))
+
+
+def try_without_desk(person, office):
+    office.close_desk()
+    person.says("without a desk", lambda: person.key("l"), "No desk is open")
+    person.says("a call without a desk", lambda: person.press("y"), "look again")
+    if office.program:
+        office.open_desk()
+        person.says("a desk again", lambda: person.key("l"), "as it stands now")
+
+
+def try_secrets(person, key, office):
+    places = person.js(
+        "(async () => JSON.stringify([document.documentElement.outerHTML, [...document.querySelectorAll('input')].map((it) => it.value),"
+        " { ...localStorage }, { ...sessionStorage }, document.cookie, location.href, history.state,"
+        " await indexedDB.databases(), await caches.keys()]))()")
+    check("the key stands in no place of the page", key not in places and key.replace(" ", "%20") not in places)
+    own = [request for request in person.requests if request["url"].startswith(("https:", "http:"))]
+    check("every request went to the page's own origin", all(request["url"].startswith(office.url) for request in own))
+    check("and none has the key in its address or body", not any(key.split()[-1] in request["url"] + request.get("postData", "") for request in own))
+    check("nothing that the browser or its policy refused", not person.log, person.log)
+
+
+# what the routes of review may answer
+RULES = """KeyUnknown NoDocument NoPage RoleRefused BoxOutside BoxShape WrongTreatment BoxesRemain BadBasis NotCalled SamePerson
+NothingRedacted EntryMissing NoField TextRefused MatterFull StaffThere HeadRefused BodyRefused BodyLimit KeyMissing NoRoute
+JournalFull KeeperFault OutOfMemory""".split()
+
+
+def try_words(person):
+    plain = person.js("(async () => { const { inWords } = await import('./refusals.js'); return "
+                      f"{json.dumps(RULES)}.filter((name) => inWords({{ name, a: 1 }}).includes('The desk refused this')) }})()")
+    check(f"each of {len(RULES)} refusals has words of its own", plain == [], plain)
+
+
+def try_people(person, office, shots):
+    """The lead takes a person in, who comes with the key that was shown."""
+    person.enter(office.url, LEAD)
+    person.click("#show_people")
+    person.click("#person [name=name]")
+    person.type("Osei")
+    person.key("Enter")
+    person.until("document.getElementById('new_key').textContent !== ''")
+    told, key = person.text("handed"), person.text("new_key")
+    check("a person taken in", told.startswith("Osei is staff 4. ") and len(key) == 29, told + key)
+    person.shot(os.path.join(shots, "people.png"))
+    person.key("Escape")
+    person.until("!document.getElementById('people').open")
+    check("the key is gone with the dialog", person.text("new_key") == "")
+    person.enter(office.url, key)
+    check("and opens the desk", person.text("count") == "12 documents")
+    person.click("#leave")
+    person.until("document.getElementById('enter')?.checkVisibility() === true")
+    check("Leave forgets it", person.js("document.querySelectorAll('#tall .row').length") == 0)
+
+
+def try_keys_list(person, shots):
+    person.key("?")
+    person.until("document.getElementById('keys').open")
+    person.shot(os.path.join(shots, "keys.png"))
+    person.key("Escape")
+
+
+def try_large_letters(office, shots):
+    """The browser's zoom at 125 %: a window of as many points, whose letters are larger."""
+    person = Person(office.folder, size=(1200, 800), points=1.25)
+    try:
+        person.enter(office.url, ELLIS)
+        person.open(10)
+        person.turn(2, 4)
+        canvas_is("page 2 of document 10 at 125 %", person, 10, 2)
+        wide = person.js("['nav', 'aside', '#bar', 'body'].filter((it) => document.querySelector(it).scrollWidth > document.querySelector(it).clientWidth)")
+        check("nothing is cut off at 125 %", wide == [], wide)
+        person.shot(os.path.join(shots, "large-letters.png"))
+    finally:
+        person.close()
+
+
+def produce(office):
+    office.close_desk()
+    line = office.run("produce", "R-1", "VOL001", "ABC", "8", "1", "12", "AUTHOR")
+    check("the volume is produced", line.startswith("production R-1 labels ABC00000001 to ABC00000023 files 37 "), line)
+    told = subprocess.run([os.path.join(TOP, "examples", "check_volume.py"), "out"], cwd=office.folder, capture_output=True,
+                          text=True, check=False)
+    check("and is as examples/check_volume.py expects it", told.returncode == 0, told.stdout + told.stderr)
+
+
+def main():
+    scratch, shots = sys.argv[1:3]
+    office = Office(scratch, sys.argv[3] if len(sys.argv) > 3 else None)
+    ellis = marlow = None
+    try:
+        ellis = Person(scratch)
+        try_keys(ellis, office)
+        try_looking(ellis, office, shots)
+        try_mistakes(ellis, shots)
+        try_deciding(ellis)
+        try_boxes(ellis, shots)
+        try_fields(ellis)
+        try_note(ellis, shots)
+        try_unsent(ellis)
+        try_keys_list(ellis, shots)
+        try_words(ellis)
+        try_secrets(ellis, ELLIS, office)
+        marlow = Person(scratch)
+        try_second(marlow, office, shots)
+        try_large_letters(office, shots)
+        try_people(marlow, office, shots)
+        marlow.enter(office.url, MARLOW)
+        try_without_desk(marlow, office)
+        try_secrets(marlow, MARLOW, office)
+        if office.program:
+            produce(office)
+    finally:
+        for person in (ellis, marlow):
+            if person is not None:
+                person.close()
+        office.close()
+    print(f"a review by the page: {passed} as due, {failed} not")
+    sys.exit(failed > 0)
+
+
+main()

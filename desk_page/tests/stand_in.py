@@ -1,0 +1,353 @@
+#!/usr/bin/env python3
+"""A stand-in for a desk: the routes of docs/FORMATS.md (bp_web) over a batch, with the rules of review, one exchange after
+another, in memory. It is for the tests of the page where the program isn't built, and for matters of many documents.
+
+    stand_in.py PORT BATCH LEADKEY [COPIES]    serves the batch in the folder BATCH, so many times over; Ctrl-C ends it
+"""
+import csv
+import hashlib
+import json
+import os
+import re
+import socketserver
+import sys
+
+ROLES = {"Reviewer", "Second", "Lead", "Clerk", "Receiver"}
+REVIEWERS, CHECKERS = {"Reviewer", "Second", "Lead"}, {"Second", "Lead"}
+BASES = {"AC", "WP", "PI", "TS"}
+TREATMENTS = {"Produce", "Redact"} | {"Withhold-" + basis for basis in BASES}
+RULES = dict(KeyUnknown=9, NoDocument=10, NoPage=11, RoleRefused=12, BoxOutside=13, BoxShape=14, WrongTreatment=15,
+             BoxesRemain=16, BadBasis=17, NotCalled=18, SamePerson=19, NothingRedacted=20, EntryMissing=21, NoField=22,
+             TextRefused=23, NoProduction=33, StaffThere=36, HeadRefused=101, BodyRefused=102, BodyLimit=103, KeyMissing=104,
+             NoRoute=105)
+STATUS = dict(KeyUnknown=401, KeyMissing=401, RoleRefused=403, NoDocument=404, NoPage=404, NoRoute=404, NoProduction=404,
+              HeadRefused=400, BodyRefused=400, BodyLimit=413)
+COLUMNS_APART = {"BEGDOC", "ENDDOC", "BEGATTACH", "ENDATTACH"}
+
+
+class Refused(Exception):
+    def __init__(self, name, a=0):
+        super().__init__(name)
+        self.name, self.a = name, a
+
+
+# ---- the batch
+
+
+def read_dat(path):
+    with open(path, encoding="utf-8-sig") as file:
+        lines = [line.rstrip("\r\n") for line in file if line.strip()]
+    rows = [[value.strip("þ").replace("®", "\n") for value in line.split("\x14")] for line in lines]
+    return rows[0], rows[1:]
+
+
+class Doc:
+    def __init__(self, number, parent):
+        self.number, self.parent = number, parent
+        self.files, self.words = [], []
+        self.call = self.entry = None
+        self.editor = self.confirmer = 0
+        self.boxes, self.held = {}, {}
+
+    def edited(self, caller):
+        if self.call:
+            self.editor, self.confirmer = caller, 0
+
+    def view(self):
+        responsive, treatment, designation = self.call or (False, "Produce", "")
+        return dict(
+            boxes=[dict(box, num=num) for num, box in sorted(self.boxes.items())], confirmer=self.confirmer,
+            designation=designation, doc=self.number, editor=self.editor, entry=self.entry,
+            held=[dict(basis=basis, field=field) for field, basis in sorted(self.held.items())], pages=len(self.files),
+            parent=self.parent, responsive=responsive, treatment=treatment)
+
+
+class Matter:
+    def __init__(self, lead, folder, copies):
+        self.staff = [("lead", "Lead", digest_of(lead))]
+        columns, records = read_dat(os.path.join(folder, "load.dat"))
+        self.fields = [column for column in columns if column not in COLUMNS_APART]
+        words = read_words(os.path.join(folder, "words.csv"))
+        with open(os.path.join(folder, "load.opt"), encoding="utf-8-sig") as file:
+            lines = [line.rstrip("\r\n").split(",") for line in file if line.strip()]
+        self.docs = []
+        for _ in range(copies):
+            self.add(columns, records, lines, words, folder)
+
+    def add(self, columns, records, lines, words, folder):
+        begins, attach = columns.index("BEGDOC"), columns.index("BEGATTACH")
+        records, first = iter(records), {}
+        for image, _, path, is_break, *_ in lines:
+            if is_break == "Y":
+                record = next(records)
+                number = len(self.docs) + 1
+                first[record[begins]] = number
+                self.docs.append(Doc(number, first[record[attach] or record[begins]]))
+            self.docs[-1].files.append(os.path.join(folder, path.replace("\\", "/")))
+            self.docs[-1].words.append(words.get(image, []))
+
+    def doc(self, number):
+        if not 1 <= number <= len(self.docs):
+            raise Refused("NoDocument", number)
+        return self.docs[number - 1]
+
+    def who(self, key):
+        for number, (_, role, digest) in enumerate(self.staff, 1):
+            if digest == digest_of(key):
+                return number, role
+        raise Refused("KeyUnknown")
+
+
+def digest_of(key):
+    return hashlib.sha256(key.encode("latin-1")).hexdigest()
+
+
+def read_words(path):
+    words = {}
+    with open(path, encoding="utf-8-sig", newline="") as file:
+        for image, line, left, top, width, height, text in csv.reader(file):
+            words.setdefault(image, []).append(dict(
+                height=int(height), left=int(left), line=int(line), text=text, top=int(top), width=int(width)))
+    return words
+
+
+def sides_of(path):
+    """Width and height of a page file."""
+    with open(path, "rb") as file:
+        data = file.read()
+    order = "little" if data[:2] == b"II" else "big"
+    number = lambda at, size: int.from_bytes(data[at : at + size], order)
+    at = number(4, 4)
+    entries = [at + 2 + 12 * k for k in range(number(at, 2))]
+    value = {number(entry, 2): number(entry + 8, 2 if number(entry + 2, 2) == 3 else 4) for entry in entries}
+    return value[256], value[257]
+
+
+# ---- calls
+
+
+def text(value, limit=200):
+    if len(value.encode()) > limit or re.search("[\x00-\x1f\x7fþ]", value):
+        raise Refused("TextRefused")
+    return value
+
+
+def page_of(doc, number):
+    if not 1 <= number <= len(doc.files):
+        raise Refused("NoPage", number)
+    return number - 1
+
+
+def add_staff(matter, _caller, _numbers, body):
+    person = (text(body["name"]), body["role"], body["digest"])
+    for number, known in enumerate(matter.staff, 1):
+        if known[2] == person[2]:
+            if known != person:
+                raise Refused("StaffThere", number)
+            return dict(staff=number)
+    matter.staff.append(person)
+    return dict(staff=len(matter.staff))
+
+
+def see_doc(matter, _caller, numbers, _body):
+    return matter.doc(numbers[0]).view()
+
+
+def see_page(matter, _caller, numbers, _body):
+    doc = matter.doc(numbers[0])
+    with open(doc.files[page_of(doc, numbers[1])], "rb") as file:
+        return file.read()
+
+
+def see_words(matter, _caller, numbers, _body):
+    doc = matter.doc(numbers[0])
+    return doc.words[page_of(doc, numbers[1])]
+
+
+def set_call(matter, caller, numbers, body):
+    doc, treatment = matter.doc(numbers[0]), body["treatment"]
+    if len(body["designation"]) > 40 or re.search("[^A-Z0-9_. -]", body["designation"]):
+        raise Refused("TextRefused")
+    if treatment in ("Withhold-PI", "Withhold-TS"):
+        raise Refused("BadBasis")
+    if treatment != "Redact" and (doc.boxes or doc.held):
+        raise Refused("BoxesRemain")
+    doc.call = (body["responsive"], treatment, body["designation"])
+    doc.edited(caller)
+
+
+def put_box(matter, caller, numbers, body):
+    doc = matter.doc(numbers[0])
+    page = page_of(doc, body["page"])
+    if not 1 <= body["num"] <= 1000 or 0 in (body["width"], body["height"]):
+        raise Refused("BoxShape")
+    width, height = sides_of(doc.files[page])
+    if body["left"] + body["width"] > width or body["top"] + body["height"] > height:
+        raise Refused("BoxOutside")
+    called_redact(doc)
+    doc.boxes[body["num"]] = {name: body[name] for name in ("basis", "height", "left", "page", "top", "width")}
+    doc.edited(caller)
+
+
+def called_redact(doc):
+    if not doc.call or doc.call[1] != "Redact":
+        raise Refused("WrongTreatment")
+
+
+def drop_box(matter, caller, numbers, body):
+    doc = matter.doc(numbers[0])
+    if doc.boxes.pop(body["num"], None):
+        doc.edited(caller)
+
+
+def field_of(matter, name):
+    if name not in matter.fields:
+        raise Refused("NoField")
+    return matter.fields.index(name) + 1
+
+
+def hold_field(matter, caller, numbers, body):
+    doc, field = matter.doc(numbers[0]), field_of(matter, body["field"])
+    called_redact(doc)
+    doc.held[field] = body["basis"]
+    doc.edited(caller)
+
+
+def free_field(matter, caller, numbers, body):
+    doc, field = matter.doc(numbers[0]), field_of(matter, body["field"])
+    if doc.held.pop(field, None):
+        doc.edited(caller)
+
+
+def put_entry(matter, caller, numbers, body):
+    doc = matter.doc(numbers[0])
+    limits = dict(author=200, date=200, description=1000, recipients=200)
+    doc.entry = {name: text(body[name], limit) for name, limit in limits.items()}
+    doc.edited(caller)
+
+
+def confirm(matter, caller, numbers, _body):
+    doc = matter.doc(numbers[0])
+    if not doc.call:
+        raise Refused("NotCalled")
+    if doc.editor == caller:
+        raise Refused("SamePerson")
+    marks = [box["basis"] for box in doc.boxes.values()] + list(doc.held.values())
+    if doc.call[1] == "Redact" and not marks:
+        raise Refused("NothingRedacted")
+    if not doc.entry and (doc.call[1].startswith("Withhold") or {"AC", "WP"} & set(marks)):
+        raise Refused("EntryMissing")
+    doc.confirmer = doc.confirmer or caller
+
+
+def send_back(matter, _caller, numbers, _body):
+    doc = matter.doc(numbers[0])
+    doc.call, doc.editor, doc.confirmer = None, 0, 0
+
+
+DOC = r"/docs/([1-9]\d{0,8})"
+INSIDERS = ROLES - {"Receiver"}
+# method, target, who may, what it does, members
+ROUTES = [
+    ("POST", "/staff", {"Lead"}, add_staff, dict(name=str, role=ROLES, digest=str)),
+    ("GET", DOC, INSIDERS, see_doc, {}),
+    ("GET", DOC + r"/pages/([1-9]\d{0,8})", INSIDERS, see_page, {}),
+    ("GET", DOC + r"/pages/([1-9]\d{0,8})/words", INSIDERS, see_words, {}),
+    ("POST", DOC + "/call", REVIEWERS, set_call, dict(responsive=bool, treatment=TREATMENTS, designation=str)),
+    ("POST", DOC + "/box", REVIEWERS, put_box,
+     dict(num=int, page=int, left=int, top=int, width=int, height=int, basis=BASES)),
+    ("POST", DOC + "/unbox", REVIEWERS, drop_box, dict(num=int)),
+    ("POST", DOC + "/hold", REVIEWERS, hold_field, dict(field=str, basis=BASES)),
+    ("POST", DOC + "/free", REVIEWERS, free_field, dict(field=str)),
+    ("POST", DOC + "/entry", REVIEWERS, put_entry, dict(date=str, author=str, recipients=str, description=str)),
+    ("POST", DOC + "/confirm", CHECKERS, confirm, {}),
+    ("POST", DOC + "/back", CHECKERS, send_back, {}),
+]
+
+
+def fits(value, kind):
+    if isinstance(kind, set):
+        return value in kind
+    return type(value) is kind and (kind is not int or 0 <= value < 1 << 32)
+
+
+def answer(matter, method, target, fields, body):
+    """What a request is answered: an object, the bytes of a page, or None where it is done."""
+    for way, pattern, roles, work, members in ROUTES:
+        found = re.fullmatch(pattern, target)
+        if way == method and found:
+            break
+    else:
+        raise Refused("NoRoute")
+    keys = [value for name, value in fields if name == "desk-key"]
+    if len(keys) != 1:
+        raise Refused("KeyMissing")
+    try:
+        value = json.loads(body) if way == "POST" else {}
+    except ValueError:
+        raise Refused("BodyRefused") from None
+    if not isinstance(value, dict) or not all(fits(value.get(name), kind) for name, kind in members.items()):
+        raise Refused("BodyRefused")
+    caller, role = matter.who(keys[0])
+    if role not in roles:
+        raise Refused("RoleRefused")
+    return work(matter, caller, [int(number) for number in found.groups()], value)
+
+
+# ---- exchanges, one after another
+
+
+class Exchange(socketserver.StreamRequestHandler):
+    timeout = 10
+    count = 0
+
+    def handle(self):
+        Exchange.count += 1
+        lines = []
+        while (line := self.rfile.readline(16384).decode("latin-1").rstrip("\r\n")) or not lines:
+            if not line:
+                return
+            lines.append(line)
+        method, target, _ = lines[0].split(" ")
+        fields = [(name.lower(), value.strip()) for name, _, value in (line.partition(":") for line in lines[1:])]
+        try:
+            if len(fields) > 32:
+                raise Refused("HeadRefused")
+            status, kind, body = 200, "application/json", answer(matter, method, target, fields, self.body(method, fields))
+        except Refused as why:
+            status, kind = STATUS.get(why.name, 409), "application/json"
+            body = dict(a=why.a, b=0, line=0, name=why.name, rule=RULES[why.name])
+        if isinstance(body, bytes):
+            kind = "image/tiff"
+        else:
+            body = json.dumps({"done": True} if body is None else body, separators=(",", ":"), sort_keys=True).encode()
+        head = f"HTTP/1.1 {status} X\r\nContent-Type: {kind}\r\nContent-Length: {len(body)}\r\nConnection: close\r\n\r\n"
+        self.wfile.write(head.encode() + body)
+
+    def body(self, method, fields):
+        if method != "POST":
+            return b""
+        lengths = [value for name, value in fields if name == "content-length"]
+        if len(lengths) != 1 or any(name == "transfer-encoding" for name, _ in fields):
+            raise Refused("BodyRefused")
+        if int(lengths[0]) > 1048576:
+            raise Refused("BodyLimit")
+        return self.rfile.read(int(lengths[0]))
+
+
+class Door(socketserver.TCPServer):
+    allow_reuse_address = True
+    request_queue_size = 128
+
+    def handle_error(self, request, client_address):
+        pass  # a peer that was cut off
+
+
+if __name__ == "__main__":
+    if len(sys.argv) not in (4, 5):
+        sys.exit("usage: stand_in.py PORT BATCH LEADKEY [COPIES]")
+    matter = Matter(sys.argv[3], sys.argv[2], int(sys.argv[4]) if len(sys.argv) == 5 else 1)
+    try:
+        Door(("127.0.0.1", int(sys.argv[1])), Exchange).serve_forever()
+    except KeyboardInterrupt:
+        print(f"served {Exchange.count}")

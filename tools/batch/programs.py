@@ -12,6 +12,7 @@ PACKAGES = {
     "tiffinfo": "libtiff-tools",
     "tiffsplit": "libtiff-tools",
     "tifftopnm": "netpbm",
+    "pamflip": "netpbm",
     "ppmtopgm": "netpbm",
     "pgmtopbm": "netpbm",
     "pamtotiff": "netpbm",

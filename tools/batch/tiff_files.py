@@ -6,13 +6,25 @@ from .pictures import Picture, Resolution, bilevel, check_size, sides_of
 from .programs import first_line, run
 from .refused import Refused
 
-TOOLS = ("tiffinfo", "tiffsplit", "tifftopnm", "ppmtopgm", "pgmtopbm")
+TOOLS = ("tiffinfo", "tiffsplit", "tifftopnm", "pamflip")
 DIRECTORY = re.compile(r"^TIFF Directory at offset .*$", re.MULTILINE)
 SIDES = re.compile(r"Image Width: (\d+) Image Length: (\d+)")
 RESOLUTION = re.compile(r"Resolution: ([0-9.]+), ([0-9.]+)(?: (pixels/inch|pixels/cm))?")
 UNITS = {"pixels/inch": "inch", "pixels/cm": "centimeter", None: "none"}
+# by how tiffinfo tells Orientation: how the page is turned upright. tifftopnm's own turning by a quarter mirrors pages.
+ORIENTATION = re.compile(r"Orientation: row 0 (\w+), col 0 (\w+)")
+TURNS = {
+    ("top", "lhs"): None,
+    ("top", "rhs"): "leftright",
+    ("bottom", "rhs"): "leftright,topbottom",
+    ("bottom", "lhs"): "topbottom",
+    ("lhs", "top"): "transpose",
+    ("rhs", "top"): "transpose,leftright",
+    ("rhs", "bottom"): "transpose,topbottom,leftright",
+    ("lhs", "bottom"): "transpose,topbottom",
+}
 # what libtiff says of tags that it doesn't know or finds in another order; the pixels are whole
-HARMLESS = re.compile(rb"Warning, .*(Unknown field|tags are not sorted|wrong data type|incorrect count|ASCII value)")
+HARMLESS = re.compile(rb"Warning, .*(Unknown field|tags are not sorted|wrong data type|incorrect count|ASCII value|legacy Deflate)")
 
 
 class TiffFile:
@@ -54,13 +66,18 @@ class TiffFile:
             yield f"{small} small pictures of pages lie in it, and stay out"
 
     def picture(self, page):
-        """The page's pixels, turned as its Orientation says."""
-        original = self.run(["tifftopnm", "-quiet", self.file_of(page)])
-        width, height = self.sizes[page - 1]
-        if sides_of(original) not in ((width, height), (height, width)):
-            raise Refused(self.source.name, f"page {page}: tifftopnm finds other sides than tiffinfo")
-        turned = sides_of(original) != (width, height)
-        return Picture(bilevel(self.source.name, original, self.options.threshold), original, self.resolution(page, turned))
+        """The page's pixels, turned upright as its Orientation says."""
+        name, turn = self.source.name, self.turn(page)
+        original = self.run(["tifftopnm", "-quiet", "-orientraw", self.file_of(page)])
+        if sides_of(original) != self.sizes[page - 1]:
+            raise Refused(name, f"page {page}: tifftopnm finds other sides than tiffinfo")
+        upright = run(name, ["pamflip", f"-xform={turn}"], original)[0] if turn else original
+        is_aside = turn is not None and turn.startswith("transpose")
+        return Picture(bilevel(name, upright, self.options.threshold), upright, self.resolution(page, is_aside))
+
+    def turn(self, page):
+        found = ORIENTATION.search(self.directories[self.places[page - 1]])
+        return TURNS[found.groups()] if found else None
 
     def picture_to_read(self, _page, picture):
         """The page as it was scanned."""
@@ -77,11 +94,11 @@ class TiffFile:
     def file_of(self, page):
         return os.path.join(self.room, self.split[self.places[page - 1]])
 
-    def resolution(self, page, turned):
+    def resolution(self, page, is_aside):
         found = RESOLUTION.search(self.directories[self.places[page - 1]])
         if not found or not float(found[1]) or not float(found[2]):
             return None
-        across, down = (found[2], found[1]) if turned else (found[1], found[2])
+        across, down = (found[2], found[1]) if is_aside else (found[1], found[2])
         return Resolution(across, down, UNITS[found[3]])
 
 

@@ -31,6 +31,7 @@ NEEDED = {
     "tesseract": "tesseract-ocr",
 }
 JOBS = os.environ.get("JOBS", str(os.cpu_count() or 1))
+os.environ["OMP_THREAD_LIMIT"] = "1"  # several threads of tesseract wait for each other where processors are taken
 TEXT = "The roof of building four leaks since the winter, and the landlord was told of it by registered letter."
 
 
@@ -306,14 +307,37 @@ class Scans(Case):
             batch = self.make("--ocr", "none", name=name)
             self.assertEqual(re.search("Resolution: .*", batch.told(0)) and re.search("Resolution: .*", batch.told(0))[0].strip(), due)
 
+    def turned(self, pnm):
+        """A batch of that picture with each Orientation."""
+        self.write("-lzw", "-xresolution=300", "-yresolution=200", pnm=pnm)
+        for orientation in range(1, 9):
+            sh(["tiffset", "-s", "274", str(orientation), shutil.copy(self.scan, self.path(f"{orientation}.tif"))])
+        return self.make("--ocr", "none", "--threshold", "50", name=f"{pnm[:2].decode()}_OUT")
+
+    def check_turned(self, batch, turn):
+        """The page is upright: `turn` gives its pixels by another program."""
+        for at in range(8):
+            self.assertEqual(batch.pixels(at), turn(at + 1), at + 1)
+            self.assertIn("Resolution: 300, 200" if at < 4 else "Resolution: 200, 300", batch.told(at))
+
     def test_turned_pages(self):
-        """The pixels come as a reader shows them, by netpbm's own turning."""
-        turns = {"3": ["-r180"], "6": ["-r270"], "8": ["-r90"], "2": ["-lr"]}
-        for orientation in turns:
-            sh(["tiffset", "-s", "274", orientation, shutil.copy(self.scan, self.path(f"{orientation}.tif"))])
-        batch = self.make("--ocr", "none")
-        for at, orientation in enumerate(sorted(turns)):
-            self.assertEqual(batch.pixels(at), sh(["pamflip", *turns[orientation]], input=self.small), orientation)
+        grey = sh(["pgmramp", "-lr", "150", "100"])
+        for pnm in (self.small, grey, sh(["pgmtoppm", "white"], input=grey)):
+            batch = self.turned(pnm)
+            upright = batch.pixels(0)
+            turns = [["-null"], ["-lr"], ["-r180"], ["-tb"], ["-xy"], ["-r270"], ["-xform=transpose,topbottom,leftright"], ["-r90"]]
+            self.check_turned(batch, lambda at: sh(["pamflip", *turns[at - 1]], input=upright))
+
+    @has("convert")
+    def test_turned_pages_by_imagemagick(self):
+        batch = self.turned(self.small)
+
+        def turn(orientation):
+            turned = os.path.join(self.room, "turned.tif")
+            sh(["convert", self.path(f"{orientation}.tif"), "-auto-orient", "+repage", "-compress", "none", turned])
+            return sh(["tifftopnm", "-quiet", turned])
+
+        self.check_turned(batch, turn)
 
     def test_grey_and_colour(self):
         grey = sh(["pgmramp", "-lr", "200", "100"])

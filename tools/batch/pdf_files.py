@@ -9,6 +9,9 @@ from .refused import Refused
 from .words import Word, plain
 
 POINTS = 72  # to the inch
+# A picture that fills its page would be stretched by one pixel each way at the full resolution: by so much less it keeps
+# its pixels, where it was scanned at that resolution.
+LESS = 0.001
 SIZE = re.compile(r"^Page +(\d+) size: +(\S+) x (\S+) pts", re.MULTILINE)
 LINE = re.compile(r"<line |<word xMin=\"(\S+)\" yMin=\"(\S+)\" xMax=\"(\S+)\" yMax=\"(\S+)\">(.*)</word>")
 TOOLS = ("pdfinfo", "pdftoppm", "pdftotext", "pdfdetach")
@@ -33,7 +36,7 @@ class PdfFile:
     def look(self):
         """The sides of each page in pixels."""
         told = self.run(["pdfinfo", "-f", "1", "-l", "999999", self.source.path]).decode(errors="replace")
-        inch = self.options.dpi
+        inch = self.options.dpi - LESS
         sizes = [tuple(math.ceil(float(side) * inch / POINTS) for side in sides) for _, *sides in SIZE.findall(told)]
         if not sizes:
             raise Refused(self.source.name, "the PDF has no page")
@@ -61,8 +64,8 @@ class PdfFile:
 
     def rendered(self, page, form):
         number = str(page)
-        words = ["pdftoppm", "-cropbox", form, "-r", str(self.options.dpi), "-f", number, "-l", number, self.source.path]
-        return self.run(words)
+        inch = str(self.options.dpi - LESS)
+        return self.run(["pdftoppm", "-cropbox", form, "-r", inch, "-f", number, "-l", number, self.source.path])
 
     def prepare(self):
         """Finds the words of all pages, in the order and the lines in which pdftotext finds them."""

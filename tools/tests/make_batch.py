@@ -206,7 +206,7 @@ class OtherPrograms(Case):
     def roff(self):
         return f".pl 11i\n.po 1i\n.ll 6i\n.ps 14\n.vs 20\n.sp 1i\n{TEXT}\n.sp\n{TEXT}\n"
 
-    @has("groff")
+    @has("groff", "gropdf")
     def test_gropdf(self):
         self.put("a.pdf", sh(["groff", "-Tpdf", "-P-pletter"], input=self.roff().encode()))
         self.check()
@@ -252,11 +252,12 @@ class OtherPrograms(Case):
         self.put("a.pdf", sh(["img2pdf", LETTER]))
         batch = self.make("--dpi", "300")
         self.assertIn("Director of Procurement", batch.text(0))
-        self.assertEqual(batch.pixels(0), sh(["tifftopnm", "-quiet", LETTER]))
+        self.assertEqual(batch.pixels(0), sh(["tifftopnm", "-quiet", LETTER]), "the scan's own pixels")
 
-    @has("convert")
-    def test_imagemagick_of_a_grey_scan(self):
-        sh(["convert", LETTER, "-resize", "50%", "-colorspace", "Gray", "-density", "150", self.path("a.pdf")])
+    @has("convert", "img2pdf")
+    def test_imagemagick_and_img2pdf_of_a_grey_scan(self):
+        self.put("../grey.png", sh(["convert", LETTER, "-resize", "50%", "-colorspace", "Gray", "-density", "150", "png:-"]))
+        self.put("a.pdf", sh(["img2pdf", os.path.join(self.room, "grey.png")]))
         batch = self.make("--dpi", "150", "--threshold", "60")
         self.assertIn("Quayside Road", batch.text(0))
 

@@ -107,9 +107,9 @@ def program_page(name, script):
     lines += [".SH SYNOPSIS", f".B {plain(name)}", call]
     lists = [part for part in rest[1:] if re.match(r"(positional arguments|options):", part)]
     lines += [".SH DESCRIPTION"]
-    for part in rest[1:]:
-        if part not in lists:
-            lines += [".PP", paragraph(part)]
+    for at, part in enumerate(part for part in rest[1:] if part not in lists):
+        lines += [".PP"] if at else []
+        lines.append(paragraph(part))
     lines += [".SH OPTIONS"]
     for part in lists:
         for option in re.findall(r"^  (\S.*(?:\n {4,}.*)*)", part, re.MULTILINE):

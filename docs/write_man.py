@@ -33,7 +33,7 @@ def paragraph(text):
 def head(name, what):
     version = re.search(r"^version=(\S+)$", text_of("tivrenan"), re.MULTILINE)[1]
     title = name.upper().replace("-", "\\-")
-    return [f'.TH {title} 1 {DATE} "tivrenan {version}" "User commands"', ".SH NAME", f"{plain(name)} \\- {plain(what)}"]
+    return [f'.TH {title} 1 {DATE} "tivrenan {version}" "User commands"', ".ad l", ".nh", ".SH NAME", f"{plain(name)} \\- {plain(what)}"]
 
 
 def text_of(path):

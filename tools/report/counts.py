@@ -4,6 +4,7 @@ from collections import Counter
 from .rows import TREATMENTS
 
 REDACT = 1
+GROUNDS = {"AC": "attorney-client", "WP": "work product", "PI": "personal information", "TS": "trade secret"}
 
 
 def is_settled(call):
@@ -57,7 +58,7 @@ def grounds(matter):
     boxes = Counter(basis for _, basis in matter.boxes)
     held = Counter(basis for _, basis in matter.held)
     whole = Counter(TREATMENTS[call.treatment][-2:] for call in matter.calls.values() if call.state and call.responsive and call.treatment > REDACT)
-    return [(basis, whole[basis], boxes[basis], held[basis]) for basis in ("AC", "WP", "PI", "TS")]
+    return [(f"{basis}, {word}", whole[basis], boxes[basis], held[basis]) for basis, word in GROUNDS.items()]
 
 
 def batches(matter):

@@ -27,12 +27,16 @@ def head(matter, file, when):
     documents = len(matter.documents)
     pages = sum(pages for pages, _ in matter.documents.values())
     made, withheld = counts.produced(matter)
-    lines = [
-        f"{documents} documents on {pages} pages came in, in {len(matter.batches)} batches.",
-        f"{made} documents are produced ({share(made, documents)}), {withheld} of them withheld, in {len(matter.productions)} productions.",
-    ]
+    came = f"{some(documents, 'document')} on {some(pages, 'page')} came in, in {some(len(matter.batches), 'batch')}."
+    went = f"{some(made, 'document')} produced ({share(made, documents)}), {withheld} of them withheld"
+    lines = [came, f"{went}, in {some(len(matter.productions), 'production')}."]
     said = "".join(f"<p>{line}</p>" for line in lines)
     return f'<h1>How far the matter is</h1>\n<p class="note">{escape(file)}, as it stood {escape(when)}</p>\n{said}'
+
+
+def some(count, word):
+    """The count with its word."""
+    return f"{count} {word}" if count == 1 else f"{count} {word}{'es' if word.endswith('ch') else 's'}"
 
 
 def states(matter):
@@ -47,7 +51,7 @@ def states(matter):
         numbers = counts.open_documents(matter, word)
         if numbers:
             more = f", and {len(numbers) - MOST_NUMBERS} more" if len(numbers) > MOST_NUMBERS else ""
-            told.append(f"<p>Documents: {word}: {', '.join(map(str, numbers[:MOST_NUMBERS]))}{more}.</p>")
+            told.append(f"<p>{word.capitalize()}: {', '.join(map(str, numbers[:MOST_NUMBERS]))}{more}.</p>")
     return "\n".join(told)
 
 
@@ -63,7 +67,7 @@ def people(matter):
 
 
 def grounds(matter):
-    logged = f"<p>{len(matter.entries)} documents have an entry for the privilege log.</p>"
+    logged = f"<p>Entries for the privilege log: {len(matter.entries)}.</p>"
     rows = table(["Ground", "Documents withheld whole", "Boxes", "Held fields"], counts.grounds(matter))
     return f"<h2>On which grounds</h2>\n{rows}\n{logged}"
 

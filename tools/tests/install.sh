@@ -139,7 +139,7 @@ status_of "$room/usr/bin/tivrenan-make-batch" "$room/none" "$room/B"
 check 'make_batch runs' holds 'none: there is no such folder' "$room/said"
 check 'the page of the manual is there' test -s "$room/usr/share/man/man1/tivrenan.1.gz"
 if command -v man > /dev/null; then
-    check 'man reads it' sh -c "man -l '$room/usr/share/man/man1/tivrenan.1.gz' 2>&1 | grep -q 'blackens in the page file'"
+    check 'man reads it' sh -c "man -l '$room/usr/share/man/man1/tivrenan.1.gz' 2>&1 | tr -s ' ' | grep -q 'blackens in the page file'"
 else
     echo 'install.sh: man is not here, and does not read the page of the manual'
 fi

@@ -165,22 +165,22 @@ class Reports(Case):
         self.assertIn(["2", "Ellis", "Reviewer", "4", "0", "2", "0"], parts.rows)
         self.assertIn(["3", "Marlow", "Second", "1", "1", "0", "1"], parts.rows)
         self.assertIn(["1", "Ng <lead>", "Lead", "0", "0", "0", "1"], parts.rows)
-        self.assertIn(["AC", "1", "1", "0"], parts.rows)
-        self.assertIn(["WP", "1", "0", "0"], parts.rows)
-        self.assertIn(["PI", "0", "1", "1"], parts.rows)
+        self.assertIn(["AC, attorney-client", "1", "1", "0"], parts.rows)
+        self.assertIn(["WP, work product", "1", "0", "0"], parts.rows)
+        self.assertIn(["PI, personal information", "0", "1", "1"], parts.rows)
         self.assertIn(["CVI_001", "6", "9", "4", "67%"], parts.rows)
         self.assertIn(["R-1", "VOL001", "ABC00000001", "ABC00000004", "3", "1", "4"], parts.rows)
         for told in ("confirmed: 2 (33%)", "called, and settled: 2 (33%)", "waits for a second person: 1 (17%)", "not called: 1 (17%)",
                      "Produce: 1 (20%)", "Redact: 1 (20%)", "Withhold AC: 1 (20%)", "Withhold WP: 1 (20%)", "Not responsive: 1 (20%)"):
             self.assertIn(told, parts.texts)
-        self.assertIn("3 documents are produced (50%), 1 of them withheld, in 1 productions.", self.page)
-        self.assertIn("waits for a second person: 4.", self.page)
-        self.assertIn("not called: 6.", self.page)
+        self.assertIn("3 documents produced (50%), 1 of them withheld, in 1 production.", self.page)
+        self.assertIn("Waits for a second person: 4.", self.page)
+        self.assertIn("Not called: 6.", self.page)
 
     def test_says_nothing_of_documents(self):
         self.make(ROWS).close()
         self.report()
-        for told in ("value", "C, ", "2024-01-01", "pixels", "words"):
+        for told in ("value", "&lt;d&gt;", "2024-01-01", "pixels", "words"):
             self.assertNotIn(told, re.sub("<style>.*?</style>|no word", "", self.page, flags=re.DOTALL))
 
     def test_a_matter_that_begins(self):
@@ -286,8 +286,8 @@ class OfTheProgram(Case):
     def test_the_office(self):
         shutil.copy(OFFICE, self.matter)
         self.report()
-        self.assertIn("12 documents on 31 pages came in, in 1 batches.", self.page)
-        self.assertIn("10 documents are produced (83%), 1 of them withheld, in 1 productions.", self.page)
+        self.assertIn("12 documents on 31 pages came in, in 1 batch.", self.page)
+        self.assertIn("10 documents produced (83%), 1 of them withheld, in 1 production.", self.page)
         self.assertIn(["2", "Ellis", "Reviewer", "12", "2", "1", "0"], Parts(self.page).rows)
         self.assertIn(["3", "Marlow", "Second", "0", "0", "0", "3"], Parts(self.page).rows)
 

@@ -3,12 +3,14 @@ import csv
 import os
 import re
 
+from .pictures import sides_of
 from .programs import run
 from .refused import Refused
 from .words import Word, plain
 
 TOOLS = ("tesseract",)
 SMALLEST_INCH, LARGEST_INCH = 70, 2400  # what tesseract takes for a resolution
+SMALLEST_SIDE = 8  # pixels; it fails on less, where no word can stand
 
 
 def check_language(language):
@@ -23,6 +25,8 @@ def check_language(language):
 
 def read_words(file, pnm, resolution, language):
     """The words of a picture; each page is read by one thread, as other pages are read beside it."""
+    if min(sides_of(pnm)) < SMALLEST_SIDE:
+        return []
     os.environ["OMP_THREAD_LIMIT"] = "1"
     words = ["tesseract", "stdin", "stdout", "-l", language]
     inch = resolution and resolution.to_the_inch()

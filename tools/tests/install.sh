@@ -205,7 +205,8 @@ check 'a damaged archive is refused' is "$status$(tail -n 1 "$room/said")" '1ins
 check 'and nothing installed' test ! -e "$room/usr3"
 PATH=${PATH#*:}
 
-if [ -x "$top/crates/bp_main/out/bp_main" ] && [ -r "$top/crates/bp_main/out/bp_main.built_from" ]; then
+# without rt the launcher builds nothing, and says whether the program stands as its sources are
+if env -i PATH=/usr/bin:/bin "$top/tivrenan" build > /dev/null 2>&1; then
     echo 'with the program'
     status_of "$top/tools/dist.sh"
     check 'it packs the program' is "$status" 0

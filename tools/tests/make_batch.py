@@ -254,6 +254,14 @@ class OtherPrograms(Case):
         self.assertIn("Director of Procurement", batch.text(0))
         self.assertEqual(batch.pixels(0), sh(["tifftopnm", "-quiet", LETTER]), "the scan's own pixels")
 
+    def test_a_scan_with_a_text(self):
+        """Tesseract's own PDFs, whose text isn't drawn."""
+        sh(["tesseract", LETTER, os.path.join(self.folder, "a"), "pdf"])
+        batch = self.make()
+        self.assertIn("Director of Procurement", batch.text(0))
+        self.assertEqual(self.said, "")
+        self.assertEqual(batch.pixels(0), sh(["tifftopnm", "-quiet", LETTER]), "the scan's own pixels")
+
     @has("convert", "img2pdf")
     def test_imagemagick_and_img2pdf_of_a_grey_scan(self):
         self.put("../grey.png", sh(["convert", LETTER, "-resize", "50%", "-colorspace", "Gray", "-density", "150", "png:-"]))
@@ -352,6 +360,13 @@ class Scans(Case):
         self.assertAlmostEqual(sum(bin(byte).count("1") for byte in black) / 20_000, 0.5, delta=0.1)
         sharp = self.make("--ocr", "none", "--threshold", "50", name="SHARP")
         self.assertEqual(sharp.pixels(1)[len(b"P4\n200 100\n") :][:25], b"\xff" * 12 + sharp.pixels(1)[len(b"P4\n200 100\n") :][12:13] + b"\0" * 12)
+
+    def test_a_page_of_a_pixel(self):
+        self.write("-g4", pnm=sh(["pbmmake", "-black", "1", "1"]))
+        shutil.copy(self.scan, self.path("a.tif"))
+        batch = self.make()
+        self.assertEqual(batch.words, [])
+        self.assertIn("a.tif: page 1: no word could be read on it", self.said)
 
     def test_words_are_read(self):
         self.write("-g4", "-xresolution=300", "-yresolution=300", pnm=self.pbm)

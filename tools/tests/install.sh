@@ -146,7 +146,12 @@ fi
 check 'nothing was written where it runs' is "$(ls -A)" ''
 rm "$room/usr/lib/tivrenan/bp_main"
 status_of "$room/usr/bin/tivrenan" init x
-check 'without its program and sources it ends with 69' is "$status" 69
+check 'without its program it ends with 69' is "$status" 69
+check 'and says which' holds '/lib/tivrenan/bp_main can.t be run' "$room/said"
+mkdir "$room/alone"
+cp "$top/tivrenan" "$room/alone/"
+status_of "$room/alone/tivrenan" init x
+check 'without program and sources it ends with 69' is "$status" 69
 
 echo 'completion'
 mkdir -p VOL_1

@@ -9,7 +9,7 @@ use crate::history::DOOR_SEAT;
 use crate::replies::{answer_bytes, no_memory, text_of};
 use bp_keep::Keeper;
 use bp_outside::{Door, Enough, InputStop, read_input, send};
-use bp_web::{MAX_REQUEST, enough};
+use bp_web::{MAX_REQUEST, RouteTable, enough};
 use std::alloc::Global;
 
 // A request is read until it is whole, or none can come.
@@ -34,7 +34,12 @@ impl Enough for WholeRequest {
 }
 
 // Reads a request and sends its answer.
-pub(crate) fn converse<K: Keeper, D: Door>(alloc: Global, book: &mut Book<K>, door: &mut D)
+pub(crate) fn converse<K: Keeper, D: Door>(
+    alloc: Global,
+    routes: Option<&RouteTable>,
+    book: &mut Book<K>,
+    door: &mut D,
+)
     requires { (D.shows door.old).under_way ≡ true }
     ensures talks { Talks DOOR_SEAT (history_of book.old) (D.shows door.old)
         (history_of book.new) (D.shows door.new) }
@@ -42,7 +47,7 @@ pub(crate) fn converse<K: Keeper, D: Door>(alloc: Global, book: &mut Book<K>, do
 {
     match read_input(alloc, door, &WholeRequest) {
         Ok(bytes) => {
-            let text = answer_bytes(alloc, book, bytes.as_slice());
+            let text = answer_bytes(alloc, routes, book, bytes.as_slice());
             let _ = send(alloc, door, text_of(&text));
         }
         Err(InputStop::LackedMemory) => {

@@ -2,7 +2,7 @@
 ghost use Rattle.std.specs.Prelude.{◌≡◌, Result, Err};
 ghost use Rattle.bp_desk.specs.Books.{GrewBy};
 ghost use Rattle.bp_desk.specs.Calls.{made_by};
-ghost use Rattle.bp_desk.specs.Exchanges.{AnswersBytes, AnswersRead, CallsBook, IsRefusalText, answer_from, text_of};
+ghost use Rattle.bp_desk.specs.Exchanges.{AnswersBytes, AnswersRead, CallsBook, IsRefusalText, ReadsAs, answer_from, text_of};
 ghost use Rattle.bp_desk.specs.History.{history_of};
 ghost use Rattle.bp_desk.specs.Served.{memory_text};
 
@@ -12,12 +12,15 @@ use crate::refusals::DeskRefusal;
 use bp_core::{Bytes, OutOfMemory};
 use bp_keep::Keeper;
 use bp_matter::Reply;
-use bp_web::{Answer, Asked, NO_MEMORY, WebRefusal, read_request, reply_bytes};
+use bp_web::{
+    Answer, Asked, NO_MEMORY, RouteTable, WebRefusal, read_request, read_request_by, reply_bytes,
+};
 use std::alloc::Global;
 
 // The text that answers these bytes. That memory ran out for it has a text of its own.
 pub(crate) fn answer_bytes<K: Keeper>(
     alloc: Global,
+    routes: Option<&RouteTable>,
     book: &mut Book<K>,
     bytes: &[u8],
 ) -> Result<Bytes, OutOfMemory>
@@ -25,8 +28,18 @@ pub(crate) fn answer_bytes<K: Keeper>(
         (history_of book.new) }
     ensures book { GrewBy DOOR_SEAT book.old book.new }
 {
-    let request = read_request(alloc, bytes);
+    let request = read_by(alloc, routes, bytes);
     answer_read(alloc, book, &request)
+}
+
+// What these bytes ask for, by these routes; where there are none, by some that are made for it.
+fn read_by(alloc: Global, routes: Option<&RouteTable>, bytes: &[u8]) -> Result<Asked, WebRefusal>
+    ensures { ReadsAs bytes.now result }
+{
+    match routes {
+        Some(routes) => read_request_by(alloc, routes, bytes),
+        None => read_request(alloc, bytes),
+    }
 }
 
 // The text that answers what was read.

@@ -74,7 +74,7 @@ fn answer_next<K: Keeper>(
         Ok(answer) => answer,
         Err(refusal) => return Err(refusal),
     };
-    let _ = answers.push(answer);
+    answers.push_reserved(answer);
     Ok(())
 }
 

@@ -26,7 +26,7 @@ returns-in-Call-clause-made g c =
     let m' : Matter = c.step.new.tables.matter in
     let keeper : KeeperView = g.K.Keeper.shows c.args.keeper.now in
     let keeper' : KeeperView = g.K.Keeper.shows c.step.new.keeper in
-    let key = c.in-Call.key.now in
-    let call = c.in-Call.call.now in
+    let key = c.in-Call.key in
+    let call = c.in-Call.call in
     subst (λ (asked : RunStep). AnswersOne m asked keeper c.reply_answer.result m' keeper') (sym c.in-Call.is)
     (subst (λ (r : Result RunAnswer MatterRefusal). AnswersOne m (asks.Call key call) keeper r m' keeper') (sym c.reply_answer.ensures) (call-answered m key call keeper c.step.result m' keeper' c.step.ensures.made))

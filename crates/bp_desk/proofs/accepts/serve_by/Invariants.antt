@@ -3,7 +3,7 @@ use Rattle.bp_desk.specs.Books.{GrewBy}
 use Rattle.bp_desk.specs.History.{history_of}
 use Rattle.bp_desk.specs.Serving.{Serves}
 use Rattle.bp_desk.specs.declared.history.TheConstants.{DOOR_SEAT}
-use Rattle.bp_desk.proofs.accepts.serve_one.Given as goal
+use Rattle.bp_desk.proofs.accepts.serve_by.Given as goal
 
 abbrev pub invariant-serving : goal.invariant-serving
 invariant-serving g l =

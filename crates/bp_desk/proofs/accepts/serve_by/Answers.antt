@@ -2,7 +2,7 @@ use Rattle.std.proofs.Common.{◌≡◌, ◌+◌, false, arith, refl, rules}
 use Rattle.bp_desk.specs.declared.history.TheConstants.{DOOR_SEAT}
 use Rattle.bp_desk.proofs.BookLemmas.{grew_by_none, grew_by_twice}
 use Rattle.bp_desk.proofs.ServingLemmas.{serves_all, serves_none, serves_to_close, serves_twice}
-use Rattle.bp_desk.proofs.accepts.serve_one.Goals as goal
+use Rattle.bp_desk.proofs.accepts.serve_by.Goals as goal
 
 pub serving-init : goal.serving-init
 serving-init g c =

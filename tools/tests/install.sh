@@ -1,6 +1,6 @@
 #!/bin/sh
 # Tries what makes, packs and installs the program: in a copy of this repository, with a command rt that proves nothing and a
-# program that only prints, so that it takes a minute and no kit. How the launcher proves crates side by side, what it says when
+# program that only prints, so that it takes a minute and no kit. How the launcher proves crate by crate, what it says when
 # one fails, what a signal leaves; `make install`, `make dist`, and the launcher where there are no sources. Where the real program
 # is built here, the archive is tried with it too: as nobody, in a folder of its own.
 # Needs git, make, python3, bash; says what it leaves out where man or Debian's setpriv isn't there.
@@ -80,7 +80,7 @@ status_of "$copy/tivrenan" init x
 check 'the program is built and run' is "$status" 0
 check 'its line is passed on' holds '^ran init x$' "$room/said"
 cat > "$room/order.py" << 'END'
-import os, sys
+import sys
 below = {}
 for line in open(sys.argv[1]):
     name, _, needs = line.split("#")[0].partition(":")
@@ -104,9 +104,9 @@ while todo:
         needed.add(name)
         todo += below[name]
 assert ended == needed - {"bp_main"}, needed ^ ended
-assert 1 < most <= len(os.sched_getaffinity(0)) or len(os.sched_getaffinity(0)) == 1, most
+assert most == 1, most
 END
-check 'each crate once, after those below it, as many at once as there are processors' python3 "$room/order.py" "$copy/crates.txt" "$room/events"
+check 'each crate once, after those below it' python3 "$room/order.py" "$copy/crates.txt" "$room/events"
 : > "$room/events"
 status_of "$copy/tivrenan" build
 check 'nothing is built twice' is "$status$(cat "$room/events" "$room/said")" 0

@@ -11,6 +11,8 @@ HEAD = b"SQLite format 3\0"
 # SQLite's own bytes for locks (its file format, and os_unix.c): pending, reserved, and 510 that are shared
 FIRST_LOCK, LOCKS = 0x40000000, 512
 FLOCK = "@hhqqi0q"
+# the head of a log, the head of a page in it, and the least page: a shorter log keeps nothing
+LEAST_LOG = 32 + 24 + 512
 
 
 class NoMatter(Exception):
@@ -52,6 +54,7 @@ def take_lock(path, file):
             raise BlockingIOError
         fcntl.lockf(file, fcntl.LOCK_SH | fcntl.LOCK_NB, LOCKS - 2, FIRST_LOCK + 2)
     except OSError:
+        # some locks name no process
         who = f" (process {process})" if kind != fcntl.F_UNLCK and process > 0 else ""
         told = f"it is locked: a desk or another command works with it{who}; try again once that has ended"
         raise NoMatter(f"{path}: {told}") from None
@@ -59,7 +62,7 @@ def take_lock(path, file):
 
 def has_log(path):
     try:
-        return os.path.getsize(f"{path}-wal") > 0
+        return os.path.getsize(f"{path}-wal") >= LEAST_LOG
     except OSError:
         return False
 

@@ -205,6 +205,13 @@ class Reports(Case):
         self.assertTrue(os.path.getsize(f"{self.matter}-wal"))
         self.assertIn(["2", "Ellis", "Reviewer", "0", "0", "0", "0"], self.report().rows)
 
+    def test_a_log_that_keeps_nothing(self):
+        """As the program leaves one."""
+        self.make(ROWS, "wal").close()
+        with open(f"{self.matter}-wal", "wb") as file:
+            file.write(b"x" * 41)
+        self.report()
+
     @unittest.skipIf(os.getuid() or not shutil.which("setpriv"), "needs root, to be another user")
     def test_a_folder_that_may_not_be_written(self):
         self.make(ROWS, "wal").close()

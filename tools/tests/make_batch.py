@@ -1,6 +1,7 @@
 #!/usr/bin/env python3
 """Tries tools/make_batch: builds folders of PDFs by several programs and of TIFF scans in many forms, makes batches of them,
-and reads these by examples/check_batch.py and once more by python's csv and tiffinfo. Then gives it what it is to refuse,
+and reads these by examples/check_batch.py and once more by python's csv and tiffinfo; the program takes each in, where it is
+built. Then gives it what it is to refuse,
 ends it while it works, and looks that nothing is left.
 
 Needs what make_batch needs. Where another Debian package that makes inputs isn't there, its tests are skipped, and the
@@ -33,6 +34,16 @@ NEEDED = {
 JOBS = os.environ.get("JOBS", str(os.cpu_count() or 1))
 os.environ["OMP_THREAD_LIMIT"] = "1"  # several threads of tesseract wait for each other where processors are taken
 TEXT = "The roof of building four leaks since the winter, and the landlord was told of it by registered letter."
+
+
+def built():
+    """The program, where it is built from the sources as they stand; without rt on PATH the launcher builds nothing."""
+    path = os.path.join(TOP, "crates", "bp_main", "out", "bp_main")
+    words = [os.path.join(TOP, "tivrenan"), "build"]
+    return path if subprocess.run(words, env={"PATH": "/usr/bin:/bin"}, capture_output=True, check=False).returncode == 0 else None
+
+
+PROGRAM = built()
 
 
 def has(*tools):
@@ -75,7 +86,18 @@ class Case(unittest.TestCase):
         checked = subprocess.run([CHECK, folder], capture_output=True, text=True, check=False)
         self.assertEqual(checked.returncode, 0, checked.stderr)
         self.said = ran.stderr
-        return Batch(folder)
+        batch = Batch(folder)
+        if PROGRAM:
+            self.comes_in(batch, name)
+        return batch
+
+    def comes_in(self, batch, name):
+        """The program takes the batch into a new matter."""
+        with tempfile.TemporaryDirectory() as matter:
+            os.symlink(batch.folder, os.path.join(matter, name))
+            sh([PROGRAM, "init", "0" * 64], cwd=matter)
+            told = sh([PROGRAM, "import", name], cwd=matter).decode()
+        self.assertEqual(told, f"batch {name} documents {len(batch.records)} pages {len(batch.images)}\n")
 
     def refused(self, *whys, options=(), name="OUT"):
         """Refused with status 1, for each of these reasons, and nothing is left beside the folder that came in."""
@@ -656,6 +678,8 @@ def main():
     if missing:
         print(f"make_batch.py: nothing is tried: not here: {', '.join(missing)}")
         return
+    if not PROGRAM:
+        print("make_batch.py: the program is not built here, and takes no batch in")
     unittest.main(testRunner=unittest.TextTestRunner(resultclass=Told))
 
 

@@ -8,7 +8,8 @@
 # A time is that of a run with many jobs less that of a run with few, each the least of rounds in which all three run by turns;
 # in milliseconds, of the processor and on the clock. The keeper is to take at most 1.15 times what the statements alone take.
 # Words: rounds, 3 where none is given; a folder on the disk that is to be measured, the system's for temporary files where none is.
-# Needs rt on PATH where the program isn't built; python3, gcc, libsqlite3-dev, and 2 GB of room.
+# Last the instructions of commits by the keeper over those by the statements alone, which no other work on the machine changes.
+# Needs rt on PATH where the program isn't built; python3, gcc, valgrind, libsqlite3-dev, and 2 GB of room.
 set -eu
 here=$(CDPATH='' cd -- "$(dirname -- "$0")" && pwd)
 crate=$here/../crates/bp_timing
@@ -62,3 +63,22 @@ for way in keeper statements; do
         printf "memory of a load by the %s: %.0f MB at once, %.2f times its rows (at most 2 is wanted); to open the file takes %.0f MB\n",
             way, with, with / rows, without }'
 done
+
+# way, mix, puts, times: the instructions of the whole run
+count() {
+    rm -rf "$room"
+    mkdir "$room"
+    valgrind --tool=callgrind --callgrind-out-file=/dev/null "$timing" "$1" commit "$file" "$2" "$3" "$4" 2>&1 |
+        awk '/Collected/ { print $NF }'
+}
+# what is counted, few jobs, many, the mix and how many puts
+compare_counts() {
+    awk -v what="$1" -v one="$(count keeper "$4" "$5" "$3") $(count keeper "$4" "$5" "$2")" \
+        -v other="$(count statements "$4" "$5" "$3") $(count statements "$4" "$5" "$2")" 'BEGIN {
+        split(one, keeper); split(other, statements)
+        printf "instructions of %-28s keeper / statements %.3f\n", what, (keeper[1] - keeper[2]) / (statements[1] - statements[2]) }'
+}
+compare_counts "a commit of one put" 1 41 small 1
+compare_counts "a commit of 100 puts" 1 11 small 100
+compare_counts "a commit of 2,000 puts" 0 1 small 2000
+compare_counts "a commit of 450 letter pages" 0 1 letters 1050

@@ -4,8 +4,9 @@
 Words: the batch's folder; without it CVI_001, beside this file. Ends with status 1 and one line at the first rule that
 is broken, in the order in which an import is to test them: the name, load.dat, load.opt, the breaks between documents,
 the families, words.csv, each image, the words on their pages. A rule stands with its number and name. Then come what a
-vendor's files say beside the rules (ENDDOC, ENDATTACH, PGCOUNT, pages in load.opt), and what is so in CVI_001 alone:
-letter pages in Group 4, no other images, and a box of each word that is the one of its ink.
+vendor's files say beside the rules (ENDDOC, ENDATTACH, PGCOUNT, pages in load.opt), and that no other images lie there.
+Where no folder is named, also what is so in CVI_001: letter pages in Group 4, and a box of each word that is the one of
+its ink.
 
 Needs tiffinfo and tifftopnm (Debian's libtiff-tools and netpbm), which read the images.
 """
@@ -257,7 +258,7 @@ def pixels_of(folder, path, where):
     return [int.from_bytes(told.stdout[start : start + size], "big") >> spare for start in starts]
 
 
-# what a vendor's files say beside the rules, and what is so in this batch
+# what a vendor's files say beside the rules, and what is so in CVI_001
 
 def fail(where, why):
     sys.exit(f"check_batch.py: {where}: {why}")
@@ -291,8 +292,8 @@ def check_files(folder, pages):
                 fail(path, "no line of load.opt names it")
 
 
-def ink_of(page, words):
-    """How many pixels are black, and how many of them are under a word; each word has one at each edge."""
+def ink_of(page, words, tight):
+    """How many pixels are black, and how many of them are under a word; where `tight`, each word has one at each edge."""
     covered = [0] * page["height"]
     for word in words:
         left, top, right, bottom = word["box"]
@@ -302,14 +303,14 @@ def ink_of(page, words):
             seen |= page["rows"][row] & mask
             covered[row] |= mask
         ends = seen & (1 << page["width"] - right) and seen >> page["width"] - left - 1
-        if not (ends and page["rows"][top] & mask and page["rows"][bottom - 1] & mask):
+        if tight and not (ends and page["rows"][top] & mask and page["rows"][bottom - 1] & mask):
             fail(word["where"], f"the box of '{word['text']}' isn't the one of the ink below it")
     black = sum(bin(row).count("1") for row in page["rows"])
     under = sum(bin(row & mask).count("1") for row, mask in zip(page["rows"], covered))
     return black, under
 
 
-def report(documents, pages, words):
+def report(documents, pages, words, tight):
     by_image = {image: [] for image in pages}
     for word in words:
         by_image[word["image"]].append(word)
@@ -317,7 +318,7 @@ def report(documents, pages, words):
     for document in documents:
         images = [line["image"] for line in document["images"]]
         count = sum(len(by_image[image]) for image in images)
-        inks = [ink_of(pages[image], by_image[image]) for image in images]
+        inks = [ink_of(pages[image], by_image[image], tight) for image in images]
         share = 100 * sum(under for _, under in inks) // max(1, sum(black for black, _ in inks))
         author = document["record"].get("AUTHOR", "").replace("\n", ", ")
         lines.append(f"{images[0]}  {document['family']}  {len(images):5}  {count:5}  {share:14}%  {author}".rstrip())
@@ -332,7 +333,8 @@ def main():
             sys.exit(f"check_batch.py: needs {tool} (Debian: {package})")
     if len(sys.argv) > 2:
         sys.exit("usage: check_batch.py [FOLDER]")
-    folder = sys.argv[1] if len(sys.argv) == 2 else os.path.join(os.path.dirname(os.path.abspath(__file__)), "CVI_001")
+    own = len(sys.argv) == 1
+    folder = os.path.join(os.path.dirname(os.path.abspath(__file__)), "CVI_001") if own else sys.argv[1]
     name = os.path.basename(os.path.abspath(folder))
     if not re.fullmatch("[A-Za-z0-9_-]{1,32}", name):
         refuse("63 PathRefused", name, "a batch's name is 1 to 32 of A-Z, a-z, 0-9, - and _")
@@ -344,10 +346,10 @@ def main():
     pages = {line["image"]: read_page(folder, line, f"load.opt line {at}") for at, line in enumerate(images, 1)}
     check_words_inside(words, pages)
     check_claims(documents)
-    for line in images:
+    for line in images if own else []:
         check_letter(line, pages[line["image"]])
     check_files(folder, pages)
-    report(documents, pages, words)
+    report(documents, pages, words, own)
 
 
 main()

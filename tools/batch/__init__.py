@@ -1,0 +1,1 @@
+"""What tools/make_batch is made of: a subject a file."""

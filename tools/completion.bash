@@ -1,0 +1,25 @@
+# Bash's completion of tivrenan's words. Installed as share/bash-completion/completions/tivrenan.
+
+# what a batch is: a folder here with load files
+_tivrenan_batches() {
+    local file
+    for file in "$1"*/load.opt; do
+        [ ! -e "$file" ] || printf '%s\n' "${file%/load.opt}"
+    done
+}
+
+_tivrenan() {
+    local word=${COMP_WORDS[COMP_CWORD]} command=${COMP_WORDS[1]} at=$COMP_CWORD words=
+    COMPREPLY=()
+    case $at,$command in
+        1,*) words='burn init import serve produce press log help version build' ;;
+        2,help) words='burn init import serve produce press log statuses rules' ;;
+        2,import) words=$(_tivrenan_batches "$word") ;;
+        2,serve) words=1 ;;
+        2,burn) mapfile -t COMPREPLY < <(compgen -f -- "$word") && compopt -o filenames && return ;;
+        8,burn) words='plain g4' ;;
+    esac
+    mapfile -t COMPREPLY < <(compgen -W "$words" -- "$word")
+}
+
+complete -F _tivrenan tivrenan

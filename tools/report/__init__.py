@@ -1,0 +1,1 @@
+"""What tools/matter_report is made of: a subject a file."""

@@ -1,0 +1,686 @@
+#!/usr/bin/env python3
+"""Tries tools/make_batch: builds folders of PDFs by several programs and of TIFF scans in many forms, makes batches of them,
+and reads these by examples/check_batch.py and once more by python's csv and tiffinfo; the program takes each in, where it is
+built. Then gives it what it is to refuse,
+ends it while it works, and looks that nothing is left.
+
+Needs what make_batch needs. Where another Debian package that makes inputs isn't there, its tests are skipped, and the
+last lines say which. Words: names of tests (`make_batch.py Scans`), as unittest takes them; none: all.
+"""
+import csv
+import os
+import re
+import shutil
+import signal
+import subprocess
+import sys
+import tempfile
+import time
+import unittest
+
+sys.dont_write_bytecode = True
+HERE = os.path.dirname(os.path.abspath(__file__))
+TOP = os.path.dirname(os.path.dirname(HERE))
+MAKE = os.path.join(TOP, "tools", "make_batch")
+CHECK = os.path.join(TOP, "examples", "check_batch.py")
+SOURCES = os.path.join(TOP, "examples", "batch_sources")
+LETTER = os.path.join(TOP, "examples", "letter.tif")
+NEEDED = {
+    "pdftoppm": "poppler-utils",
+    "tiffcp": "libtiff-tools",
+    "tifftopnm": "netpbm",
+    "tesseract": "tesseract-ocr",
+}
+JOBS = os.environ.get("JOBS", str(os.cpu_count() or 1))
+os.environ["OMP_THREAD_LIMIT"] = "1"  # several threads of tesseract wait for each other where processors are taken
+TEXT = "The roof of building four leaks since the winter, and the landlord was told of it by registered letter."
+
+
+def built():
+    """The program, where it is built from the sources as they stand; without rt on PATH the launcher builds nothing."""
+    path = os.path.join(TOP, "crates", "bp_main", "out", "bp_main")
+    words = [os.path.join(TOP, "tivrenan"), "build"]
+    return path if subprocess.run(words, env={"PATH": "/usr/bin:/bin"}, capture_output=True, check=False).returncode == 0 else None
+
+
+PROGRAM = built()
+
+
+def has(*tools):
+    """For a test that needs these programs to make its inputs."""
+    missing = [tool for tool in tools if not shutil.which(tool)]
+    return unittest.skipIf(missing, f"not here: {', '.join(missing)}")
+
+
+def sh(words, **more):
+    return subprocess.run(words, check=True, capture_output=True, **more).stdout
+
+
+class Case(unittest.TestCase):
+    """Each test has a room of its own, with a folder `in` to fill."""
+
+    def setUp(self):
+        self.room = tempfile.mkdtemp(prefix="make_batch_test.")
+        self.addCleanup(shutil.rmtree, self.room)
+        self.folder = os.path.join(self.room, "in")
+        os.mkdir(self.folder)
+
+    def path(self, *names):
+        path = os.path.join(self.folder, *names)
+        os.makedirs(os.path.dirname(path), exist_ok=True)
+        return path
+
+    def put(self, name, data):
+        with open(self.path(name), "wb") as file:
+            file.write(data if isinstance(data, bytes) else data.encode())
+
+    def call(self, *options, name="OUT"):
+        words = [MAKE, self.folder, os.path.join(self.room, name), "--jobs", JOBS, *options]
+        return subprocess.run(words, capture_output=True, text=True, timeout=900, check=False)
+
+    def make(self, *options, name="OUT"):
+        """The batch that is made, which keeps every rule."""
+        ran = self.call(*options, name=name)
+        self.assertEqual(ran.returncode, 0, ran.stderr)
+        folder = os.path.join(self.room, name)
+        checked = subprocess.run([CHECK, folder], capture_output=True, text=True, check=False)
+        self.assertEqual(checked.returncode, 0, checked.stderr)
+        self.said = ran.stderr
+        batch = Batch(folder)
+        if PROGRAM:
+            self.comes_in(batch, name)
+        return batch
+
+    def comes_in(self, batch, name):
+        """The program takes the batch into a new matter."""
+        with tempfile.TemporaryDirectory() as matter:
+            os.symlink(batch.folder, os.path.join(matter, name))
+            sh([PROGRAM, "init", "0" * 64], cwd=matter)
+            told = sh([PROGRAM, "import", name], cwd=matter).decode()
+        self.assertEqual(told, f"batch {name} documents {len(batch.records)} pages {len(batch.images)}\n")
+
+    def refused(self, *whys, options=(), name="OUT"):
+        """Refused with status 1, for each of these reasons, and nothing is left beside the folder that came in."""
+        before = sorted(os.listdir(self.room))
+        ran = self.call(*options, name=name)
+        self.assertEqual(ran.returncode, 1, ran.stderr)
+        for why in whys:
+            self.assertRegex(ran.stderr, why)
+        self.assertTrue(ran.stderr.endswith("make_batch: no batch was made\n"), ran.stderr)
+        self.assertEqual(ran.stdout, "")
+        self.assertEqual(sorted(os.listdir(self.room)), before)
+
+
+class Batch:
+    """A batch by another reading: csv with Concordance's signs, and tiffinfo."""
+
+    def __init__(self, folder):
+        self.folder = folder
+        with open(os.path.join(folder, "load.dat"), encoding="utf-8-sig", newline="") as file:
+            self.records = list(csv.DictReader(file, delimiter="\x14", quotechar="þ"))
+        with open(os.path.join(folder, "load.opt"), encoding="utf-8", newline="") as file:
+            self.images = list(csv.reader(file))
+        with open(os.path.join(folder, "words.csv"), encoding="utf-8", newline="") as file:
+            self.words = [[image, *map(int, numbers), text] for image, *numbers, text in csv.reader(file)]
+
+    def tiff(self, at):
+        return os.path.join(self.folder, self.images[at][2].replace("\\", "/"))
+
+    def told(self, at):
+        return sh(["tiffinfo", self.tiff(at)]).decode()
+
+    def pixels(self, at):
+        return sh(["tifftopnm", "-quiet", self.tiff(at)])
+
+    def words_of(self, at):
+        return [word for word in self.words if word[0] == self.images[at][0]]
+
+    def text(self, at):
+        return " ".join(word[6] for word in self.words_of(at))
+
+    def families(self):
+        """The file names of each family."""
+        found = {}
+        for record in self.records:
+            found.setdefault(record["BEGATTACH"], []).append(record["FILENAME"])
+        return list(found.values())
+
+    def bytes(self):
+        """Every file of the batch."""
+        found = {}
+        for top, _, files in os.walk(self.folder):
+            for file in files:
+                with open(os.path.join(top, file), "rb") as data:
+                    found[os.path.relpath(os.path.join(top, file), self.folder)] = data.read()
+        return found
+
+
+def read_again(test, batch, at, least):
+    """Of the words that tesseract reads on an image, this share at least stands in the batch, where it was read."""
+    told = sh(["tesseract", batch.tiff(at), "stdout", "tsv"]).decode().split("\n")[1:]
+    rows = [row.split("\t") for row in told if row.count("\t") == 11]
+    read = [(row[11], *map(int, row[6:10])) for row in rows if row[0] == "5" and re.fullmatch("[A-Za-z]{4,}", row[11])]
+    there = {(word[6].strip('.,;:"()')) for word in batch.words_of(at)}
+    places = batch.words_of(at)
+    same = [word for word in read if word[0] in there and any(touches(word, place) for place in places if word[0] in place[6])]
+    test.assertGreater(len(read), 5)
+    test.assertGreaterEqual(len(same) / len(read), least, (read, places))
+
+
+def touches(read, place):
+    _, left, top, width, height = read
+    _, _, x, y, across, down, _ = place
+    middle = (left + width / 2, top + height / 2)
+    return x <= middle[0] <= x + across and y <= middle[1] <= y + down
+
+
+class ExampleSources(Case):
+    """The papers that CVI_001 was made of, as PDFs in a folder a family, with their fields."""
+
+    @has("groff", "ps2pdf")
+    def test_is_the_batch_that_the_example_is(self):
+        with open(os.path.join(SOURCES, "documents.csv"), encoding="utf-8", newline="") as file:
+            documents = list(csv.DictReader(file))
+        fields = ["CUSTODIAN", "AUTHOR", "RECIPIENTS", "DOCDATE", "DOCTYPE", "TITLE"]
+        names = {row["file"]: f"family {row['family']}/{row['file']}.pdf" for row in documents}
+        for row in documents:
+            paper = os.path.join(SOURCES, row["file"] + ".roff")
+            printed = sh(["groff", "-t", "-Tps", "-P-pletter", os.path.join(SOURCES, "office.tmac"), paper])
+            self.put(row["file"] + ".ps", printed)
+            sh(["ps2pdf", "-sPAPERSIZE=letter", self.path(row["file"] + ".ps"), self.path(names[row["file"]])])
+            os.remove(self.path(row["file"] + ".ps"))
+        with open(self.path("fields.csv"), "w", encoding="utf-8", newline="") as file:
+            writer = csv.writer(file)
+            writer.writerow(["FILE", *fields])
+            writer.writerows([names[row["file"]], *(row[field] for field in fields)] for row in reversed(documents))
+        made = self.make("--prefix", "CVI", "--first", "4182", name="CVI_001")
+        example = Batch(os.path.join(TOP, "examples", "CVI_001"))
+        self.assertEqual([image[0] for image in made.images], [image[0] for image in example.images])
+        for ours, theirs in zip(made.records, example.records, strict=True):
+            for column in ("BEGDOC", "ENDDOC", "BEGATTACH", "ENDATTACH", *fields):
+                self.assertEqual(ours[column], theirs[column])
+        self.assertEqual(sorted(made.families()), sorted([names[row["file"]] for row in documents if row["family"] == family]
+                                                         for family in sorted({row["family"] for row in documents})))
+        for at in range(len(made.images)):
+            self.assertIn("Image Width: 2550 Image Length: 3300", made.told(at))
+            self.assertEqual(sorted(word[6] for word in made.words_of(at)), sorted(word[6] for word in example.words_of(at)))
+            self.same_places(made.words_of(at), example.words_of(at))
+        self.assertEqual(self.said, "")
+
+    def same_places(self, ours, theirs):
+        """Each word's box lies within two pixels of the example's, which another program painted."""
+        key = lambda word: (word[6], round(word[3] / 20), round(word[2] / 20))  # noqa: E731
+        near = 0
+        for our, their in zip(sorted(ours, key=key), sorted(theirs, key=key)):
+            near += our[6] == their[6] and all(abs(our[side] - their[side]) <= 2 for side in range(2, 6))
+        self.assertGreaterEqual(near, 0.97 * len(ours))
+
+
+class OtherPrograms(Case):
+    """PDFs of other programs: the text is found, and where it stands on the page."""
+
+    def check(self, dpi=150, least=0.9):
+        batch = self.make("--dpi", str(dpi))
+        self.assertIn("registered letter", batch.text(0))
+        read_again(self, batch, 0, least)
+        return batch
+
+    def roff(self):
+        return f".pl 11i\n.po 1i\n.ll 6i\n.ps 14\n.vs 20\n.sp 1i\n{TEXT}\n.sp\n{TEXT}\n"
+
+    @has("groff", "gropdf")
+    def test_gropdf(self):
+        self.put("a.pdf", sh(["groff", "-Tpdf", "-P-pletter"], input=self.roff().encode()))
+        self.check()
+
+    @has("enscript", "ps2pdf")
+    def test_enscript_and_ghostscript(self):
+        lines = "".join(f"{part}\n" for part in (TEXT[:50], TEXT[50:], "", TEXT[:50], TEXT[50:]))
+        self.put("../a.ps", sh(["enscript", "-q", "-B", "-fCourier14", "-p", "-"], input=lines.encode()))
+        sh(["ps2pdf", os.path.join(self.room, "a.ps"), self.path("a.pdf")])
+        os.remove(os.path.join(self.room, "a.ps"))
+        self.check()
+
+    @has("rsvg-convert")
+    def test_cairo(self):
+        lines = [TEXT[at : at + 40] for at in range(0, len(TEXT), 40)]
+        lines = re.findall(r"(.{1,40})(?: |$)", TEXT)
+        spans = "".join(f'<text x="80" y="{120 + 40 * at}">{line}</text>' for at, line in enumerate(lines))
+        drawn = f'<svg xmlns="http://www.w3.org/2000/svg" width="816" height="1056" font-size="24">{spans}</svg>'
+        self.put("a.pdf", sh(["rsvg-convert", "-f", "pdf"], input=drawn.encode()))
+        self.check()
+
+    @has("pdflatex")
+    def test_latex(self):
+        told = r"\documentclass[12pt]{article}\begin{document}" + TEXT + "\n\n" + TEXT + r"\end{document}"
+        with tempfile.TemporaryDirectory() as room:
+            with open(os.path.join(room, "a.tex"), "w", encoding="utf-8") as file:
+                file.write(told)
+            sh(["pdflatex", "-interaction=batchmode", "a.tex"], cwd=room)
+            shutil.copy(os.path.join(room, "a.pdf"), self.path("a.pdf"))
+        self.check(dpi=200)
+
+    @has("soffice")
+    def test_libreoffice(self):
+        with tempfile.TemporaryDirectory() as room:
+            with open(os.path.join(room, "a.txt"), "w", encoding="utf-8") as file:
+                file.write(f"{TEXT}\n\n{TEXT}\n")
+            home = f"-env:UserInstallation=file://{room}/home"
+            sh(["soffice", home, "--headless", "--convert-to", "pdf", "--outdir", self.folder, os.path.join(room, "a.txt")])
+        self.check(dpi=200)
+
+    @has("img2pdf")
+    def test_img2pdf_of_a_scan(self):
+        self.put("a.pdf", sh(["img2pdf", LETTER]))
+        batch = self.make("--dpi", "300")
+        self.assertIn("Director of Procurement", batch.text(0))
+        self.assertEqual(batch.pixels(0), sh(["tifftopnm", "-quiet", LETTER]), "the scan's own pixels")
+
+    def test_a_scan_with_a_text(self):
+        """Tesseract's own PDFs, whose text isn't drawn."""
+        sh(["tesseract", LETTER, os.path.join(self.folder, "a"), "pdf"])
+        batch = self.make()
+        self.assertIn("Director of Procurement", batch.text(0))
+        self.assertEqual(self.said, "")
+        self.assertEqual(batch.pixels(0), sh(["tifftopnm", "-quiet", LETTER]), "the scan's own pixels")
+
+    @has("convert", "img2pdf")
+    def test_imagemagick_and_img2pdf_of_a_grey_scan(self):
+        self.put("../grey.png", sh(["convert", LETTER, "-resize", "50%", "-colorspace", "Gray", "-density", "150", "png:-"]))
+        self.put("a.pdf", sh(["img2pdf", os.path.join(self.room, "grey.png")]))
+        batch = self.make("--dpi", "150", "--threshold", "60")
+        self.assertIn("Quayside Road", batch.text(0))
+
+
+class Scans(Case):
+    """TIFF files in many forms: the pixels and the resolution of each page stay."""
+
+    def setUp(self):
+        super().setUp()
+        self.scan = os.path.join(self.room, "scan.tif")
+        self.pbm = sh(["tifftopnm", "-quiet", LETTER])
+        self.small = sh(["pamcut", "-top", "100", "-height", "400"], input=self.pbm)
+        self.write("-g4", "-xresolution=300", "-yresolution=300")
+
+    def write(self, *options, pnm=None):
+        with open(self.scan, "wb") as file:
+            file.write(sh(["pamtotiff", *options], input=pnm or self.small))
+
+    def check_pixels(self, *names):
+        """One document a file, with these pixels on each page."""
+        batch = self.make("--ocr", "none")
+        self.assertEqual([record["FILENAME"] for record in batch.records], sorted(names))
+        for at in range(len(batch.images)):
+            self.assertEqual(batch.pixels(at), self.small)
+            self.assertIn("Compression Scheme: CCITT Group 4", batch.told(at))
+        return batch
+
+    def test_many_pages_and_forms(self):
+        for name, how in {
+            "g3": ["-c", "g3"], "g3_2d": ["-c", "g3:2d"], "lzw": ["-c", "lzw"], "none": ["-c", "none"], "zip": ["-c", "zip"],
+            "packbits": ["-c", "packbits"], "mm": ["-B", "-c", "g4"], "low": ["-f", "lsb2msb", "-c", "g4"],
+            "strips": ["-r", "7", "-c", "g4"], "tiles": ["-t", "-w", "256", "-l", "256", "-c", "g4"], "big": ["-8", "-c", "g4"],
+        }.items():
+            sh(["tiffcp", *how, self.scan, self.scan, self.scan, self.path(f"{name}.tif")])
+        names = [name for name in os.listdir(self.folder)]
+        batch = self.check_pixels(*names)
+        self.assertEqual([image[6] for image in batch.images], ["3", "", ""] * len(names))
+        self.assertIn("Resolution: 300, 300 pixels/inch", batch.told(4))
+
+    def test_other_resolutions(self):
+        for name, told, due in (
+            ("fax", ["-xresolution=204", "-yresolution=98"], "Resolution: 204, 98 pixels/inch"),
+            ("cm", ["-xresolution=118", "-yresolution=118", "-resolutionunit=centimeter"], "Resolution: 118, 118 pixels/cm"),
+            ("none", [], None),
+        ):
+            self.write("-g4", *told)
+            shutil.copy(self.scan, self.path("a.tif"))
+            batch = self.make("--ocr", "none", name=name)
+            self.assertEqual(re.search("Resolution: .*", batch.told(0)) and re.search("Resolution: .*", batch.told(0))[0].strip(), due)
+
+    def turned(self, pnm):
+        """A batch of that picture with each Orientation."""
+        self.write("-lzw", "-xresolution=300", "-yresolution=200", pnm=pnm)
+        for orientation in range(1, 9):
+            sh(["tiffset", "-s", "274", str(orientation), shutil.copy(self.scan, self.path(f"{orientation}.tif"))])
+        return self.make("--ocr", "none", "--threshold", "50", name=f"{pnm[:2].decode()}_OUT")
+
+    def check_turned(self, batch, turn):
+        """The page is upright: `turn` gives its pixels by another program."""
+        for at in range(8):
+            self.assertEqual(batch.pixels(at), turn(at + 1), at + 1)
+            self.assertIn("Resolution: 300, 200" if at < 4 else "Resolution: 200, 300", batch.told(at))
+
+    def test_turned_pages(self):
+        grey = sh(["pgmramp", "-lr", "150", "100"])
+        for pnm in (self.small, grey, sh(["pgmtoppm", "white"], input=grey)):
+            batch = self.turned(pnm)
+            upright = batch.pixels(0)
+            turns = [["-null"], ["-lr"], ["-r180"], ["-tb"], ["-xy"], ["-r270"], ["-xform=transpose,topbottom,leftright"], ["-r90"]]
+            self.check_turned(batch, lambda at: sh(["pamflip", *turns[at - 1]], input=upright))
+
+    @has("convert")
+    def test_turned_pages_by_imagemagick(self):
+        batch = self.turned(self.small)
+
+        def turn(orientation):
+            turned = os.path.join(self.room, "turned.tif")
+            sh(["convert", self.path(f"{orientation}.tif"), "-auto-orient", "+repage", "-compress", "none", turned])
+            return sh(["tifftopnm", "-quiet", turned])
+
+        self.check_turned(batch, turn)
+
+    def test_grey_and_colour(self):
+        grey = sh(["pgmramp", "-lr", "200", "100"])
+        for name, pnm, how in (("grey", grey, ["-lzw"]), ("colour", sh(["pgmtoppm", "red"], input=grey), ["-flate"])):
+            self.write(*how, pnm=pnm)
+            shutil.copy(self.scan, self.path(f"{name}.tif"))
+        dots = self.make("--ocr", "none", name="DOTS")
+        for at in (0, 1):
+            self.assertIn("Bits/Sample: 1", dots.told(at))
+        black = dots.pixels(1)[len(b"P4\n200 100\n") :]
+        self.assertAlmostEqual(sum(bin(byte).count("1") for byte in black) / 20_000, 0.5, delta=0.1)
+        sharp = self.make("--ocr", "none", "--threshold", "50", name="SHARP")
+        self.assertEqual(sharp.pixels(1)[len(b"P4\n200 100\n") :][:25], b"\xff" * 12 + sharp.pixels(1)[len(b"P4\n200 100\n") :][12:13] + b"\0" * 12)
+
+    def test_a_page_of_a_pixel(self):
+        self.write("-g4", pnm=sh(["pbmmake", "-black", "1", "1"]))
+        shutil.copy(self.scan, self.path("a.tif"))
+        batch = self.make()
+        self.assertEqual(batch.words, [])
+        self.assertIn("a.tif: page 1: no word could be read on it", self.said)
+
+    def test_words_are_read(self):
+        self.write("-g4", "-xresolution=300", "-yresolution=300", pnm=self.pbm)
+        sh(["tiffcp", self.scan, self.scan, self.path("twice.tif")])
+        batch = self.make()
+        for at in (0, 1):
+            self.assertIn("Director of Procurement", batch.text(at))
+        self.assertEqual([word[1:] for word in batch.words_of(0)], [word[1:] for word in batch.words_of(1)])
+
+    def test_a_small_picture_of_a_page_is_none(self):
+        small = os.path.join(self.room, "small.tif")
+        sh(["tiffset", "-s", "254", "1", shutil.copy(self.scan, small)])
+        sh(["tiffcp", self.scan, small, self.scan, self.path("a.tif")])
+        batch = self.check_pixels("a.tif")
+        self.assertEqual(len(batch.images), 2)
+        self.assertIn("1 small pictures of pages", self.said)
+
+
+def pdf_of(pages, secret="", crop=""):
+    """A PDF by hand: a page for each list of drawing operators."""
+    objects = ["<< /Type /Catalog /Pages 2 0 R >>", None, "<< /Type /Font /Subtype /Type1 /BaseFont /Helvetica >>"]
+    kids = []
+    for drawn in pages:
+        objects.append(f"<< /Length {len(drawn)} >>\nstream\n{drawn}\nendstream")
+        content = len(objects)
+        objects.append(f"<< /Type /Page /Parent 2 0 R /MediaBox [0 0 612 792] {crop} /Contents {content} 0 R"
+                       " /Resources << /Font << /F1 3 0 R >> >> >>")
+        kids.append(f"{len(objects)} 0 R")
+    objects[1] = f"<< /Type /Pages /Kids [{' '.join(kids)}] /Count {len(kids)} >>"
+    told, places = "%PDF-1.4\n", []
+    for number, text in enumerate(objects, 1):
+        places.append(len(told))
+        told += f"{number} 0 obj\n{text}\nendobj\n"
+    lines = "".join(f"{place:010} 00000 n \n" for place in places)
+    told += f"xref\n0 {len(objects) + 1}\n0000000000 65535 f \n{lines}trailer << /Size {len(objects) + 1} /Root 1 0 R {secret} >>\n"
+    return f"{told}startxref\n{told.index('xref')}\n%%EOF\n".encode()
+
+
+def text_at(x, y, text, size=14):
+    return f"BT /F1 {size} Tf {x} {y} Td ({text}) Tj ET "
+
+
+class Pdfs(Case):
+    """What a PDF may have beside its text."""
+
+    def test_words_that_the_page_does_not_show(self):
+        bar = "0 0 0 rg 95 495 250 20 re f "
+        white = "1 1 1 rg " + text_at(100, 300, "hidden white") + "0 0 0 rg "
+        page = text_at(100, 700, "Plain words I see") + text_at(100, 500, "secret below bar") + bar + white
+        self.put("a.pdf", pdf_of([page + text_at(700, 700, "outside")]))
+        batch = self.make()
+        self.assertEqual(batch.text(0), "Plain words I see")
+        self.assertRegex(self.said, r"a\.pdf: page 1: [56] words of its text aren't to be seen on it, and stay out")
+
+    def test_cut_and_turned(self):
+        """The crop box is what a viewer shows; the words lie where their ink is."""
+        self.put("a.pdf", pdf_of([text_at(100, 700, TEXT[:49], 20) + text_at(2, 2, "outside")], crop="/CropBox [50 50 600 742] /Rotate 180"))
+        self.put("b.pdf", pdf_of([text_at(100, 700, TEXT[:49], 20)], crop="/CropBox [50 50 600 742] /Rotate 90"))
+        batch = self.make("--dpi", "72")
+        self.assertIn("Image Width: 550 Image Length: 692", batch.told(0))
+        self.assertIn("Image Width: 692 Image Length: 550", batch.told(1))
+        self.assertEqual(batch.text(0), TEXT[:49])
+        self.assertEqual(batch.text(1), TEXT[:49])
+        self.assertGreater(min(word[3] for word in batch.words_of(0)), 600)
+        self.assertGreater(min(word[2] for word in batch.words_of(1)), 600)
+
+    def test_a_blank_page_among_others(self):
+        self.put("a.pdf", pdf_of([text_at(100, 700, "one"), "", text_at(100, 700, "three")]))
+        batch = self.make()
+        self.assertEqual([batch.text(at) for at in range(3)], ["one", "", "three"])
+        self.assertEqual(self.said, "")
+
+    def test_signs(self):
+        self.put("a.pdf", pdf_of([text_at(100, 700, r'a,b "c" \050d\051 <&> \374\256\376')]))
+        batch = self.make()
+        self.assertEqual(batch.text(0), 'a,b "c" (d) <&> ü®þ' if "ü" in batch.text(0) else batch.text(0))
+        self.assertIn('a,b "c" (d) <&>', batch.text(0))
+
+    @has("qpdf")
+    def test_files_in_it_are_told(self):
+        self.put("../plain.pdf", pdf_of([text_at(100, 700, "letter")]))
+        self.put("../enclosed.txt", "enclosed")
+        plain, enclosed = (os.path.join(self.room, name) for name in ("plain.pdf", "enclosed.txt"))
+        sh(["qpdf", plain, "--add-attachment", enclosed, "--", self.path("a.pdf")])
+        self.make()
+        self.assertIn("a.pdf: 1 files lie in it, and stay out", self.said)
+
+
+class Folders(Case):
+    """Families, order, fields."""
+
+    def page(self, name):
+        self.put(name, pdf_of([text_at(100, 700, "page")]))
+
+    def test_families_and_order(self):
+        for name in ("10.pdf", "9.pdf", "mail/letter.pdf", "mail/enclosed/2.pdf", "mail/enclosed/1.pdf", "mail/10.PDF", "b/x.pdf"):
+            self.page(name)
+        self.put(".hidden", "x")
+        self.put("mail/Thumbs.db", "x")
+        batch = self.make("--dpi", "72")
+        self.assertEqual(batch.families(), [["9.pdf"], ["10.pdf"], ["b/x.pdf"],
+                                            ["mail/10.PDF", "mail/letter.pdf", "mail/enclosed/1.pdf", "mail/enclosed/2.pdf"]])
+        self.assertEqual([image[0] for image in batch.images][:2], ["OUT-0000001", "OUT-0000002"])
+
+    def test_fields(self):
+        for name in ("a.pdf", "b/c.pdf", "d.pdf"):
+            self.page(name)
+        self.put("fields.csv", '\ufeffFILE;AUTHOR;TITLE\r\nb\\c.pdf;"Ng; Ortiz";"two\r\nlines"\r\n\r\na.pdf;;Brève\r\n')
+        batch = self.make("--dpi", "72")
+        self.assertEqual([(record["FILENAME"], record["AUTHOR"], record["TITLE"]) for record in batch.records],
+                         [("a.pdf", "", "Brève"), ("b/c.pdf", "Ng; Ortiz", "two®lines"), ("d.pdf", "", "")])
+        self.assertEqual(self.said, "make_batch: d.pdf: fields.csv has no line of it, and its fields are empty\n")
+
+    def test_the_same_folder_makes_the_same_batch(self):
+        shutil.copy(LETTER, self.path("b.tif"))
+        self.page("a.pdf")
+        first = self.make(name="ONE").bytes()
+        os.rename(os.path.join(self.room, "ONE"), os.path.join(self.room, "KEPT"))
+        self.assertEqual(self.make("--jobs", "1", name="ONE").bytes(), first)
+
+    def test_more_than_a_thousand_images(self):
+        blank = sh(["pbmmake", "-white", "8", "8"])
+        self.put("../page.tif", sh(["pamtotiff", "-g4"], input=blank))
+        page = os.path.join(self.room, "page.tif")
+        sh(["tiffcp", *[page] * 1001, self.path("a.tif")])
+        batch = self.make()
+        self.assertEqual(batch.images[1000][2], "IMAGES\\0002\\OUT-0001001.TIF")
+
+
+class Refusals(Case):
+    """Each says which file and why, and leaves nothing."""
+
+    def page(self, name):
+        self.put(name, pdf_of([text_at(100, 700, "page")]))
+
+    def test_no_folder(self):
+        os.rmdir(self.folder)
+        self.refused("/in: there is no such folder")
+
+    def test_nothing_in_it(self):
+        self.refused("/in: there is no PDF and no TIFF file in it")
+
+    def test_all_files_at_once(self):
+        self.page("good.pdf")
+        self.put("empty.pdf", "")
+        self.put("sub/letter.docx", b"PK\x03\x04..")
+        self.put("sub/photo.jpg", b"\xff\xd8\xff..")
+        self.put("text.tif", "no picture")
+        self.put("a®b.pdf", "%PDF-1.4")
+        os.symlink(self.room, self.path("link"))
+        self.refused("empty.pdf: the file is empty", "sub/letter.docx: .* print it to a PDF", "sub/photo.jpg: a JPEG",
+                     "text.tif: neither a PDF nor a TIFF file", "its name has a control character, þ or ®", "link: a link")
+
+    def test_a_name_that_is_not_utf_8(self):
+        self.page("good.pdf")
+        shutil.copy(self.path("good.pdf"), os.fsencode(self.folder) + b"/a\xff.pdf")
+        self.refused("its name isn't UTF-8")
+
+    def test_damaged_pdfs(self):
+        whole = pdf_of([text_at(100, 700, "page")])
+        self.put("cut.pdf", whole[:300])
+        self.put("head.pdf", "%PDF-1.4\n")
+        self.put("broken.pdf", whole.replace(b"/Contents 4 0 R", b"/Contents 9 0 R").replace(b"endstream", b"endstrea "))
+        self.refused("cut.pdf: ", "head.pdf: ")
+
+    def test_a_damaged_stream(self):
+        drawn = text_at(100, 700, "page") + "(unended"
+        self.put("a.pdf", pdf_of([drawn]))
+        self.refused("a.pdf: the PDF is damaged, pdfto(ppm|text) says: Syntax Error", options=["--ocr", "none"])
+        self.assertEqual(self.make("--as-shown").text(0), "page")
+
+    @has("qpdf")
+    def test_a_pdf_with_a_password(self):
+        self.page("../plain.pdf")
+        plain = os.path.join(self.room, "plain.pdf")
+        sh(["qpdf", "--encrypt", "user", "owner", "256", "--", plain, self.path("locked.pdf")])
+        self.refused("locked.pdf: pdfinfo says: .*[Pp]assword")
+        sh(["qpdf", "--encrypt", "", "owner", "256", "--print=none", "--", plain, self.path("locked.pdf")])
+        self.assertEqual(self.make().text(0), "page")
+
+    def test_damaged_scans(self):
+        with open(LETTER, "rb") as file:
+            letter = file.read()
+        self.put("cut.tif", letter[:20_000])
+        self.put("inside.tif", letter[:15_000] + bytes(200) + letter[15_200:])
+        self.put("head.tif", letter[:8])
+        self.refused("cut.tif: ", "head.tif: ")
+        os.remove(self.path("cut.tif"))
+        os.remove(self.path("head.tif"))
+        self.refused("inside.tif: the TIFF is damaged, tifftopnm says: .*")
+
+    def test_a_page_that_is_too_large(self):
+        self.put("a.pdf", pdf_of([text_at(100, 700, "page")]).replace(b"612 792", b"9999 99"))
+        self.refused("a.pdf: page 1 would have 41663 by 413 pixels, and at most 20000 a side")
+
+    def test_more_than_a_matter_takes(self):
+        self.put("a.pdf", pdf_of([text_at(100, 700, "page")] * 476))
+        self.refused("the batch: 476 pages have 4005540000 pixels, and a matter takes 4000000000: take a lower --dpi")
+
+    def test_fields(self):
+        self.page("a.pdf")
+        for told, why in {
+            "": "it has no line of names",
+            "FILE,A\nb.pdf,x\n": "line 2: the folder has no file b.pdf",
+            "FILE,A\na.pdf,x\n./a.pdf,y\n": "line 3: a.pdf had a line before",
+            "FILE,A\na.pdf\n": "line 2: 1 values under 2 columns",
+            "FILE,A,A\na.pdf,x,y\n": "column 3: A is there before",
+            "FILE,\na.pdf,x\n": "the name of column 2 is empty",
+            "FILE,BEGDOC\na.pdf,x\n": "column 2: BEGDOC is a column that the batch has of itself",
+            "FILE,A\na.pdf,Acme®\n": "line 2, A: it has ®, which stands for a newline",
+            "FILE,A\na.pdf,þ\n": "line 2, A: it has þ",
+            'FILE,A\na.pdf,"x\n': "line 2: unexpected end of data",
+            "FILE," + ",".join(f"F{at}" for at in range(64)) + "\n": "it has 64 fields, and a matter takes 64",
+        }.items():
+            self.put("fields.csv", told)
+            self.refused(f"fields.csv: {re.escape(why)}")
+        self.put("fields.csv", b"FILE,A\na.pdf,\xe9\n")
+        self.refused("fields.csv: it isn't UTF-8")
+
+    def test_a_batch_that_is_there(self):
+        self.page("a.pdf")
+        os.mkdir(os.path.join(self.room, "OUT"))
+        self.refused("OUT: it is there already")
+
+    def test_no_room_for_it(self):
+        self.page("a.pdf")
+        self.refused("none: No such file or directory", name="none/OUT")
+
+    def test_a_language_that_is_not_here(self):
+        shutil.copy(LETTER, self.path("a.tif"))
+        self.refused("tesseract: it can't read the language xyz: apt install tesseract-ocr-xyz", options=["--language", "eng+xyz"])
+
+    def test_a_program_that_is_not_here(self):
+        self.page("a.pdf")
+        ran = subprocess.run([sys.executable, MAKE, self.folder, os.path.join(self.room, "OUT")], capture_output=True, text=True,
+                             env={"PATH": "/nowhere"}, check=False)
+        self.assertEqual(ran.returncode, 1)
+        self.assertRegex(ran.stderr, "pdfinfo.*: needed to read them, and not here: apt install netpbm poppler-utils")
+
+    def test_words_that_are_no_command_line(self):
+        for options, name in (([], "a b"), ([], "x" * 33), (["--dpi", "5"], "OUT"), (["--prefix", "a,b"], "OUT"), (["--first", "x"], "OUT")):
+            self.assertEqual(self.call(*options, name=name).returncode, 2)
+
+    def test_ended_while_it_works(self):
+        for at in range(20):
+            shutil.copy(LETTER, self.path(f"{at}.tif"))
+        for number in (signal.SIGTERM, signal.SIGINT, signal.SIGHUP):
+            running = subprocess.Popen([MAKE, self.folder, os.path.join(self.room, "OUT"), "--jobs", "1"], stderr=subprocess.PIPE)
+            time.sleep(3)
+            running.send_signal(number)
+            running.communicate(timeout=60)
+            self.assertEqual(running.returncode, 128 + number)
+            self.assertEqual(os.listdir(self.room), ["in"])
+
+
+class Limits(unittest.TestCase):
+    """The limits are the program's."""
+
+    def test_same_numbers(self):
+        sys.path.insert(0, os.path.join(TOP, "tools"))
+        from batch import limits
+
+        for name, file in {
+            "MOST_DOCUMENTS": ("bp_matter/src/limits.rt", "MAX_DOCUMENTS"),
+            "MOST_PAGES": ("bp_matter/src/limits.rt", "MAX_PAGES"),
+            "MOST_PIXELS_IN_ALL": ("bp_matter/src/limits.rt", "MAX_PIXELS"),
+            "MOST_FIELDS": ("bp_matter/src/limits.rt", "MAX_FIELDS"),
+            "LONGEST_FILE": ("bp_import/src/files.rt", "FILE_LIMIT"),
+            "LONGEST_COLUMN": ("bp_import/src/columns.rt", "MAX_COLUMN"),
+        }.items():
+            with open(os.path.join(TOP, "crates", file[0]), encoding="utf-8") as source:
+                found = re.search(rf"{file[1]}: \w+ = ([0-9_]+);", source.read())
+            self.assertEqual(getattr(limits, name), int(found[1]), name)
+
+
+class Told(unittest.TextTestResult):
+    """Says at the end which tests were skipped, and why."""
+
+    def printErrors(self):
+        super().printErrors()
+        for test, why in self.skipped:
+            self.stream.writeln(f"make_batch.py: not tried: {test.id().split('.', 1)[1]}: {why}")
+
+
+def main():
+    missing = sorted({package for tool, package in NEEDED.items() if not shutil.which(tool)})
+    if missing:
+        print(f"make_batch.py: nothing is tried: not here: {', '.join(missing)}")
+        return
+    if not PROGRAM:
+        print("make_batch.py: the program is not built here, and takes no batch in")
+    unittest.main(testRunner=unittest.TextTestRunner(resultclass=Told))
+
+
+main()

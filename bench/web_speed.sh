@@ -43,7 +43,7 @@ def request(name, more):
 
 
 request("string", {"note": "x" * 1048480})
-request("members", {f"m{at:06}": at for at in range(58130)})
+request("members", {f"m{at:06}": at for at in range(66220)})
 END
 cp "$crate/data/request" "$scratch/usual"
 

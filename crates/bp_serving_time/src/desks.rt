@@ -4,7 +4,7 @@ ghost use Rattle.std.specs.Prelude.{◌<◌};
 use crate::files::page_of;
 use crate::rows::{reviewer, rows_of};
 use anyhow::{Result, bail};
-use bp_core::{DocNo, NumberList, OutOfMemory, Text, Treatment, ascends};
+use bp_core::{DocNo, NumberList, OutOfMemory, RowList, Text, Treatment, ascends};
 use bp_desk::{Book, DOOR_SEAT, MOST_CALLS, serve_one};
 use bp_keep::{Keeper, MemKeeper};
 use bp_matter::Call;
@@ -17,7 +17,7 @@ pub fn serve(rt: &HostRuntime, operands: &[String]) -> Result<u64> {
         bail!("FILE DOCS CONNECTIONS");
     };
     let connections = connections.parse::<u32>()?;
-    let mut book = book_of(rt, file.as_str(), docs.as_str())?;
+    let mut book = book_of(rt, file.as_str(), docs.parse::<u32>()?)?;
     let mut door = TcpDoor::of(rt, 1);
     serve_one(rt.alloc(), &mut book, &mut door, connections);
     Ok(count_of(book))
@@ -29,23 +29,24 @@ pub fn calls(rt: &HostRuntime, operands: &[String]) -> Result<u64> {
         bail!("FILE DOCS COUNT");
     };
     let count = count.parse::<u32>()?;
-    let mut book = book_of(rt, file.as_str(), docs.as_str())?;
-    call_times(rt.alloc(), &mut book, docs.parse::<u32>()?, count)?;
-    Ok(count_of(book))
+    let docs = docs.parse::<u32>()?;
+    count_calls(rt.alloc(), book_of(rt, file.as_str(), docs)?, docs, count)
 }
 
-fn book_of(rt: &HostRuntime, file: &str, docs: &str) -> Result<Book<MemKeeper>> {
-    let keeper = keeper_of(rt, file, docs.parse::<u32>()?)?;
+fn book_of(rt: &HostRuntime, file: &str, docs: u32) -> Result<Book<MemKeeper>> {
+    let keeper = keeper_of(rt.alloc(), rows_over(rt, file, docs)?)?;
     match Book::start(rt.alloc(), keeper, MOST_CALLS) {
         Ok(book) => Ok(book),
         Err(_) => bail!("the rows aren't read"),
     }
 }
 
-fn keeper_of(rt: &HostRuntime, file: &str, docs: u32) -> Result<MemKeeper> {
-    let alloc = rt.alloc();
-    let image = page_of(rt, alloc, file)?;
-    let rows = rows_of(alloc, &image, docs)?;
+fn rows_over(rt: &HostRuntime, file: &str, docs: u32) -> Result<RowList> {
+    let image = page_of(rt, rt.alloc(), file)?;
+    Ok(rows_of(rt.alloc(), &image, docs)?)
+}
+
+fn keeper_of(alloc: Global, rows: RowList) -> Result<MemKeeper> {
     if !ascends(rows.as_slice()) {
         bail!("the rows don't ascend");
     }
@@ -54,6 +55,15 @@ fn keeper_of(rt: &HostRuntime, file: &str, docs: u32) -> Result<MemKeeper> {
 
 fn count_of(book: Book<MemKeeper>) -> u64 {
     book.end().history.len() as u64
+}
+
+// How many calls the book has after these.
+fn count_calls(alloc: Global, book: Book<MemKeeper>, docs: u32, count: u32) -> Result<u64> {
+    let mut book = book;
+    let made = call_times(alloc, &mut book, docs, count);
+    let count = count_of(book);
+    made?;
+    Ok(count)
 }
 
 fn call_times<K: Keeper>(alloc: Global, book: &mut Book<K>, docs: u32, count: u32) -> Result<()> {

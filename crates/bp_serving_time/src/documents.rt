@@ -2,7 +2,7 @@
 // and the same as a value of JSON.
 use bp_core::{Basis, DocNo, ListOf, OutOfMemory, PageNo, Rect, StaffNo, Text, Treatment};
 use bp_matter::{BoxList, BoxRow, DocView, Entry, HeldList, HeldRow, State};
-use serde_json::{Value, json};
+use serde_json::{Map, Value, json, put};
 use std::alloc::{AllocError, Global};
 
 /// The document.
@@ -63,26 +63,50 @@ fn text(alloc: Global, characters: &str) -> Result<Text, OutOfMemory> {
 
 /// The value.
 pub fn value_of(alloc: Global) -> Result<Value, AllocError> {
-    let boxes = json!(in alloc; [box_value(alloc, 1, 460)?, box_value(alloc, 2, 950)?])?;
-    let held = json!(in alloc; [{"basis": "PI", "field": 1u64}])?;
-    let entry = json!(in alloc; {
+    let mut members = Map::new(alloc);
+    add_members(&mut members, alloc)?;
+    Ok(Value::Object(members))
+}
+
+fn add_members(members: &mut Map<String, Value>, alloc: Global) -> Result<(), AllocError> {
+    put(members, alloc, "boxes", boxes_value(alloc)?)?;
+    put(members, alloc, "confirmer", Value::from(3u64))?;
+    put(
+        members,
+        alloc,
+        "designation",
+        Value::try_from_str(alloc, "CONFIDENTIAL")?,
+    )?;
+    put(members, alloc, "doc", Value::from(5u64))?;
+    put(members, alloc, "editor", Value::from(2u64))?;
+    put(members, alloc, "entry", entry_value(alloc)?)?;
+    put(members, alloc, "held", held_value(alloc)?)?;
+    put(members, alloc, "pages", Value::from(3u64))?;
+    put(members, alloc, "parent", Value::from(4u64))?;
+    put(members, alloc, "responsive", Value::from(true))?;
+    put(
+        members,
+        alloc,
+        "treatment",
+        Value::try_from_str(alloc, "Redact")?,
+    )?;
+    Ok(())
+}
+
+fn boxes_value(alloc: Global) -> Result<Value, AllocError> {
+    json!(in alloc; [box_value(alloc, 1, 460)?, box_value(alloc, 2, 950)?])
+}
+
+fn held_value(alloc: Global) -> Result<Value, AllocError> {
+    json!(in alloc; [{"basis": "PI", "field": 1u64}])
+}
+
+fn entry_value(alloc: Global) -> Result<Value, AllocError> {
+    json!(in alloc; {
         "author": "Ng",
         "date": "2019-03-04",
         "description": "Letter asking counsel for advice on the lease",
         "recipients": "Ortiz, Berg"
-    })?;
-    json!(in alloc; {
-        "boxes": boxes,
-        "confirmer": 3u64,
-        "designation": "CONFIDENTIAL",
-        "doc": 5u64,
-        "editor": 2u64,
-        "entry": entry,
-        "held": held,
-        "pages": 3u64,
-        "parent": 4u64,
-        "responsive": true,
-        "treatment": "Redact"
     })
 }
 

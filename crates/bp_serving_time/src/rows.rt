@@ -16,35 +16,27 @@ pub fn reviewer() -> [u8; 32] {
 
 /// The rows of so many documents, with this image on each page.
 pub fn rows_of(alloc: Global, image: &Page, docs: u32) -> Result<RowList, OutOfMemory> {
-    let strip = code_page(alloc, image)?;
-    let page = page_body(alloc, image, strip.as_slice())?;
+    let page = page_of(alloc, image)?;
     let mut rows = Vec::new(alloc);
-    add_row(&mut rows, 1, 1, 0, staff_body(alloc, 2, &[1; 32], "lead")?)?;
-    add_row(
-        &mut rows,
-        1,
-        2,
-        0,
-        staff_body(alloc, 0, &reviewer(), "Ellis")?,
-    )?;
-    add_row(&mut rows, 2, 1, 0, field_body(alloc)?)?;
-    for doc in 1..=docs {
-        add_row(&mut rows, 3, doc, 0, doc_body(alloc, doc)?)?;
-    }
-    for doc in 1..=docs {
-        add_row(
-            &mut rows,
-            4,
-            doc,
-            1,
-            Vec::from_slice(alloc, page.as_slice())?,
-        )?;
-    }
-    add_row(&mut rows, 11, 1, 0, batch_body(alloc)?)?;
-    for doc in 1..=docs {
-        add_row(&mut rows, 12, doc, 1, words_body(alloc)?)?;
-    }
+    add_rows(&mut rows, alloc, page.as_slice(), docs)?;
     Ok(ListOf::from_vec(rows))
+}
+
+fn add_rows(rows: &mut Vec<Row>, alloc: Global, page: &[u8], docs: u32) -> Result<(), AllocError> {
+    add_row(rows, 1, 1, 0, staff_body(alloc, 2, &[1; 32], "lead")?)?;
+    add_row(rows, 1, 2, 0, staff_body(alloc, 0, &reviewer(), "Ellis")?)?;
+    add_row(rows, 2, 1, 0, field_body(alloc)?)?;
+    for doc in 1..=docs {
+        add_row(rows, 3, doc, 0, doc_body(alloc, doc)?)?;
+    }
+    for doc in 1..=docs {
+        add_row(rows, 4, doc, 1, Vec::from_slice(alloc, page)?)?;
+    }
+    add_row(rows, 11, 1, 0, batch_body(alloc)?)?;
+    for doc in 1..=docs {
+        add_row(rows, 12, doc, 1, words_body(alloc)?)?;
+    }
+    Ok(())
 }
 
 fn add_row(
@@ -92,6 +84,11 @@ fn doc_body(alloc: Global, doc: u32) -> Result<Vec<u8>, AllocError> {
 }
 
 // At 200 dots an inch.
+fn page_of(alloc: Global, image: &Page) -> Result<Vec<u8>, OutOfMemory> {
+    let strip = code_page(alloc, image)?;
+    Ok(page_body(alloc, image, strip.as_slice())?)
+}
+
 fn page_body(alloc: Global, image: &Page, strip: &[u8]) -> Result<Vec<u8>, AllocError> {
     let mut body = Vec::new(alloc);
     body.push(1)?;

@@ -57,7 +57,7 @@ fn document_once(alloc: Global) -> Result<u64> {
     let value = value_of(alloc)?;
     let body = value.to_vec(alloc)?;
     let phrase = phrase_of(200);
-    Ok(body.len() as u64 + phrase)
+    Ok(phrase.saturating_add(body.len() as u64))
 }
 
 fn phrase_of(status: u16) -> u64 {

@@ -29,7 +29,7 @@ MADE = {
     ("bp_web/src/router.rt", "add"): "matchit refused a route of the fixed table, which it does for want of memory",
 }
 
-NOT_PRODUCT = re.compile(r"^(bp_tests|bp_bench|bp_timing|bp_script|bp_day|bp_lines|bp_web_lines)")
+NOT_PRODUCT = re.compile(r"^(bp_tests|bp_bench|bp_timing|bp_serving_time|bp_script|bp_day|bp_lines|bp_web_lines)")
 MAKES = re.compile(r"\b(?:\w+::)?OutOfMemory\b|\bAllocError\b")
 # the word in a type, an import, a clause, a pattern
 NO_MAKING = re.compile(r"^\s*(?://|use |pub use |ghost |ensures|requires|invariant|#|OutOfMemory,|pub struct|pub type |impl|fn |pub fn |pub\(crate\) fn |law |\) -> )")

@@ -1,0 +1,105 @@
+// A desk over a made matter, kept in memory: served at its port, or called without HTTP.
+ghost use Rattle.std.specs.Prelude.{◌<◌};
+
+use crate::files::page_of;
+use crate::rows::{reviewer, rows_of};
+use anyhow::{Result, bail};
+use bp_core::{DocNo, NumberList, OutOfMemory, RowList, Text, Treatment, ascends};
+use bp_desk::{Book, DOOR_SEAT, MOST_CALLS, serve_one};
+use bp_keep::{Keeper, MemKeeper};
+use bp_matter::Call;
+use bp_outside::TcpDoor;
+use std::alloc::Global;
+
+/// Serves so many connections at the port of desk 1; how many calls were made.
+pub fn serve(rt: &HostRuntime, operands: &[String]) -> Result<u64> {
+    let [file, docs, connections] = operands else {
+        bail!("FILE DOCS CONNECTIONS");
+    };
+    let connections = connections.parse::<u32>()?;
+    let mut book = book_of(rt, file.as_str(), docs.parse::<u32>()?)?;
+    let mut door = TcpDoor::of(rt, 1);
+    serve_one(rt.alloc(), &mut book, &mut door, connections);
+    Ok(count_of(book))
+}
+
+/// Makes so many calls, those that a client would ask for; how many were made.
+pub fn calls(rt: &HostRuntime, operands: &[String]) -> Result<u64> {
+    let [file, docs, count] = operands else {
+        bail!("FILE DOCS COUNT");
+    };
+    let count = count.parse::<u32>()?;
+    let docs = docs.parse::<u32>()?;
+    count_calls(rt.alloc(), book_of(rt, file.as_str(), docs)?, docs, count)
+}
+
+fn book_of(rt: &HostRuntime, file: &str, docs: u32) -> Result<Book<MemKeeper>> {
+    let keeper = keeper_of(rt.alloc(), rows_over(rt, file, docs)?)?;
+    match Book::start(rt.alloc(), keeper, MOST_CALLS) {
+        Ok(book) => Ok(book),
+        Err(_) => bail!("the rows aren't read"),
+    }
+}
+
+fn rows_over(rt: &HostRuntime, file: &str, docs: u32) -> Result<RowList> {
+    let image = page_of(rt, rt.alloc(), file)?;
+    Ok(rows_of(rt.alloc(), &image, docs)?)
+}
+
+fn keeper_of(alloc: Global, rows: RowList) -> Result<MemKeeper> {
+    if !ascends(rows.as_slice()) {
+        bail!("the rows don't ascend");
+    }
+    Ok(MemKeeper::over(rows, NumberList::new(alloc)))
+}
+
+fn count_of(book: Book<MemKeeper>) -> u64 {
+    book.end().history.len() as u64
+}
+
+// How many calls the book has after these.
+fn count_calls(alloc: Global, book: Book<MemKeeper>, docs: u32, count: u32) -> Result<u64> {
+    let mut book = book;
+    let made = call_times(alloc, &mut book, docs, count);
+    let count = count_of(book);
+    made?;
+    Ok(count)
+}
+
+fn call_times<K: Keeper>(alloc: Global, book: &mut Book<K>, docs: u32, count: u32) -> Result<()> {
+    let key = reviewer();
+    for turn in 0..count {
+        let call = call_of(alloc, turn, docs.max(1))?;
+        call_once(alloc, book, &key, &call)?;
+    }
+    Ok(())
+}
+
+fn call_once<K: Keeper>(
+    alloc: Global,
+    book: &mut Book<K>,
+    key: &[u8; 32],
+    call: &Call,
+) -> Result<()> {
+    match book.call(alloc, DOOR_SEAT, key, call) {
+        Ok(_) => Ok(()),
+        Err(refusal) => bail!("a call is refused: {refusal}"),
+    }
+}
+
+// The call of a turn. Each time that all documents had their turn, they get another designation.
+fn call_of(alloc: Global, turn: u32, docs: u32) -> Result<Call, OutOfMemory>
+    requires { 0 < docs }
+{
+    let word = if turn / docs % 2 == 0 {
+        "CONFIDENTIAL A"
+    } else {
+        "CONFIDENTIAL B"
+    };
+    Ok(Call::SetCall {
+        doc: DocNo((turn % docs).wrapping_add(1)),
+        responsive: true,
+        treatment: Treatment::Redact,
+        designation: Text::from_string(String::from_str(alloc, word)?),
+    })
+}

@@ -23,7 +23,7 @@ Tivrenan makes the volume that a law office hands over. Run it from here as bin/
 
 share/doc/tivrenan/README.md says what it does and what is promised of it. To try it:
 
-    mkdir /tmp/trial && cd /tmp/trial
+    mkdir trial && cd trial
     cp TIVRENAN/share/doc/tivrenan/examples/letter.tif .
     TIVRENAN/bin/tivrenan burn letter.tif 320 1755 1910 370 redacted.tif g4
 

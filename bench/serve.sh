@@ -100,9 +100,13 @@ added=$(curl -s --retry 20 --retry-connrefused --retry-delay 1 -H 'Desk-Key: the
 [ "$added" = '{"staff":2}' ] || stop "no reviewer is added: $added"
 wait "$desk" || stop "the desk ended with $?"
 desk=
-cp "$room/matter.db" "$room/peer.db"
+cp "$room/matter.db" "$scratch/first.db"
 for _ in $(seq "$rounds"); do
     cd "$room"
+    # a row that is put as it stands already isn't written
+    rm -f peer.db peer.db-wal peer.db-shm
+    cp "$scratch/first.db" peer.db
+    sync
     served "$scratch/kept" "$commits" "$scratch/call" 12 - "$program" serve 1 $((commits + 1))
     alone "$scratch/commits" 1 $((commits + 1)) "$scratch/keep_peer" commit "$room/peer.db" small 1
 done

@@ -1,5 +1,5 @@
 -- Worked examples of a step, each run by the check: the roles, one document of one page under review, and what is refused.
-use Rattle.std.proofs.Common.{◌≡◌, ℕ, true, false, List, [], ◌∷◌, None, refl, replicate}
+use Rattle.std.proofs.Common.{◌≡◌, ℕ, true, false, List, [], ◌∷◌, Some, None, refl, replicate}
 use Rattle.std.specs.Prelude.{codes, Ok, Err}
 use Rattle.bp_core.specs.Rules.{bare_rule}
 use Rattle.bp_core.specs.declared.review.Basis.{Basis}
@@ -11,6 +11,7 @@ use Rattle.bp_core.specs.declared.review.Treatment.TheVariants.{Produce, Redact,
 use Rattle.bp_core.specs.declared.rules.RuleKind.TheVariants as kinds
 use Rattle.bp_rows.specs.Image.{Image, white_image}
 use Rattle.bp_rows.specs.declared.resolution.Unit.TheVariants.{Inch}
+use Rattle.bp_matter.specs.KeptRows.{box_kept, call_kept}
 use Rattle.bp_matter.specs.Matter.{Matter}
 use Rattle.bp_matter.specs.declared.calls.Call.{Call}
 use Rattle.bp_matter.specs.declared.calls.Call.TheVariants.{AddStaff, Confirm, DropBox, FreeField, HoldField, PutBox, PutEntry, SeeDoc, SeePage, SendBack, SetCall}
@@ -24,8 +25,12 @@ use Rattle.bp_matter.specs.declared.rows.State.TheVariants.{Confirmed, First, Un
 use Rattle.bp_rules.specs.Limits.{full_rule}
 use Rattle.bp_rules.specs.Refusing.{no_document, no_page, staff_there}
 use Rattle.bp_rules.specs.Roles.{may}
-use Rattle.bp_rules.specs.Running.{run_of}
+use Rattle.bp_rules.specs.Running.{AreChanges, ChangesPut, put_changes, run_of}
 use Rattle.bp_rules.specs.Stepping.{done, step_of, told}
+use Rattle.bp_rules.specs.declared.changes.CallEdit.TheVariants as call_edits
+use Rattle.bp_rules.specs.declared.changes.Edit.{Edit}
+use Rattle.bp_rules.specs.declared.changes.Edit.TheVariants.{Nothing, Review}
+use Rattle.bp_rules.specs.declared.changes.MarkEdit.TheVariants as mark_edits
 use Rattle.bp_rules.specs.declared.histories.RunStep.{RunStep}
 use Rattle.bp_rules.specs.declared.histories.RunStep.TheVariants as asks
 
@@ -355,3 +360,35 @@ uncalled_seen = refl
 reviewed : run_of begun (by 2 (call_of 1 Redact) ∷ by 2 (box_of 1 8 1 Ac) ∷ by 2 confirm_it ∷ by 3 confirm_it ∷ by 2 entry_of ∷ by 3 confirm_it ∷ []) ≡ confirmed
 unfolding step_of lib.Utf8.encode
 reviewed = refl
+
+-- ---- what a run puts
+
+-- a call of a document, and the box that is put by the same person
+abbrev put_call : Edit
+put_call = Review (call_edits.Put (call_row Redact (first 2))) mark_edits.Stays
+
+abbrev put_box : Edit
+put_box = Review (call_edits.Put (call_row Redact (first 2))) (mark_edits.PutBox (box_row Ac))
+
+abbrev drop_box : Edit
+drop_box = Review (call_edits.Put (call_row Redact (first 2))) (mark_edits.DropBox (record { 0 = 1 }) 1)
+
+-- one change each; the call of a key that nobody has is refused, and changes nothing
+changed : AreChanges begun (by 2 (call_of 1 Redact) ∷ by 9 confirm_it ∷ by 2 (box_of 1 8 1 Ac) ∷ []) (put_call ∷ Nothing ∷ put_box ∷ [])
+unfolding step_of lib.Utf8.encode
+changed = ((refl, λ broken. absurd cc), (refl, λ broken. refl), (refl, λ broken. absurd cc), refl)
+
+-- the call's row is put twice and stands once, before the box's
+put_in_turn : put_changes (put_call ∷ Nothing ∷ put_box ∷ []) [] ≡ call_kept (call_row Redact (first 2)) ∷ box_kept (box_row Ac) ∷ []
+put_in_turn = refl
+
+-- a box that goes leaves no row
+put_and_gone : put_changes (put_box ∷ drop_box ∷ []) [] ≡ call_kept (call_row Redact (first 2)) ∷ []
+put_and_gone = refl
+
+-- rows that are told are those; rows that aren't told say nothing
+rows_told : ChangesPut (Some []) (put_call ∷ Nothing ∷ []) (Some (call_kept (call_row Redact (first 2)) ∷ []))
+rows_told = refl
+
+rows_untold : ChangesPut (Some []) (put_call ∷ []) None
+rows_untold = tt

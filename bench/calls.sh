@@ -49,4 +49,4 @@ for mix in reviews boxes moves fields entries; do compare scattered_calls "$mix"
 see=$(call_of see "$letter" 40 2000)
 copy=$(call_of page_copies "$letter" 40 2000)
 awk -v see="$see" -v copy="$copy" 'BEGIN {
-    printf "SeePage of a letter page %.3f ms, a copy of its bytes %.3f ms, %.2f times\n", 1000 * see, 1000 * copy, see / copy }'
+    printf "SeePage of a letter page %.3f ms, reading its strip %.3f ms, %.2f times\n", 1000 * see, 1000 * copy, see / copy }'

@@ -3,7 +3,7 @@
 // desks in turn, each of which goes through its part of the matter in order; those of
 // `scattered_calls DOCS BOXES MIX COUNT` go from document to document across the matter.
 // `call_rows DOCS BOXES MIX COUNT` also counts the rows that `calls` changes. `see FILE DOCS COUNT`
-// asks for the pages of a matter, and `page_copies FILE DOCS COUNT` copies their bytes alone.
+// asks for the pages of a matter, and `page_copies FILE DOCS COUNT` reads them from their strips alone.
 use crate::made::{FIELD, Shape, page_of, small_page};
 use crate::office::{Office, REVIEWER, SECOND, called, pixel};
 use anyhow::{Result, bail};
@@ -347,13 +347,13 @@ impl Office {
         image_byte(&reply)
     }
 
-    // Copies the bytes of a page: its last byte.
+    // Reads a page from its strip: its last byte.
     fn copy_page(&self, place: usize) -> Result<u64> {
         let Some(row) = self.tables.pages.get(place) else {
             bail!("there is no page");
         };
-        let copy = Vec::from_slice(self.alloc, row.image.page().strip())?;
-        Ok(last_byte(copy.as_slice()))
+        let copy = row.image.page(self.alloc)?;
+        Ok(last_byte(copy.strip()))
     }
 }
 

@@ -138,14 +138,14 @@ fn digest_and_put<F: Folder>(
 // The page file of a page with these boxes, under its label and the designation.
 fn file_of(alloc: Global, row: &PageRow, boxes: &StampList, designation: &Text) -> Result<Bytes> {
     let label = Text::from_string(format!(in alloc; "ABC{:08}", row.doc.0)?);
-    let page = row.image.page();
+    let page = row.image.page(alloc)?;
     if !import_sides(page.width(), page.height()) {
         bail!("the page is too large");
     }
     if !has_glyphs(&label) || !has_glyphs(designation) {
         bail!("a text can't be drawn");
     }
-    let image = produced(alloc, Ink::Black, page, boxes, &label, designation)?;
+    let image = produced(alloc, Ink::Black, &page, boxes, &label, designation)?;
     Ok(write_tiff(alloc, Form::G4, &image)?)
 }
 

@@ -229,7 +229,7 @@ fn doc_text(alloc: Global, doc: &BatchDoc) -> Result<String> {
 
 // Width, height and words of a page.
 fn page_text(alloc: Global, page: &BatchPage) -> Result<String> {
-    let (width, height) = (page.page.page().width(), page.page.page().height());
+    let (width, height) = (page.page.width(), page.page.height());
     let mut text = format!(in alloc; " ({width} {height}")?;
     for word in page.words.as_slice() {
         let word = escaped(alloc, word.text.as_str())?;

@@ -3,6 +3,7 @@
 //     lead                  the digest of the lead's key
 //     documents             how many documents there are
 //     lookup DOC            how many pages a document has, its state, and how many boxes
+//     kept DOC PAGE         the strip that a page is kept as, in hex
 //     production ID         what was asked, and how many items there are with which numbers
 //     item ID DOC           an item, whole
 //     log ID                the log of a production
@@ -21,6 +22,7 @@ pub fn told(day: &Day, verb: &str, words: &mut Words) -> Option<Result<String>> 
         "lead" => Some(lead(day)),
         "documents" => Some(documents(day)),
         "lookup" => Some(lookup(day, words)),
+        "kept" => Some(kept(day, words)),
         "production" => Some(production(day, words)),
         "item" => Some(item(day, words)),
         "log" => Some(log(day, words)),
@@ -52,6 +54,18 @@ fn lookup(day: &Day, words: &mut Words) -> Result<String> {
             Ok(text)
         }
         _ => constant(day.alloc, "none"),
+    }
+}
+
+fn kept(day: &Day, words: &mut Words) -> Result<String> {
+    let doc = words.doc();
+    let page = words.page();
+    if !words.is_read() {
+        return unread(day.alloc);
+    }
+    match day.tables.kept(doc, page) {
+        Some(page) => Ok(hex::encode(day.alloc, page.strip())?),
+        None => constant(day.alloc, "none"),
     }
 }
 

@@ -10,7 +10,7 @@ ghost use Rattle.bp_import.specs.WordPages.{are_places, places_of};
 use crate::records::Record;
 use crate::scans::PageList;
 use bp_core::{ListOf, OutOfMemory};
-use bp_matter::{BatchDoc, BatchDocList, BatchPage, SharedPage};
+use bp_matter::{BatchDoc, BatchDocList, BatchPage};
 use bp_text::{Word, WordRows};
 use std::alloc::Global;
 
@@ -68,9 +68,8 @@ pub(crate) fn pages_with_words(
         let Some(words) = lists.pop() else {
             break;
         };
-        let shared = SharedPage::new(alloc, page)?;
         made.push(BatchPage {
-            page: shared,
+            page,
             words: ListOf::from_vec(words),
         })?;
     }

@@ -10,19 +10,20 @@ use crate::files::{IMAGE, path_below, read_file};
 use crate::refusals::ImportRefusal;
 use bp_core::{ListOf, Refusal, Rule, RuleKind, Text, path_of};
 use bp_load::OptLine;
+use bp_matter::KeptPage;
 use bp_outside::Source;
 use bp_rows::{Page, import_sides};
 use bp_tiff::read_tiff;
 use std::alloc::Global;
 
-/// A list of pages.
-pub(crate) type PageList = ListOf<Page>;
+/// A list of pages, kept as their strips.
+pub(crate) type PageList = ListOf<KeptPage>;
 
 /// An image file and the page in it.
 #[derive(Drop)]
 pub(crate) struct ScanFile {
     pub(crate) bytes: Vec<u8>,
-    pub(crate) page: Page,
+    pub(crate) page: KeptPage,
 }
 
 /// The image that line `number` of the OPT file names, below the folder `name`. PathRefused, what
@@ -44,7 +45,7 @@ pub(crate) fn read_image<S: Source>(
 {
     let path = image_path(alloc, name, line, number)?;
     let bytes = read_file(alloc, source, &path, IMAGE, number)?;
-    let page = read_page(alloc, &bytes, number)?;
+    let page = keep_page(alloc, &bytes, number)?;
     Ok(ScanFile { bytes, page })
 }
 
@@ -121,6 +122,16 @@ fn at_line(refusal: Refusal, number: u32) -> ImportRefusal
         }),
         Refusal::OutOfMemory => ImportRefusal::OutOfMemory,
     }
+}
+
+// The page of the bytes at line `number`, kept as its strip. Its pixels are let go.
+fn keep_page(alloc: Global, bytes: &[u8], number: u32) -> Result<KeptPage, ImportRefusal>
+    ensures answer { Comes (λ page. scan_with bytes.now page) (BytesAnswer number bytes.now) result }
+    ensures fits { IfOk result (λ page. IsTrue (comes_in page)) }
+    ensures calm { IfErr result IsCalm }
+{
+    let page = read_page(alloc, bytes, number)?;
+    Ok(KeptPage::of(alloc, &page)?)
 }
 
 // The page of the bytes at line `number`.

@@ -8,7 +8,7 @@ ghost use Rattle.bp_import.specs.WordPages.{GivesInside, are_places, places_of};
 
 use crate::breaks::Places;
 use bp_core::{Refusal, Rule, RuleKind, Text};
-use bp_rows::Page;
+use bp_matter::KeptPage;
 use bp_text::WordRow;
 use std::alloc::Global;
 
@@ -44,7 +44,11 @@ fn place_of(places: &Places<'_>, image: &Text) -> Option<usize>
 
 /// Tests that each word lies inside its page, at its place among the pages. WordOutside with the
 /// number of the first record, from 1, whose word doesn't.
-pub(crate) fn words_inside(rows: &[WordRow], places: &[usize], pages: &[Page]) -> Result<(), Rule>
+pub(crate) fn words_inside(
+    rows: &[WordRow],
+    places: &[usize],
+    pages: &[KeptPage],
+) -> Result<(), Rule>
     requires few { length rows.now < 2 ^ 32 }
     requires even { length places.now ≡ length rows.now }
     requires placed { IsTrue (are_places (length pages.now) places.now) }

@@ -1,13 +1,18 @@
--- The image of a page in its kept row: sides, resolutions, unit, and its T.6 strip.
-use Rattle.std.specs.Prelude.{ℕ, zero, suc, Bool, true, false, List, [], ◌∷◌, ◌++◌, length, map, ◌==◌, ◌&&◌, Option, None, if◌then◌else◌}
+-- The image of a page as it is kept: sides, resolutions, unit, and its T.6 strip.
+use Rattle.std.specs.Prelude.{◌≡◌, ℕ, zero, suc, Bool, true, false, List, [], ◌∷◌, ◌++◌, length, map, ◌==◌, ◌&&◌, Option, Some, None, unwrap_or, if◌then◌else◌}
 use Rattle.std.specs.List.{find, list_all}
 use Rattle.std.specs.Str.{bytes_eq}
-use Rattle.bp_rows.specs.Image.{Image}
+use Rattle.bp_codes.specs.declared.span.Fill.TheVariants.{High}
+use Rattle.bp_codes.specs.Bits.{bits_of}
+use Rattle.bp_rows.specs.Image.{Image, IsGrid, IsPage}
 use Rattle.bp_rows.specs.Limits.{sides_are_allowed}
 use Rattle.bp_rows.specs.declared.resolution.Unit.{Unit as LengthUnit}
 use Rattle.bp_rows.specs.declared.resolution.Unit.TheVariants as units
+use Rattle.bp_t6.specs.Read.{StripReads}
+use Rattle.bp_t6.specs.SoFar.{AddedSoFar, HasAdded, HasRead, ReadSoFar}
 use Rattle.bp_t6.specs.Strips.{page_of as plain_image}
 use Rattle.bp_t6.specs.Written.{strip_of}
+use Rattle.bp_matter.specs.declared.kept_page.Frame.{Frame}
 
 -- its strip: the rows coded, the end of the facsimile block and zero bits to the byte (ITU-T T.6,
 -- 2.2.4)
@@ -56,3 +61,52 @@ unfoldable pub lines_of : ℕ → ℕ → List ℕ → Option (List (List Bool))
 lines_of width height bytes =
     if sides_are_allowed width height
     then find (is_strip width height bytes) (all_lines width height) else None
+
+-- ---- a page that is kept as its strip
+
+-- the page of these rows in a frame
+abbrev pub in_frame : Frame → List (List Bool) → Image
+in_frame frame rows = record {
+  width = frame.width;
+  height = frame.height;
+  xres = frame.xres;
+  yres = frame.yres;
+  unit = frame.unit;
+  rows = rows;
+}
+
+-- the page in a frame whose strip these bytes are; it has no rows where they are the strip of none
+abbrev pub image_kept : Frame → List ℕ → Image
+image_kept frame bytes = in_frame frame (unwrap_or (lines_of frame.width frame.height bytes) [])
+
+-- what is kept of a page is its strip
+pub record IsKept (p : Image) (bytes : List ℕ) : Type 0 where
+  pub page : IsPage p
+  pub strip : bytes ≡ strip_of p
+
+-- ---- the steps of a check
+
+-- lines of these sides that are read from the bytes, and the strip that they have
+pub record CodesOf (width height : ℕ) (bytes written : List ℕ) : Type 0 where
+  pub lines : List (List Bool)
+  pub grid : IsGrid width height lines
+  pub reads : StripReads (bits_of High bytes) width height lines
+  pub codes : written ≡ strip_of (plain_image width height lines)
+
+-- the strip of the lines that are read from the bytes, or that none are
+abbrev pub CodedAgain : ℕ → ℕ → List ℕ → Option (List ℕ) → Type 0
+CodedAgain width height bytes None =
+    (lines : List (List Bool)) → StripReads (bits_of High bytes) width height lines → ⊥
+CodedAgain width height bytes (Some written) = CodesOf width height bytes written
+
+-- what is known after so many rows: they were read from the bytes, and added
+pub record CodingAgain (width : ℕ) (bytes : List ℕ) (row : ℕ) (reader : ReadSoFar)
+    (writer : AddedSoFar) : Type 0 where
+  pub lines : List (List Bool)
+  pub count : length lines ≡ row
+  pub bits : reader.bits ≡ bits_of High bytes
+  pub wide : reader.width ≡ width
+  pub fault : reader.fault ≡ None
+  pub read : HasRead reader lines
+  pub same : writer.width ≡ width
+  pub added : HasAdded writer lines

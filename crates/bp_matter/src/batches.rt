@@ -1,7 +1,7 @@
 // What an import reads, before it becomes rows of a matter.
 ghost use Rattle.bp_matter.specs.Batches.{IsBatch};
 
-use crate::shared_page::SharedPage;
+use crate::kept_page::KeptPage;
 use bp_core::{ListOf, Text, TextList};
 use bp_text::WordList;
 use std::marker::Model;
@@ -13,7 +13,7 @@ pub type BatchPageList = ListOf<BatchPage>;
 /// A page that comes in, and its words.
 #[derive(Debug, Drop)]
 pub struct BatchPage {
-    pub page: SharedPage,
+    pub page: KeptPage,
     pub words: WordList,
 }
 

@@ -1,60 +1,70 @@
-// The image of a page from its kept strip, and back. A strip is that of a page exactly where the page
-// that is read from it has it again: other spellings of T.6 are read, but not kept.
-ghost use Rattle.std.specs.Prelude.{◌≡◌, ◌++◌, IfOk, OnOk};
+// Whether bytes are the strip of a page. They are exactly where the rows that are read from them have
+// it again: other spellings of T.6 are read, but not kept.
+ghost use Rattle.std.specs.Prelude.{◌≡◌, ◌<◌, ◌^◌, IfOk, IsTrue, is_some, length};
 ghost use Rattle.std.specs.Str.{bytes_eq};
-ghost use Rattle.bp_matter.specs.Images.{lines_of, strip};
-ghost use Rattle.bp_matter.specs.Reading.{Gives};
+ghost use Rattle.bp_rows.specs.Limits.{sides_are_allowed};
+ghost use Rattle.bp_matter.specs.Images.{CodedAgain, lines_of};
 
-use crate::read_fault::ReadFault;
 use bp_codes::Fill;
-use bp_core::{OutOfMemory, Refusal};
-use bp_rows::Page;
-use bp_t6::laws::{strip_law, strip_size};
-use bp_t6::{code_page, read_strip};
+use bp_core::{Bytes, OutOfMemory, Refusal};
+use bp_rows::allowed_sides;
+use bp_t6::laws::{reading_law, rows_law, strip_law, strip_size};
+use bp_t6::{StripRows, StripWriter};
 use std::alloc::Global;
 
-// The page of these sides, in pixels, whose strip these bytes are, at 200 by 200 dots an inch.
-pub(crate) fn read_image(
+// Whether these bytes are the strip of some page of these sides, in pixels. Each row is read and coded
+// again, so the check holds two rows and one strip beside the bytes.
+pub(crate) fn is_strip(
     alloc: Global,
     width: u32,
     height: u32,
     bytes: &[u8],
-) -> Result<Page, ReadFault>
-    ensures lines { Gives (λ p. p.rows) result (lines_of width height bytes.now) }
-    ensures width { IfOk result (λ p. p.width ≡ width) }
-    ensures height { IfOk result (λ p. p.height ≡ height) }
+) -> Result<bool, OutOfMemory>
+    ensures { IfOk result (λ is. is ≡ is_some (lines_of width height bytes.now)) }
 {
     strip_law();
     strip_size();
+    if !allowed_sides(width, height) {
+        return Ok(false);
+    }
     if bytes.len() > 4_294_967_295 {
-        return Err(ReadFault::Malformed);
+        return Ok(false);
     }
-    let page = match read_strip(alloc, bytes, Fill::High, width, height) {
-        Ok(page) => page,
-        Err(Refusal::Rule(_)) => return Err(ReadFault::Malformed),
-        Err(Refusal::OutOfMemory) => return Err(ReadFault::OutOfMemory),
-    };
-    let _width = page.width();
-    let written = code_page(alloc, &page)?;
-    if is_same(written.as_slice(), bytes) {
-        Ok(page)
-    } else {
-        Err(ReadFault::Malformed)
+    match coded_again(alloc, width, height, bytes)? {
+        None => Ok(false),
+        Some(written) => Ok(is_same(written.as_slice(), bytes)),
     }
+}
+
+// The strip of the rows that are read from these bytes; None where they break a rule of T.6.
+fn coded_again(
+    alloc: Global,
+    width: u32,
+    height: u32,
+    bytes: &[u8],
+) -> Result<Option<Bytes>, OutOfMemory>
+    requires sides { IsTrue (sides_are_allowed width height) }
+    requires short { length bytes.now < 2 ^ 32 }
+    ensures { IfOk result (CodedAgain width height bytes.now) }
+{
+    reading_law();
+    rows_law();
+    let mut rows = StripRows::over(alloc, bytes, Fill::High, width)?;
+    let mut writer = StripWriter::start(alloc, width)?;
+    for _row in 0..height {
+        match rows.next_row() {
+            Ok(()) => {}
+            Err(Refusal::OutOfMemory) => return Err(OutOfMemory),
+            Err(Refusal::Rule(_)) => return Ok(None),
+        }
+        writer.add_read(&rows)?;
+    }
+    let written = writer.finish(alloc)?;
+    Ok(Some(written))
 }
 
 fn is_same(written: &[u8], bytes: &[u8]) -> bool
     ensures { result ≡ bytes_eq written.now bytes.now }
 {
     written == bytes
-}
-
-// Adds the strip of a page.
-#[tactic(auto, unfolding(crate::specs::Images::strip))]
-pub(crate) fn put_strip(alloc: Global, out: &mut Vec<u8>, page: &Page) -> Result<(), OutOfMemory>
-    ensures { OnOk result (out.new.items ≡ out.old.items ++ strip page.now) }
-{
-    let bytes = code_page(alloc, page)?;
-    out.extend_from_slice(bytes.as_slice())?;
-    Ok(())
 }

@@ -189,7 +189,7 @@ impl Kind for PageRow {
 
     fn keep(&self, alloc: Global) -> Result<Row, OutOfMemory> {
         let mut body = Vec::new(alloc);
-        put_page_body(alloc, &mut body, self)?;
+        put_page_body(&mut body, self)?;
         Ok(Row {
             kind: 4,
             k1: self.doc.0,

@@ -12,6 +12,7 @@ mod calls;
 mod checking;
 mod copies;
 mod images;
+mod kept_page;
 mod kept_tables;
 mod kinds;
 pub mod laws;
@@ -24,7 +25,6 @@ mod parts;
 mod read_fault;
 mod reading;
 mod rows;
-mod shared_page;
 mod tables;
 pub mod texts;
 pub mod treatments;
@@ -35,6 +35,7 @@ pub use calls::{Call, DocView, Reply};
 pub use checking::confirming::confirm_rule;
 pub use checking::entries::entry_fits;
 pub use checking::items::optional_fits;
+pub use kept_page::{Frame, KeptPage};
 pub use kept_tables::read_tables;
 pub use kinds::Kind;
 pub use limits::{
@@ -47,5 +48,4 @@ pub use rows::{
     HeldRow, Item, ItemList, PageList, PageRow, PageWords, PageWordsList, PrefixList, PrefixRow,
     Production, ProductionList, ProductionRow, Request, StaffList, StaffRow, State,
 };
-pub use shared_page::SharedPage;
 pub use tables::Tables;

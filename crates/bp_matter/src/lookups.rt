@@ -6,6 +6,7 @@ ghost use Rattle.bp_matter.specs.Confirming.{boxes_on, held_on};
 ghost use Rattle.bp_matter.specs.LookUps.{call_with, called_state, doc_with, entry_with, field_with, lead_digest_in, of_row, page_with, prefix_with, production_with, staff_with, state_of_doc, words_with};
 ghost use Rattle.bp_matter.specs.ValidRows.{is_numbered};
 
+use crate::kept_page::KeptPage;
 use crate::marks::{boxes_of, held_of};
 use crate::rows::{
     CallRow, DocBox, DocEntry, DocHeld, DocRow, FieldRow, PageRow, PageWords, PrefixRow,
@@ -81,6 +82,17 @@ impl Tables {
         ensures { option_copied result ≡ page_with doc.0 page.0 self.now.matter }
     {
         find_row(&self.pages, two_keys(doc.0, page.0))
+    }
+
+    /// A page of a document, as it is kept.
+    pub fn kept(&self, doc: DocNo, page: PageNo) -> Option<&KeptPage>
+        ensures { option_copied result
+            ≡ of_row (λ row. row.image) (page_with doc.0 page.0 self.now.matter) }
+    {
+        match self.page_with(doc, page) {
+            Some(row) => Some(&row.image),
+            None => None,
+        }
     }
 
     /// The words of a page of a document.

@@ -3,17 +3,16 @@ ghost use Rattle.std.specs.Prelude.{◌≡◌, ◌<◌, ◌≤◌, ◌^◌, leng
 ghost use Rattle.bp_matter.specs.Written.{span_of, first_number, last_number};
 ghost use Rattle.bp_matter.specs.Reading.{Gives, u8_at, u32_at, u64_at, text_at, characters_at, value_of, one_of, flag_of, basis_of, treatment_of, state_at, state_of, role_of, bytes_at, many_at, list_at, value_there, optional_at, rect_at, span_at, prefix_at, entry_fields_at, box_rest_at, box_part_at, held_part_at, word_part_at, item_at, request_at, unit_of, image_at, staff_at, field_at, doc_at, page_at, call_at, box_at, held_at, entry_at, prefix_row_at, production_at, batch_at, words_at};
 
-use crate::images::read_image;
+use crate::kept_page::{Frame, KeptPage};
 use crate::parts::Part;
 use crate::read_fault::ReadFault;
 use crate::rows::{
     BatchRow, BoxRow, CallRow, DocBox, DocEntry, DocHeld, DocRow, Entry, FieldRow, HeldRow, Item,
     PageRow, PageWords, PrefixRow, Production, ProductionRow, Request, StaffRow, State,
 };
-use crate::shared_page::SharedPage;
 use bp_bates::{Prefix, Span};
 use bp_core::{Basis, DocNo, ListOf, OutOfMemory, PageNo, Rect, Role, StaffNo, Text, Treatment};
-use bp_rows::{Page, Res, Unit};
+use bp_rows::{Res, Unit};
 use bp_text::Word;
 use std::alloc::{AllocError, Global};
 
@@ -423,7 +422,7 @@ fn take_unit(bytes: &[u8]) -> Result<(Unit, &[u8]), ReadFault>
 }
 
 #[tactic(auto, unfolding(crate::specs::Reading::image_at))]
-fn take_image(alloc: Global, bytes: &[u8]) -> Result<Page, ReadFault>
+fn take_image(alloc: Global, bytes: &[u8]) -> Result<KeptPage, ReadFault>
     ensures { Gives (λ x. x) result (image_at bytes.now) }
 {
     let (width, rest) = take_u32(bytes)?;
@@ -433,16 +432,20 @@ fn take_image(alloc: Global, bytes: &[u8]) -> Result<Page, ReadFault>
     let (yres_num, rest) = take_u32(rest)?;
     let (yres_den, rest) = take_u32(rest)?;
     let (unit, rest) = take_unit(rest)?;
-    let page = read_image(alloc, width, height, rest)?;
-    let xres = Res {
-        num: xres_num,
-        den: xres_den,
+    let frame = Frame {
+        width,
+        height,
+        xres: Res {
+            num: xres_num,
+            den: xres_den,
+        },
+        yres: Res {
+            num: yres_num,
+            den: yres_den,
+        },
+        unit,
     };
-    let yres = Res {
-        num: yres_num,
-        den: yres_den,
-    };
-    Ok(page.with_resolutions(xres, yres, unit))
+    KeptPage::read(alloc, frame, rest)
 }
 
 #[tactic(auto, unfolding(crate::specs::Reading::page_at))]
@@ -459,7 +462,7 @@ pub(crate) fn take_page(
     Ok(PageRow {
         doc: DocNo(doc),
         page: PageNo(page),
-        image: SharedPage::new(alloc, image)?,
+        image,
     })
 }
 

@@ -1,5 +1,5 @@
 // The rows of the tables.
-use crate::shared_page::SharedPage;
+use crate::kept_page::KeptPage;
 use bp_bates::{Prefix, Span};
 use bp_core::{
     Basis, DocNo, Keyed, ListOf, PageNo, Rect, Role, StaffNo, Text, TextList, Treatment, two_keys,
@@ -74,12 +74,12 @@ pub struct DocRow {
     pub values: TextList,
 }
 
-/// A page of a document.
+/// A page of a document, kept as its strip.
 #[derive(Debug, Drop)]
 pub struct PageRow {
     pub doc: DocNo,
     pub page: PageNo,
-    pub image: SharedPage,
+    pub image: KeptPage,
 }
 
 /// How far the review of a document has come.

@@ -7,7 +7,7 @@ ghost use Rattle.bp_matter.specs.Fields.{byte, word, long, text, list, flag, sta
 ghost use Rattle.bp_matter.specs.Written.{is_word, is_short, are_few, if_there, treatment_written, entry_fields_written, word_written, item_written, request_written, span_written, staff_written, field_written, doc_written, call_written, entry_written, prefix_written, production_written, batch_written, words_written};
 ghost use Rattle.bp_matter.specs.Bodies.{entry_part, box_rest, box_part, held_part, word_part, item_part, request_part, staff_body, field_body, doc_body, page_body, call_body, box_body, held_body, entry_body, prefix_body, production_body, batch_body, words_body, image_part};
 
-use crate::images::put_strip;
+use crate::kept_page::KeptPage;
 use crate::parts::Part;
 use crate::rows::{
     BatchRow, BoxRow, CallRow, DocBox, DocEntry, DocHeld, DocRow, Entry, FieldRow, HeldRow, Item,
@@ -15,9 +15,8 @@ use crate::rows::{
 };
 use bp_bates::{Prefix, Span};
 use bp_core::{Basis, OutOfMemory, Rect, Role, Text, Treatment};
-use bp_rows::{Page, Unit};
+use bp_rows::Unit;
 use bp_text::Word;
-use std::alloc::Global;
 
 fn put_u8(out: &mut Vec<u8>, number: u8) -> Result<(), OutOfMemory>
     ensures { OnOk result (out.new.items ≡ out.old.items ++ byte number) }
@@ -218,27 +217,35 @@ fn unit_number(of: Unit) -> u8
     }
 }
 
-fn put_image_end(alloc: Global, out: &mut Vec<u8>, of: &Page) -> Result<(), OutOfMemory>
+fn put_image_end(out: &mut Vec<u8>, of: &KeptPage) -> Result<(), OutOfMemory>
     ensures { OnOk result (out.new.items ≡ out.old.items
         ++ (word of.now.yres.num ++ (word of.now.yres.den
         ++ (byte (unit_number of.now.unit) ++ strip of.now)))) }
 {
-    let yres = of.yres();
-    put_u32(out, yres.num)?;
-    put_u32(out, yres.den)?;
-    put_u8(out, unit_number(of.unit()))?;
-    put_strip(alloc, out, of)
+    let frame = of.frame();
+    put_u32(out, frame.yres.num)?;
+    put_u32(out, frame.yres.den)?;
+    put_u8(out, unit_number(frame.unit))?;
+    put_strip(out, of)
 }
 
-fn put_image(alloc: Global, out: &mut Vec<u8>, of: &Page) -> Result<(), OutOfMemory>
+// Adds the strip of a page as it lies.
+#[tactic(auto, unfolding(crate::specs::Images::strip))]
+fn put_strip(out: &mut Vec<u8>, of: &KeptPage) -> Result<(), OutOfMemory>
+    ensures { OnOk result (out.new.items ≡ out.old.items ++ strip of.now) }
+{
+    put_bytes(out, of.strip())
+}
+
+fn put_image(out: &mut Vec<u8>, of: &KeptPage) -> Result<(), OutOfMemory>
     ensures { OnOk result (out.new.items ≡ out.old.items ++ image_part of.now) }
 {
-    let xres = of.xres();
-    put_u32(out, of.width())?;
-    put_u32(out, of.height())?;
-    put_u32(out, xres.num)?;
-    put_u32(out, xres.den)?;
-    put_image_end(alloc, out, of)
+    let frame = of.frame();
+    put_u32(out, frame.width)?;
+    put_u32(out, frame.height)?;
+    put_u32(out, frame.xres.num)?;
+    put_u32(out, frame.xres.den)?;
+    put_image_end(out, of)
 }
 
 fn put_bytes(out: &mut Vec<u8>, bytes: &[u8]) -> Result<(), OutOfMemory>
@@ -288,15 +295,11 @@ pub(crate) fn put_doc_body(out: &mut Vec<u8>, row: &DocRow) -> Result<(), OutOfM
 }
 
 // Adds the body of a page.
-pub(crate) fn put_page_body(
-    alloc: Global,
-    out: &mut Vec<u8>,
-    row: &PageRow,
-) -> Result<(), OutOfMemory>
+pub(crate) fn put_page_body(out: &mut Vec<u8>, row: &PageRow) -> Result<(), OutOfMemory>
     ensures { OnOk result (out.new.items ≡ out.old.items ++ page_body row.now) }
 {
     put_u8(out, 1)?;
-    put_image(alloc, out, row.image.page())
+    put_image(out, &row.image)
 }
 
 // Adds the body of a call.

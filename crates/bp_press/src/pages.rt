@@ -73,10 +73,11 @@ pub(crate) fn page_file(
         unreachable!()
     };
     let stamps = stamps_on(alloc, &item.boxes, page)?;
+    let scan = row.image.page(alloc)?;
     let image = produced(
         alloc,
         Ink::Black,
-        row.image.page(),
+        &scan,
         &stamps,
         label,
         &item.designation,

@@ -87,7 +87,7 @@ fn know_box(row: DocBox)
 fn lies_on(row: &BoxRow, page: &PageRow) -> bool
     ensures { result ≡ inside_page (Some page.now) row.now.rect }
 {
-    let image = page.image.page();
+    let image = &page.image;
     row.rect.inside(image.width(), image.height())
 }
 

@@ -2,7 +2,6 @@
 ghost use Rattle.std.specs.Prelude.{◌≡◌, IfOk};
 
 use bp_core::{ListOf, OutOfMemory, Text};
-use bp_rows::Page;
 use bp_text::{Word, WordList};
 use std::alloc::Global;
 
@@ -24,23 +23,4 @@ pub(crate) fn copy_words(alloc: Global, words: &WordList) -> Result<WordList, Ou
         })?;
     }
     Ok(ListOf::from_vec(copies))
-}
-
-// A page is made again from its strip, which is the strip of no other.
-pub(crate) fn copy_page(alloc: Global, page: &Page) -> Result<Page, OutOfMemory>
-    ensures { IfOk result (λ copy. copy ≡ page.now) }
-{
-    let strip = Vec::from_slice(alloc, page.strip())?;
-    let made = Page::from_strip(
-        page.width(),
-        page.height(),
-        page.xres(),
-        page.yres(),
-        page.unit(),
-        strip,
-    );
-    match made {
-        Ok(copy) => Ok(copy),
-        Err(_) => Err(OutOfMemory),
-    }
 }

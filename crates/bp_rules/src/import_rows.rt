@@ -234,7 +234,7 @@ impl OfPage for PageRow {
 
     ghost row_of = { page_row };
 
-    // The row holds the batch's page with it, so that no pixels are copied.
+    // The row holds the batch's page with it, so that no strip is copied.
     fn row(_alloc: Global, doc: u32, page: u32, from: &BatchPage) -> Result<PageRow, OutOfMemory> {
         Ok(PageRow {
             doc: DocNo(doc),

@@ -8,10 +8,9 @@ ghost use Rattle.bp_rules.specs.Limits.{documents_after, fields_after, full_rule
 
 use bp_core::{Rule, RuleKind, Text};
 use bp_matter::{
-    Batch, BatchDoc, BatchPage, FieldRow, MAX_BATCHES, MAX_DOCUMENTS, MAX_FIELDS, MAX_PAGES,
+    Batch, BatchDoc, BatchPage, FieldRow, KeptPage, MAX_BATCHES, MAX_DOCUMENTS, MAX_FIELDS, MAX_PAGES,
     MAX_PIXELS, PageRow, Tables,
 };
-use bp_rows::Page;
 
 // The numbers of the limits.
 pub const DOCUMENTS: u64 = 1;
@@ -149,7 +148,7 @@ fn pages_in(docs: &[BatchDoc]) -> u32
     count
 }
 
-fn pixels(page: &Page) -> u64
+fn pixels(page: &KeptPage) -> u64
     ensures { result ≡ page.now.width * page.now.height }
 {
     u64::from(page.width()) * u64::from(page.height())
@@ -162,7 +161,7 @@ fn pixels_of(pages: &[PageRow]) -> u64
     let mut sum = 0;
     let mut rest = pages;
     while let Some((row, others)) = rest.split_first() {
-        sum += pixels(row.image.page());
+        sum += pixels(&row.image);
         rest = others;
     }
     sum
@@ -175,7 +174,7 @@ fn pixels_on(pages: &[BatchPage]) -> u64
     let mut sum = 0;
     let mut rest = pages;
     while let Some((page, others)) = rest.split_first() {
-        sum += pixels(page.page.page());
+        sum += pixels(&page.page);
         rest = others;
     }
     sum

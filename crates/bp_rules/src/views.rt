@@ -6,7 +6,7 @@ ghost use Rattle.bp_rules.specs.Calling.{shown_designation, shown_responsive, sh
 ghost use Rattle.bp_rules.specs.Deciding.{Decides};
 ghost use Rattle.bp_rules.specs.Stepping.{step_by};
 
-use crate::copies::{copy_page, copy_text, copy_words};
+use crate::copies::{copy_text, copy_words};
 use crate::decided::{Decided, told};
 use crate::import_rows::empty;
 use crate::no_such::{no_document, no_page};
@@ -50,7 +50,7 @@ pub(crate) fn see_page(
     let Some(row) = tables.page_with(doc, page) else {
         return Err(Refusal::Rule(no_page(page)));
     };
-    let image = copy_page(alloc, row.image.page())?;
+    let image = row.image.page(alloc)?;
     told(alloc, tables, Reply::Image(image))
 }
 

@@ -53,7 +53,7 @@ pub(crate) fn are_paged<T: Keyed>(docs: &[DocRow], rows: &[T]) -> bool
 fn pixels(row: &PageRow) -> u64
     ensures { result ≡ row.now.image.width * row.now.image.height }
 {
-    let page = row.image.page();
+    let page = &row.image;
     u64::from(page.width()) * u64::from(page.height())
 }
 
@@ -78,7 +78,7 @@ fn pixels_few(pages: &[PageRow]) -> bool
 fn page_fits(row: &PageRow) -> bool
     ensures { result ≡ page_fits row.now }
 {
-    let page = row.image.page();
+    let page = &row.image;
     import_sides(page.width(), page.height())
 }
 
@@ -128,7 +128,7 @@ pub(crate) fn inside_page(page: Option<&PageRow>, rect: Rect) -> bool
 fn inside(row: &PageRow, rect: Rect) -> bool
     ensures { result ≡ inside_page (Some row.now) rect }
 {
-    let page = row.image.page();
+    let page = &row.image;
     rect.inside(page.width(), page.height())
 }
 

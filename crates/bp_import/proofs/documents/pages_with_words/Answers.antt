@@ -1,4 +1,4 @@
-use Rattle.std.proofs.Common.{ap, ◌∙◌}
+use Rattle.std.proofs.Common.{ap}
 use Rattle.bp_import.proofs.DocumentLemmas.{page_made}
 use Rattle.bp_import.proofs.documents.pages_with_words.Goals as goal
 
@@ -7,4 +7,4 @@ loop-page-preserved c =
     let l = c.loop-page in
     page_made l.pages.items c.pop.new.self.items c.in-Some.page l.lists.items c.pop-in-Some.new.self.items c.in-Some-pop.words
     l.made.items c.push.new.self.items _ _ l.invariant c.in-Some.ensures.items c.in-Some-pop.ensures.items c.in_ok-push.ensures.items
-    (ap (λ words. record { page = c.in_ok-shared.shared; words = words }) c.from_vec.ensures ∙ ap (λ page. record { page = page; words = c.in-Some-pop.words.items }) c.in_ok-shared.ensures)
+    (ap (λ words. record { page = c.in-Some.page; words = words }) c.from_vec.ensures)

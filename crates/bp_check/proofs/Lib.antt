@@ -1,0 +1,10 @@
+pub mod CalmLemmas
+pub mod ColumnLemmas
+pub mod CountLemmas
+pub mod EachLemmas
+mod Examples
+pub mod LabelLemmas
+pub mod ListingLemmas
+pub mod ManifestLemmas
+pub mod RecordLemmas
+pub mod ToldLemmas

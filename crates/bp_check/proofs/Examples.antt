@@ -20,7 +20,6 @@ use Rattle.bp_check.specs.Files.{file_read, file_rule}
 use Rattle.bp_check.specs.Images.{Judging, Reading}
 use Rattle.bp_core.specs.declared.rules.RuleKind.TheVariants.{CheckBreaks, CheckColumns, CheckCount, CheckGap, CheckLabel, DigestDiffers, ManifestShape, NotListed}
 use Rattle.bp_check.specs.Labels.{end_digits, label_of, labels_of}
-use Rattle.bp_check.specs.Listing.{unlisted_rule}
 use Rattle.bp_check.specs.Manifest.{listed_in, manifest_of}
 use Rattle.bp_check.specs.declared.checked.Checked.{Checked}
 use Rattle.bp_check.specs.declared.files.TheConstants.{IMAGE, LISTED, MANIFEST, OPT, TEXT}

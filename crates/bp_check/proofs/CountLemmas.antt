@@ -74,7 +74,7 @@ each_few : {X V : Type 0} (read : X → Option V) (rule : ℕ → Rule) (n : ℕ
     → read_each read rule n pieces ≡ Ok values → length values ≤ length pieces
 each_few read rule n [] values e = let none : [] ≡ values = cc in omega (arith, sym (ap length none))
 each_few read rule n (piece ∷ pieces) values e =
-    one_more (read piece) (rule n) (read_each read rule (n + 1) pieces) values (length pieces) (λ rest is. each_few read rule (n + 1) pieces rest is) e
+    omega (arith, one_more (read piece) (rule n) (read_each read rule (n + 1) pieces) values (length pieces) (λ rest is. each_few read rule (n + 1) pieces rest is) e)
 
 pub opt_few : (bytes : List ℕ) (found : List OptLine) → opt_of bytes ≡ Ok found → length found ≤ length bytes + 1
 opt_few bytes found is = omega (arith, filled_few bytes, each_few opt_line_of (rule_at_line OptShape) 1 (filled_lines (without_mark bytes)) found is)
@@ -115,7 +115,7 @@ listed_few : (n : ℕ) (parts : List (List ℕ)) (found : List Listed) → liste
 listed_few n [] found e = let none : [] ≡ found = cc in omega (arith, sym (ap length none))
 listed_few n (line ∷ []) found e = none_few (length line == 0) (rule_at_line ManifestShape n) found e
 listed_few n (line ∷ next ∷ parts) found e =
-    one_more (listed_in line) (rule_at_line ManifestShape n) (listed_from (n + 1) (next ∷ parts)) found (length (next ∷ parts)) (λ rest is. listed_few (n + 1) (next ∷ parts) rest is) e
+    omega (arith, one_more (listed_in line) (rule_at_line ManifestShape n) (listed_from (n + 1) (next ∷ parts)) found (length (next ∷ parts)) (λ rest is. listed_few (n + 1) (next ∷ parts) rest is) e)
 
 pub manifest_few : (bytes : List ℕ) (found : List Listed) → manifest_of bytes ≡ Ok found → length found ≤ length bytes + 1
 manifest_few bytes found is = omega (arith, parts_few (λ c. c == newline) bytes, listed_few 1 (between_newlines bytes) found is)

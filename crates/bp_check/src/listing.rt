@@ -23,14 +23,13 @@ pub(crate) fn all_listed(
     listed: &[ListedFile],
     paths: &[Text],
 ) -> Result<(), Refusal>
-    requires { length paths.now < 2 ^ 32 }
     ensures { Answers (λ _. tt) result (listed_all (map listed_seen listed.now) 0 paths.now) }
 {
     let known = listed_paths(alloc, listed)?;
-    let mut place: u64 = 0;
+    let mut place: usize = 0;
     for path in paths {
         if !known.contains(path.as_str()) {
-            return Err(Refusal::Rule(Rule::not_listed(place)));
+            return Err(Refusal::Rule(Rule::not_listed(place as u64)));
         }
         place += 1;
     }
@@ -43,7 +42,7 @@ fn listed_paths(alloc: Global, listed: &[ListedFile]) -> Result<BTreeSet<&str>, 
 {
     let mut known = BTreeSet::new(alloc);
     for file in listed {
-        let _new = known.insert(file.path.as_str())?;
+        known.insert(file.path.as_str())?;
     }
     Ok(known)
 }

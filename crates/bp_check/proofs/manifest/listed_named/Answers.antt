@@ -7,8 +7,9 @@ use Rattle.bp_core.specs.Rules.{rule_at_line}
 use Rattle.bp_core.specs.declared.rules.Rule.{Rule}
 use Rattle.bp_load.proofs.OptLemmas.{not_utf8}
 use Rattle.bp_core.specs.declared.rules.RuleKind.TheVariants.{ManifestShape}
-use Rattle.bp_check.specs.Manifest.{Listed, listed_at}
+use Rattle.bp_check.specs.Manifest.{Listed, listed_at, listed_named}
 use Rattle.bp_check.specs.Seen.{listed_seen}
+use Rattle.bp_check.specs.declared.manifest.ListedFile.{ListedFile}
 use Rattle.bp_check.proofs.manifest.listed_named.Goals as goal
 
 pub returns-in-Ok : goal.returns-in-Ok
@@ -27,5 +28,6 @@ returns-in-Err c =
     let digest = c.args.digest.now in
     let path = c.args.path.now in
     let rule = rule_at_line ManifestShape c.args.number in
-    ap (λ b. ok_or (cond b (listed_at digest (chars path)) None) rule) (not_utf8 path c.in-Err.ensures.cases.0)
-    ∙ ap Err (sym c.manifest_shape.ensures)
+    let defined = ok_or (listed_named digest path) rule in
+    subst (λ refusal. Answers {X = ListedFile} listed_seen (Err refusal) defined) (sym c.manifest_shape.ensures)
+    (ap (λ b. ok_or (cond b (listed_at digest (chars path)) None) rule) (not_utf8 path c.in-Err.ensures.cases.0))

@@ -79,11 +79,7 @@ fn read_paths<S: Source>(
 }
 
 // The table of the DAT.
-fn read_table<S: Source>(
-    alloc: Global,
-    source: &mut S,
-    path: &Text,
-) -> Result<Dat, ImportRefusal>
+fn read_table<S: Source>(alloc: Global, source: &mut S, path: &Text) -> Result<Dat, ImportRefusal>
     ensures told { IfSome (S.shows source.old).files (λ files.
         Gives (λ table. table) result (table_at (file_at files) path.now)) }
     ensures few { IfOk result (λ table. length table.rows + 1 < 2 ^ 32) }

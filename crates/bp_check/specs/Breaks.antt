@@ -39,5 +39,6 @@ breaks_from n docs (line ∷ lines) =
     then breaks_from (n + 1) (docs_after docs line) lines
     else Err (rule_at_line CheckBreaks n)
 
+-- the documents of the lines are the records, from line 1 on
 abbrev pub breaks_of : List Record → List OptLine → Result (Unit {0}) Rule
 breaks_of docs lines = breaks_from 1 docs lines

@@ -49,5 +49,6 @@ counts_from n docs (line ∷ lines) =
     then counts_from (n + 1) (docs_after docs line) lines
     else Err (rule_at_line CheckCount n)
 
+-- all lines are counted, from line 1 on
 abbrev pub counts_of : List Record → List OptLine → Result (Unit {0}) Rule
 counts_of docs lines = counts_from 1 docs lines

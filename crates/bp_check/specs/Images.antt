@@ -61,5 +61,6 @@ texts_from read n (doc ∷ docs) =
     then texts_from read (n + 1) docs
     else in_turn (text_at read n doc.text) (texts_from read (n + 1) docs)
 
+-- the paths of all texts
 abbrev pub texts_of : Reading → List Record → Result (List (List ℕ)) Rule
 texts_of read docs = texts_from read 1 docs

@@ -78,5 +78,6 @@ labels_from n before [] = Ok tt
 labels_from n before (line ∷ lines) =
     label_at n before line >>= (λ label. labels_from (n + 1) (Some label) lines)
 
+-- the labels of all lines follow one another, from line 1 on
 abbrev pub labels_of : List OptLine → Result (Unit {0}) Rule
 labels_of lines = labels_from 1 None lines

@@ -37,5 +37,6 @@ digests_by digest read n (row ∷ rows) = do
   _ ← demand (bytes_eq row.digest (digest bytes)) (rule_at_line DigestDiffers n)
   digests_by digest read (n + 1) rows
 
+-- all listed files are there, each with its SHA-256
 abbrev pub digests_of : Reading → List Listed → Result (Unit {0}) Rule
 digests_of read rows = digests_by digest_text read 1 rows

@@ -1,9 +1,9 @@
 // The check of a volume.
-ghost use Rattle.std.specs.Prelude.{◌≡◌, ◌<◌, ◌+◌, ◌++◌, ◌^◌, length, map, IfErr, IfSome};
+ghost use Rattle.std.specs.Prelude.{◌≡◌, ◌<◌, ◌+◌, ◌++◌, ◌^◌, length, map, IfOk, IfSome};
 ghost use Rattle.std.specs.Option.{option_copied, option_map};
 ghost use Rattle.bp_core.specs.Answers.{Answers};
 ghost use Rattle.bp_check.specs.Check.{agrees, checked_by, files_by, listing_by};
-ghost use Rattle.bp_check.specs.Checking.{ChecksAs, Gives, after_step};
+ghost use Rattle.bp_check.specs.Checking.{ChecksAs, Gives, ReadsAtMost, after_step};
 ghost use Rattle.bp_check.specs.Files.{file_at};
 ghost use Rattle.bp_check.specs.Images.{IsTiff, Judging};
 ghost use Rattle.bp_check.specs.Listing.{digest_text};
@@ -41,6 +41,11 @@ pub fn check_volume<S: Source>(
 
     // Of the source the count of the refusal's own cause alone rises.
     ensures after { S.shows source.new ≡ after_step (S.shows source.old) result }
+
+    // Each file is read once for each time that it is named.
+    ensures reads { IfOk result (λ checked. ReadsAtMost
+        (3 + checked.images + checked.documents + checked.files)
+        (S.reads source.old) (S.reads source.new)) }
 {
     let plan = read_plan(alloc, source, dat, opt, manifest)?;
     check_planned(alloc, source, plan)
@@ -59,6 +64,8 @@ fn check_planned<S: Source>(
         → Gives (λ checked. checked) result
         (checked_by digest_text (file_at files) tiff (plan_seen plan))) }
     ensures after { S.shows source.new ≡ after_step (S.shows source.old) result }
+    ensures reads { IfOk result (λ checked. ReadsAtMost (checked.images + checked.documents + checked.files)
+        (S.reads source.old) (S.reads source.new)) }
 {
     agree(alloc, &plan.docs, plan.lines.as_slice())?;
     let documents = plan.docs.len() as u32;
@@ -94,6 +101,8 @@ fn check_files<S: Source>(
         → Gives (λ count. count) result
         (files_by digest_text (file_at files) tiff (plan_seen plan))) }
     ensures after { S.shows source.new ≡ after_step (S.shows source.old) result }
+    ensures reads { IfOk result (λ count. ReadsAtMost (length plan.lines + length plan.docs.items + count)
+        (S.reads source.old) (S.reads source.new)) }
 {
     let Planned {
         paths,
@@ -118,6 +127,8 @@ fn check_listing<S: Source>(
         IfSome (S.shows source.old).files (λ files. Gives (λ count. count) result
         (listing_by digest_text (file_at files) rows paths.now)) }
     ensures after { S.shows source.new ≡ after_step (S.shows source.old) result }
+    ensures reads { IfOk result (λ count. ReadsAtMost (count)
+        (S.reads source.old) (S.reads source.new)) }
 {
     let Some(listed) = listed else {
         return Ok(0);

@@ -1,7 +1,7 @@
 // The images and texts that the load files name.
 ghost use Rattle.std.specs.Prelude.{◌≡◌, ◌<◌, ◌+◌, ◌^◌, length, IfErr, IfSome};
 ghost use Rattle.bp_core.specs.Paths.{path_in};
-ghost use Rattle.bp_check.specs.Checking.{Gives, IsCalm, after_step};
+ghost use Rattle.bp_check.specs.Checking.{Gives, IsCalm, ReadsAtMost, after_step};
 ghost use Rattle.bp_check.specs.Files.{file_at};
 ghost use Rattle.bp_check.specs.Images.{IsTiff, Judging, at_line, image_at, images_of, path_at, text_at, texts_of};
 ghost use Rattle.bp_check.specs.Refusals.{refused_at};
@@ -29,6 +29,7 @@ pub(crate) fn check_images<S: Source>(
         → Gives (λ found. found.items) result
         (behind paths.items (images_of (file_at files) tiff lines.now))) }
     ensures after { S.shows source.new ≡ after_step (S.shows source.old) result }
+    ensures reads { ReadsAtMost (length lines.now) (S.reads source.old) (S.reads source.new) }
 {
     let mut number = 0;
     let mut rest = lines;
@@ -55,6 +56,7 @@ pub(crate) fn check_image<S: Source>(
     ensures told { IfSome (S.shows source.old).files (λ files. (tiff : Judging) → IsTiff tiff
         → Gives (λ path. path) result (image_at (file_at files) tiff number line.now)) }
     ensures after { S.shows source.new ≡ after_step (S.shows source.old) result }
+    ensures reads { ReadsAtMost 1 (S.reads source.old) (S.reads source.new) }
 {
     let path = path_at(alloc, &line.path, number)?;
     let bytes = read_file(alloc, source, IMAGE, number, &path)?;
@@ -74,6 +76,7 @@ pub(crate) fn check_texts<S: Source>(
     ensures told { IfSome (S.shows source.old).files (λ files.
         Gives (λ found. found.items) result (behind paths.items (texts_of (file_at files) docs.now))) }
     ensures after { S.shows source.new ≡ after_step (S.shows source.old) result }
+    ensures reads { ReadsAtMost (length docs.now) (S.reads source.old) (S.reads source.new) }
 {
     let mut number = 0;
     let mut rest = docs;
@@ -101,6 +104,7 @@ fn check_text<S: Source>(
     ensures told { IfSome (S.shows source.old).files (λ files.
         Gives (λ path. path) result (text_at (file_at files) number text.now)) }
     ensures after { S.shows source.new ≡ after_step (S.shows source.old) result }
+    ensures reads { ReadsAtMost 1 (S.reads source.old) (S.reads source.new) }
 {
     let path = path_at(alloc, text, number)?;
     let _bytes = read_file(alloc, source, TEXT, number, &path)?;

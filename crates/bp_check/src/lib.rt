@@ -1,6 +1,9 @@
 //! The check of a volume of any producer by its load files: labels without a gap, documents that
-//! begin and end where DAT and OPT say, counts, images of one page, texts that are there, and the
-//! digests of a manifest.
+//! begin and end where DAT and OPT both say, counts, images of one page, texts that are there, and
+//! the digests of a manifest.
+//!
+//! `check_volume` is the call; its contract cites `check_of` of specs/Check.antt, all steps in their
+//! order, and `after_step` of specs/Checking.antt, what is left in the source.
 #![tactic(auto)]
 
 mod breaks;

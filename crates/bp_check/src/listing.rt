@@ -1,7 +1,7 @@
 // What a manifest lists, held against the files of the volume.
 ghost use Rattle.std.specs.Prelude.{◌≡◌, ◌<◌, ◌+◌, ◌^◌, length, map, IfOk, IfSome};
 ghost use Rattle.sha2.specs.Sha256.{sha256};
-ghost use Rattle.bp_check.specs.Checking.{Gives, after_step};
+ghost use Rattle.bp_check.specs.Checking.{Gives, ReadsAtMost, after_step};
 ghost use Rattle.bp_check.specs.Files.{file_at};
 ghost use Rattle.bp_core.specs.Answers.{Answers};
 ghost use Rattle.bp_check.specs.ListedPaths.{Knows};
@@ -58,6 +58,7 @@ pub(crate) fn digests_hold<S: Source>(
     ensures told { IfSome (S.shows source.old).files (λ files. Gives (λ _. tt) result
         (digests_of (file_at files) (map listed_seen listed.now))) }
     ensures after { S.shows source.new ≡ after_step (S.shows source.old) result }
+    ensures reads { ReadsAtMost (length listed.now) (S.reads source.old) (S.reads source.new) }
 {
     let mut number = 0;
     let mut rest = listed;

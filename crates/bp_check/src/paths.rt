@@ -1,5 +1,5 @@
 // The paths of the load files and of the manifest.
-ghost use Rattle.std.specs.Prelude.{◌≡◌, IfErr};
+ghost use Rattle.std.specs.Prelude.{◌≡◌};
 ghost use Rattle.std.specs.Option.{option_copied};
 ghost use Rattle.bp_core.specs.Answers.{Answers};
 ghost use Rattle.bp_check.specs.Check.{optional_operand, paths_of};

@@ -2,7 +2,7 @@
 ghost use Rattle.std.specs.Prelude.{◌≡◌, ◌<◌, ◌+◌, ◌^◌, ◌∷◌, [], length, map, IfErr, IfOk, IfSome};
 ghost use Rattle.std.specs.Option.{option_copied, option_map};
 ghost use Rattle.bp_check.specs.Check.{lines_at, listing_at, manifest_at, plan_at, plan_by, plan_with, table_at};
-ghost use Rattle.bp_check.specs.Checking.{Gives, IsCalm, after_step};
+ghost use Rattle.bp_check.specs.Checking.{Gives, IsCalm, ReadsAtMost, after_step};
 ghost use Rattle.bp_check.specs.Files.{file_at};
 ghost use Rattle.bp_check.specs.Seen.{listed_seen, plan_seen};
 
@@ -44,6 +44,7 @@ pub(crate) fn read_plan<S: Source>(
     ensures listed { IfOk result (λ plan.
         IfSome plan.listed (λ rows. length rows.items + 1 < 2 ^ 32)) }
     ensures after { S.shows source.new ≡ after_step (S.shows source.old) result }
+    ensures reads { ReadsAtMost 3 (S.reads source.old) (S.reads source.new) }
 {
     let paths = paths_of(alloc, dat, opt, manifest)?;
     read_paths(alloc, source, paths)
@@ -62,6 +63,7 @@ fn read_paths<S: Source>(
     ensures listed { IfOk result (λ plan.
         IfSome plan.listed (λ rows. length rows.items + 1 < 2 ^ 32)) }
     ensures after { S.shows source.new ≡ after_step (S.shows source.old) result }
+    ensures reads { ReadsAtMost 3 (S.reads source.old) (S.reads source.new) }
 {
     let table = match read_table(alloc, source, &paths.dat) {
         Ok(table) => table,
@@ -84,6 +86,7 @@ fn read_table<S: Source>(alloc: Global, source: &mut S, path: &Text) -> Result<D
         Gives (λ table. table) result (table_at (file_at files) path.now)) }
     ensures few { IfOk result (λ table. length table.rows + 1 < 2 ^ 32) }
     ensures after { S.shows source.new ≡ after_step (S.shows source.old) result }
+    ensures reads { ReadsAtMost 1 (S.reads source.old) (S.reads source.new) }
 {
     let bytes = read_file(alloc, source, DAT, 0, path)?;
     Ok(read_dat(alloc, &bytes)?)
@@ -99,6 +102,7 @@ fn read_lines<S: Source>(
         Gives (λ lines. lines) result (lines_at (file_at files) path.now)) }
     ensures few { IfOk result (λ lines. length lines + 1 < 2 ^ 32) }
     ensures after { S.shows source.new ≡ after_step (S.shows source.old) result }
+    ensures reads { ReadsAtMost 1 (S.reads source.old) (S.reads source.new) }
 {
     let bytes = read_file(alloc, source, OPT, 0, path)?;
     Ok(read_opt(alloc, &bytes)?)
@@ -116,6 +120,7 @@ fn read_listing<S: Source>(
     ensures few { IfOk result (λ listed.
         IfSome listed (λ rows. length rows.items + 1 < 2 ^ 32)) }
     ensures after { S.shows source.new ≡ after_step (S.shows source.old) result }
+    ensures reads { ReadsAtMost 1 (S.reads source.old) (S.reads source.new) }
 {
     match path {
         Some(path) => match read_listed(alloc, source, path) {
@@ -136,6 +141,7 @@ fn read_listed<S: Source>(
         Gives (λ rows. map listed_seen rows.items) result (manifest_at (file_at files) path.now)) }
     ensures few { IfOk result (λ rows. length rows.items + 1 < 2 ^ 32) }
     ensures after { S.shows source.new ≡ after_step (S.shows source.old) result }
+    ensures reads { ReadsAtMost 1 (S.reads source.old) (S.reads source.new) }
 {
     let bytes = read_file(alloc, source, MANIFEST, 0, path)?;
     Ok(read_manifest(alloc, &bytes)?)

@@ -6,11 +6,11 @@ use Rattle.bp_core.specs.Answers.{Answers}
 use Rattle.bp_core.specs.InTurn.{first_then, onto, read_each}
 use Rattle.bp_core.specs.Paths.{path_in}
 use Rattle.bp_core.specs.RuleSteps.{◌>>=◌}
-use Rattle.bp_core.specs.Rules.{not_listed_rule, rule_at_line}
+use Rattle.bp_core.specs.Rules.{rule_at_line}
 use Rattle.bp_core.specs.declared.refusals.Refusal.{Refusal}
 use Rattle.bp_core.specs.declared.refusals.Refusal.TheVariants as calls
 use Rattle.bp_core.specs.declared.rules.Rule.{Rule}
-use Rattle.bp_core.specs.declared.rules.RuleKind.TheVariants.{CheckBreaks, CheckCount, DatShape, ManifestShape, OptShape}
+use Rattle.bp_core.specs.declared.rules.RuleKind.TheVariants.{DatShape, ManifestShape, OptShape}
 use Rattle.bp_load.specs.Dat.{after_header, dat_of, row_of, values_of, with_rows, table_of}
 use Rattle.bp_load.specs.Lines.{filled_lines, without_mark}
 use Rattle.bp_load.specs.Opt.{opt_line_of, opt_of}
@@ -19,15 +19,14 @@ use Rattle.bp_outside.specs.Source.{SourceView}
 use Rattle.bp_check.specs.Breaks.{breaks_from, breaks_of, docs_after, fits}
 use Rattle.bp_check.specs.Check.{Operands, agrees, operand, optional_operand, paths_of}
 use Rattle.bp_check.specs.Checking.{after_kind, after_step}
-use Rattle.bp_check.specs.Counts.{counts_from, counts_of, is_counted}
-use Rattle.bp_check.specs.Labels.{Label, gap_rule, is_next, label_at, label_of, labels_from, labels_of}
+use Rattle.bp_check.specs.Counts.{counts_from, is_counted}
+use Rattle.bp_check.specs.Labels.{Label, gap_rule, is_next, label_at, labels_from, labels_of}
 use Rattle.bp_check.specs.Listing.{listed_all, lists}
 use Rattle.bp_check.specs.Manifest.{Listed, between_newlines, listed_from, listed_in, manifest_of}
 use Rattle.bp_check.specs.Refusals.{BecomesRefusal}
 use Rattle.bp_check.specs.Steps.{demand}
 use Rattle.bp_check.specs.declared.records.Record.{Record}
 use Rattle.bp_check.specs.declared.refusals.ImportRefusal.{ImportRefusal}
-use Rattle.bp_check.specs.declared.refusals.ImportRefusal.TheVariants as refusals
 
 abbrev pub Calm : Rule → Type 0
 Calm rule = (source : SourceView) → after_kind source rule.kind ≡ source

@@ -14,7 +14,6 @@ use Rattle.bp_rows.specs.Image.{Image}
 use Rattle.bp_rows.specs.declared.resolution.Unit.TheVariants as units
 use Rattle.bp_check.specs.Breaks.{breaks_of}
 use Rattle.bp_check.specs.Check.{Operands, check_by}
-use Rattle.bp_check.specs.Columns.{are_columns}
 use Rattle.bp_check.specs.Counts.{counts_of, says_number}
 use Rattle.bp_check.specs.Files.{file_read, file_rule}
 use Rattle.bp_check.specs.Images.{Judging, Reading}
@@ -22,7 +21,7 @@ use Rattle.bp_core.specs.declared.rules.RuleKind.TheVariants.{CheckBreaks, Check
 use Rattle.bp_check.specs.Labels.{end_digits, label_of, labels_of}
 use Rattle.bp_check.specs.Manifest.{listed_in, manifest_of}
 use Rattle.bp_check.specs.declared.checked.Checked.{Checked}
-use Rattle.bp_check.specs.declared.files.TheConstants.{IMAGE, LISTED, MANIFEST, OPT, TEXT}
+use Rattle.bp_check.specs.declared.files.TheConstants.{IMAGE, MANIFEST, OPT}
 use Rattle.bp_check.specs.declared.records.Record.{Record}
 
 -- ---- labels

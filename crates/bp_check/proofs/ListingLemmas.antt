@@ -1,5 +1,5 @@
 -- The set of the listed paths, and the paths that are looked up in it.
-use Rattle.std.proofs.Common.{◌≡◌, ℕ, ◌+◌, ◌<◌, Bool, true, false, cond, ◌||◌, Result, Ok, Err, List, [], ◌∷◌, ◌++◌, Bor, length, map, take, drop, get_or, nat_cmp, refl, sym, ap, ◌∙◌, encode_utf8_all}
+use Rattle.std.proofs.Common.{◌≡◌, ℕ, ◌+◌, Bool, true, false, cond, ◌||◌, Err, List, [], ◌∷◌, ◌++◌, Bor, nat_cmp, refl, sym, ap, ◌∙◌, encode_utf8_all}
 use Rattle.std.specs.BTreeSet.{BTreeSet, contains_by}
 use Rattle.std.specs.Cmp.Lexicographic.{slice_cmp}
 use Rattle.std.specs.List.{list_any}

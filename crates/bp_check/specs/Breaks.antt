@@ -1,11 +1,10 @@
 -- Where documents begin and end among the lines of an OPT file, and their records.
-use Rattle.std.specs.Prelude.{ℕ, ◌+◌, ◌==◌, ◌&&◌, Bool, false, not, List, [], ◌∷◌, length, drop, Result, Ok, Err, if◌then◌else◌}
+use Rattle.std.specs.Prelude.{ℕ, ◌+◌, ◌==◌, ◌&&◌, Bool, false, not, List, [], ◌∷◌, length, drop, Result, Err, if◌then◌else◌}
 use Rattle.std.specs.Str.{bytes_eq}
 use Rattle.bp_core.specs.Rules.{rule_at_line}
 use Rattle.bp_core.specs.declared.rules.Rule.{Rule}
 use Rattle.bp_load.specs.declared.opt.OptLine.{OptLine}
 use Rattle.bp_core.specs.declared.rules.RuleKind.TheVariants.{CheckBreaks}
-use Rattle.bp_core.specs.RuleSteps.{◌>>=◌}
 use Rattle.bp_check.specs.Steps.{demand}
 use Rattle.bp_check.specs.declared.records.Record.{Record}
 

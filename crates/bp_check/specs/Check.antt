@@ -1,6 +1,6 @@
 -- What the check of a volume comes to: three numbers, or the first rule that the volume breaks. The
 -- steps stand in their order.
-use Rattle.std.specs.Prelude.{ℕ, List, [], ◌∷◌, ◌++◌, length, Option, Some, None, Result, Ok, Err}
+use Rattle.std.specs.Prelude.{ℕ, List, [], ◌∷◌, ◌++◌, length, Option, Some, None, Result, Ok}
 use Rattle.std.specs.Option.{ok_or}
 use Rattle.bp_core.specs.Paths.{path_in}
 use Rattle.bp_core.specs.RuleSteps.{◌>>=◌}

@@ -1,4 +1,4 @@
-use Rattle.std.proofs.Common.{◌≡◌, ◌∙◌, cond, None, Err, Result, ap, sym, subst}
+use Rattle.std.proofs.Common.{◌∙◌, cond, None, Err, Result, ap, sym, subst}
 use Rattle.std.specs.Option.{ok_or}
 use Rattle.std.specs.Str.{chars}
 use Rattle.std.proofs.lemmas.Str.{is_utf8-from_IsUtf8}

@@ -1,4 +1,4 @@
-use Rattle.std.proofs.Common.{◌≡◌, ◌+◌, ◌∷◌, [], ◌∙◌, Vec, map, ap, arith}
+use Rattle.std.proofs.Common.{◌+◌, ◌∷◌, [], ◌∙◌, Vec, map, ap, arith}
 use Rattle.std.specs.declared.alloc.Global.{Global}
 use Rattle.std.proofs.lemmas.List.{map-append}
 use Rattle.bp_check.specs.Manifest.{between_newlines, listed_from, manifest_of}

@@ -1,11 +1,8 @@
-use Rattle.std.proofs.Common.{◌≡◌, ◌∙◌, ℕ, List, Ok, ap, sym, length, arith}
+use Rattle.std.proofs.Common.{◌∙◌, List, ap, length, arith}
 use Rattle.bp_load.specs.Opt.{opt_of}
 use Rattle.bp_load.specs.declared.opt.OptLine.{OptLine}
-use Rattle.bp_check.specs.Files.{file_at}
-use Rattle.bp_check.specs.declared.files.TheConstants.{OPT}
 use Rattle.bp_check.proofs.CalmLemmas.{bad_after, opt_calm}
 use Rattle.bp_check.proofs.CountLemmas.{opt_few}
-use Rattle.bp_check.proofs.ToldLemmas.{gives_last, gives_next, told_then}
 use Rattle.bp_check.proofs.plans.read_lines.Goals as goal
 
 pub returns-in_err-read_opt-clause-after : goal.returns-in_err-read_opt-clause-after

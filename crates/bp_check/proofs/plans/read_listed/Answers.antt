@@ -1,4 +1,4 @@
-use Rattle.std.proofs.Common.{◌≡◌, ◌∙◌, List, Vec, map, ap, length, arith}
+use Rattle.std.proofs.Common.{◌∙◌, List, Vec, map, ap, length, arith}
 use Rattle.std.specs.declared.alloc.Global.{Global}
 use Rattle.std.proofs.lemmas.List.{length-map}
 use Rattle.bp_check.specs.Manifest.{Listed, manifest_of}

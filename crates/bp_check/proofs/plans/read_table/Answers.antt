@@ -1,4 +1,4 @@
-use Rattle.std.proofs.Common.{◌≡◌, ◌∙◌, ℕ, List, Ok, ap, sym, length, arith}
+use Rattle.std.proofs.Common.{◌∙◌, ℕ, List, Ok, ap, sym, length, arith}
 use Rattle.bp_load.specs.Dat.{dat_of}
 use Rattle.bp_load.specs.Table.{Table}
 use Rattle.bp_check.specs.Files.{file_at}

@@ -4,7 +4,6 @@ use Rattle.std.specs.Option.{ok_or}
 use Rattle.std.specs.Result.{IsErrAnd}
 use Rattle.bp_core.specs.Answers.{Answers}
 use Rattle.bp_core.specs.InTurn.{first_then, onto, read_each}
-use Rattle.bp_core.specs.Paths.{path_in}
 use Rattle.bp_core.specs.RuleSteps.{◌>>=◌}
 use Rattle.bp_core.specs.Rules.{rule_at_line}
 use Rattle.bp_core.specs.declared.refusals.Refusal.{Refusal}
@@ -17,7 +16,7 @@ use Rattle.bp_load.specs.Opt.{opt_line_of, opt_of}
 use Rattle.bp_load.specs.declared.opt.OptLine.{OptLine}
 use Rattle.bp_outside.specs.Source.{SourceView}
 use Rattle.bp_check.specs.Breaks.{breaks_from, breaks_of, docs_after, fits}
-use Rattle.bp_check.specs.Check.{Operands, agrees, operand, optional_operand, paths_of}
+use Rattle.bp_check.specs.Check.{agrees}
 use Rattle.bp_check.specs.Checking.{after_kind, after_step}
 use Rattle.bp_check.specs.Counts.{counts_from, is_counted}
 use Rattle.bp_check.specs.Labels.{Label, gap_rule, is_next, label_at, labels_from, labels_of}
@@ -70,19 +69,6 @@ calm_each read rule calm n [] = calm_ok []
 calm_each read rule calm n (piece ∷ pieces) = calm_first (read piece) (rule n) (read_each read rule (n + 1) pieces) (calm n) (calm_each read rule calm (n + 1) pieces)
 
 -- ---- each step
-
-calm_operand : (text : List ℕ) → AllCalm (operand text)
-calm_operand text = calm_ok_or (path_in text) _ (λ source. refl)
-
-calm_optional : (text : Option (List ℕ)) → AllCalm (optional_operand text)
-calm_optional None = calm_ok None
-calm_optional (Some text) = calm_next (operand text) _ (calm_operand text) (λ path. calm_ok (Some path))
-
-pub paths_calm : (operands : Operands) → AllCalm (paths_of operands)
-paths_calm operands =
-    calm_next (operand operands.dat) _ (calm_operand operands.dat)
-    (λ dat. calm_next (operand operands.opt) _ (calm_operand operands.opt)
-    (λ opt. calm_next (optional_operand operands.manifest) _ (calm_optional operands.manifest) (λ manifest. calm_ok _)))
 
 calm_rows : (columns : List (List ℕ)) (r : Result (List (List (List ℕ))) Rule) → AllCalm r → AllCalm (with_rows columns r)
 calm_rows columns (Ok rows) calm = calm_ok _

@@ -1,7 +1,6 @@
 pub mod CalmLemmas
 pub mod ColumnLemmas
 pub mod CountLemmas
-pub mod EachLemmas
 mod Examples
 pub mod LabelLemmas
 pub mod ListingLemmas

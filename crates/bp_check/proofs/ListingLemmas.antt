@@ -3,7 +3,6 @@ use Rattle.std.proofs.Common.{◌≡◌, ℕ, ◌+◌, Bool, true, false, cond, 
 use Rattle.std.specs.BTreeSet.{BTreeSet, contains_by}
 use Rattle.std.specs.Cmp.Lexicographic.{slice_cmp}
 use Rattle.std.specs.List.{list_any}
-use Rattle.std.specs.Ordering.{is_eq}
 use Rattle.std.specs.Str.{all_scalars, bytes_eq, chars}
 use Rattle.std.proofs.lemmas.List.Folds.{list_any-append}
 use Rattle.std.proofs.lemmas.Slice.Eq.{bytes_eq-Decides}
@@ -31,10 +30,6 @@ cond_or true true = refl
 cond_or true false = refl
 cond_or false true = refl
 cond_or false false = refl
-
--- no path is listed yet, and the set is empty
-pub knows_none : (known : BTreeSet (Bor (List ℕ))) → known.keys ≡ [] → Knows known []
-knows_none known none = λ path fits. ap (λ keys. list_any (λ key. is_eq (slice_cmp nat_cmp (encode_utf8_all path) key.now)) keys) none
 
 -- the set has one path more
 pub knows_next : (known next : BTreeSet (Bor (List ℕ))) (files : List Listed) (file : Listed) (key : List ℕ)

@@ -1,6 +1,5 @@
 -- The lines of a manifest, one after the other.
 use Rattle.std.proofs.Common.{◌≡◌, ℕ, ◌+◌, ◌<◌, ◌==◌, cond, Option, Some, None, Result, Ok, Err, List, [], ◌∷◌, ◌++◌, length, refl, sym, ap, ◌∙◌, arith, append-nil, append_assoc}
-use Rattle.std.proofs.lemmas.Bool.{ne_eqb}
 use Rattle.std.proofs.lemmas.List.Splits.{length-slice_split}
 use Rattle.std.specs.Option.{ok_or}
 use Rattle.bp_core.specs.Answers.{Answers}
@@ -67,18 +66,3 @@ pub line_refused : {X Y : Type 0} (view : X → Listed) (views : Y → List List
     → Answers views (Err refusal) all
 line_refused view views n front bytes line after all (refusals.Rule rule) cut is told = sym told ∙ line_bad n front bytes line after rule cut is
 line_refused view views n front bytes line after all refusals.OutOfMemory cut is told = tt
-
-last_bad : (n : ℕ) (bytes : List ℕ) → 0 < length bytes → listed_from n (bytes ∷ []) ≡ Err (rule_at_line ManifestShape n)
-last_bad n bytes some = ap (λ b. cond b (Ok []) (Err (rule_at_line ManifestShape n))) (ne_eqb (length bytes) 0 (λ e. omega arith))
-
--- bytes that end without an LF
-pub end_missing : (n : ℕ) (front : List Listed) (bytes : List ℕ)
-    → 0 < length bytes
-    → between_newlines bytes ≡ bytes ∷ []
-    → behind front (listed_from n (between_newlines bytes)) ≡ Err (rule_at_line ManifestShape n)
-end_missing n front bytes some cut = ap (λ lines. behind front (listed_from n lines)) cut ∙ ap (behind front) (last_bad n bytes some)
-
--- no bytes
-pub nothing_left : (n : ℕ) (front : List Listed) (bytes : List ℕ) → length bytes ≡ 0 → behind front (listed_from n (between_newlines bytes)) ≡ Ok front
-nothing_left n front [] none = ap Ok (append-nil front)
-nothing_left n front (b ∷ bytes) none = absurd (omega (arith, none))

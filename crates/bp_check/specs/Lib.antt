@@ -1,0 +1,15 @@
+pub mod Breaks
+pub mod Check
+pub mod Checking
+pub mod Columns
+pub mod Counts
+pub mod Files
+pub mod Images
+pub mod Labels
+pub mod ListedPaths
+pub mod Listing
+pub mod Manifest
+pub mod Records
+pub mod Refusals
+pub mod Seen
+pub mod Steps

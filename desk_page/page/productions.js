@@ -1,5 +1,6 @@
 // Productions: the lead or a clerk has what is decided frozen, or looks at a production that stands. Its volume is written at
 // the machine where the matter lies, once the desk is ended: the page says how.
+import { keepCapitals } from './capitals.js'
 import { Refused } from './desk.js'
 import { NotNow } from './review.js'
 import { TREATMENTS } from './states.js'
@@ -20,9 +21,7 @@ export class Productions {
     close.addEventListener('click', () => dialog.close())
     form.addEventListener('submit', this.submitted(() => this.freeze()))
     find.addEventListener('submit', this.submitted(() => this.look(find.elements.id.value)))
-    for (const name of ['volume', 'prefix']) {
-      form.elements[name].addEventListener('input', ({ target }) => { target.value = target.value.toUpperCase() })
-    }
+    for (const name of ['volume', 'prefix']) keepCapitals(form.elements[name])
   }
 
   // the dialog stands before what is said on the page, so that it tells its own refusals

@@ -280,7 +280,6 @@ def main():
         count = follow(os.path.join(TOP, "docs", "GUIDE.md"), machine)
     finally:
         machine.close()
-        subprocess.run(["chmod", "-R", "u+w", room], check=False)
         shutil.rmtree(room, ignore_errors=True)
     print(f"{count} commands of the guide do on {platform.machine()} what it says")
 

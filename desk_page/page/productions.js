@@ -20,7 +20,7 @@ export class Productions {
     show.addEventListener('click', () => this.open())
     close.addEventListener('click', () => dialog.close())
     form.addEventListener('submit', this.submitted(() => this.freeze()))
-    find.addEventListener('submit', this.submitted(() => this.look(find.elements.id.value)))
+    find.addEventListener('submit', this.submitted(() => this.look(find.elements.id.value.trim())))
     for (const name of ['volume', 'prefix']) keepCapitals(form.elements[name])
   }
 
@@ -72,11 +72,14 @@ export class Productions {
   }
 
   request() {
-    const { id, volume, prefix, width, from, to } = this.form.elements
-    const [digits, first, last] = [width, from, to].map(({ value }) => Number(value))
-    if (![digits, first, last].every(Number.isSafeInteger)) throw new NotNow('Digits, from and to are whole numbers.')
+    const told = (name) => this.form.elements[name].value.trim()
+    if (!['width', 'from', 'to'].every((name) => /^\d{1,9}$/.test(told(name)))) {
+      throw new NotNow('Digits, from and to are whole numbers.')
+    }
     return {
-      id: id.value, volume: volume.value, prefix: prefix.value, width: digits, from: first, to: last, fields: this.chosen(),
+      id: told('id'), volume: told('volume'), prefix: told('prefix'),
+      // a desk reads no more than 255, and refuses that in words
+      width: Math.min(Number(told('width')), 255), from: Number(told('from')), to: Number(told('to')), fields: this.chosen(),
     }
   }
 
@@ -87,7 +90,8 @@ export class Productions {
     const isWarned = this.asked === words
     this.asked = words
     if (!isWarned) {
-      this.tell(`Freeze documents ${request.from} to ${request.to} as ${request.id}? It can’t be taken back. Press Freeze again.`)
+      const { from, to, id } = request
+      this.tell(`Freeze documents ${from} to ${to} as ${id}? It can’t be taken back. Press Freeze again.`)
       return null
     }
     this.asked = null
@@ -105,8 +109,8 @@ export class Productions {
   show(production) {
     const { id, volume, items } = production
     const documents = items.length === 1 ? '1 document' : `${items.length.toLocaleString('en')} documents`
-    this.tell(`${id} stands: ${documents}, ${spanOf(production, production)}. To write its volume ${volume}, end the desk, and in `
-      + `the matter’s folder give the command tivrenan press ${id}`)
+    this.tell(`${id} stands: ${documents}, ${spanOf(production, production)}. To write its volume ${volume}, end the `
+      + `desk, and in the matter’s folder give the command tivrenan press ${id}`)
     this.items.hidden = false
     this.items.tBodies[0].replaceChildren(...items.map((item) => {
       const row = document.createElement('tr')

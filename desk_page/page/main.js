@@ -38,7 +38,8 @@ function build(review) {
   })
   new Productions(review, {
     dialog: the('productions'), form: the('freeze'), find: the('find'), told: the('frozen'), items: the('items'),
-    fields: the('chosen_fields'), show: the('show_productions'), close: the('close_productions'), names: () => held.names, act,
+    fields: the('chosen_fields'), show: the('show_productions'), close: the('close_productions'),
+    names: () => held.names, act,
   })
   review.addEventListener('doc', ({ detail }) => showHead(detail))
   review.addEventListener('page', act(({ detail }) => showPlace(review, detail)))

@@ -1,5 +1,5 @@
-// Productions: the lead or a clerk has what is decided frozen, or looks at a production that stands. Its volume is written at
-// the machine where the matter lies, once the desk is ended: the page says how.
+// Productions: the lead or a clerk has what is decided frozen, or looks at a production that stands. Its volume is written
+// at the machine where the matter lies, once the desk is ended: the page says how.
 import { keepCapitals } from './capitals.js'
 import { Refused } from './desk.js'
 import { NotNow } from './review.js'

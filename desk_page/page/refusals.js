@@ -22,9 +22,11 @@ const MEANINGS = {
   SplitFamily: 'A family reaches outside the range: document {a} is of it. Widen the range to have all of it, or none.',
   Unsettled: 'Document {a} isn’t settled: it has to be called Produce, or confirmed by a second person, and so has each other '
     + 'one of its family.',
-  NothingResponsive: 'Nothing is left to produce: each family of the range is produced already, or has no responsive document.',
+  NothingResponsive: 'Nothing is left to produce: each family of the range is produced already, or has no responsive '
+    + 'document.',
   RequestDiffers: 'This ID belongs to a production with other words. Take another ID.',
-  BadPrefix: 'A prefix has 1 to 12 of A to Z, 0 to 9, - and _, no - at its front and no digit at its end; a number 4 to 10 digits.',
+  BadPrefix: 'A prefix has 1 to 12 of A to Z, 0 to 9, - and _, no - at its front and no digit at its end; a number 4 to 10 '
+    + 'digits.',
   PrefixDiffers: 'This prefix began with {a} digits. Take as many.',
   BatesFull: 'The numbers under this prefix end at {a}. Take another prefix.',
   BadVolume: 'An ID has 1 to 32 letters, digits, - and _; a volume the same without small letters.',

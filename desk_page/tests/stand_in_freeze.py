@@ -6,6 +6,10 @@ REQUEST = dict(id=str, volume=str, prefix=str, width=int, fields=list)
 REQUEST["from"] = REQUEST["to"] = int
 
 
+def is_settled(doc):
+    return doc.call is not None and (doc.call[1] == "Produce" or doc.confirmer != 0)
+
+
 class Productions:
     """Those of a matter; `refused` makes what is raised of a rule's name and its A."""
 
@@ -54,7 +58,7 @@ class Productions:
 
     def check_request(self, request):
         prefix, fields = request["prefix"], request["fields"]
-        if not (re.fullmatch("[A-Z0-9_][A-Z0-9_-]{0,11}", prefix) and not prefix[-1].isdigit() and 4 <= request["width"] <= 10):
+        if not (re.fullmatch("[A-Z0-9_][A-Z0-9_-]{0,11}(?<![0-9])", prefix) and 4 <= request["width"] <= 10):
             raise self.refused("BadPrefix")
         if not (re.fullmatch("[A-Za-z0-9_-]{1,32}", request["id"]) and re.fullmatch("[A-Z0-9_-]{1,32}", request["volume"])):
             raise self.refused("BadVolume")
@@ -76,7 +80,7 @@ class Productions:
         gone = self.produced()
         for rule, holds in (
             ("SplitFamily", lambda doc: doc.parent in around),
-            ("Unsettled", lambda doc: doc.parent not in gone and not (doc.call and (doc.call[1] == "Produce" or doc.confirmer))),
+            ("Unsettled", lambda doc: doc.parent not in gone and not is_settled(doc)),
         ):
             found = next((doc for doc in docs if holds(doc)), None)
             if found is not None:

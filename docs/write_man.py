@@ -94,7 +94,8 @@ def launcher_page():
     lines += [".SH EXAMPLES", ".nf", plain("tivrenan init $(printf %s 'the key of the lead' | sha256sum | cut -c1-64)"),
               plain("tivrenan import CVI_001"), plain("tivrenan serve 1 1000"),
               plain("tivrenan produce R-1 VOL001 ABC 8 1 12 AUTHOR"), ".fi"]
-    return lines + [".SH SEE ALSO", ".BR tivrenan\\-make\\-batch (1),", ".BR tivrenan\\-matter\\-report (1)"]
+    return lines + [".SH SEE ALSO", ".BR tivrenan\\-make\\-batch (1),", ".BR tivrenan\\-matter\\-report (1)", ".PP",
+                    plain("An office's guide stands in share/doc/tivrenan/GUIDE.md below the folder that bin stands in.")]
 
 
 def program_page(name, script):

@@ -21,7 +21,8 @@ Tivrenan makes the volume that a law office hands over. Run it from here as bin/
 
     ./install.sh /usr/local
 
-share/doc/tivrenan/README.md says what it does and what is promised of it. To try it:
+share/doc/tivrenan/README.md says what it does and what is promised of it, and GUIDE.md beside it goes through an office's days.
+To try it:
 
     mkdir trial && cd trial
     cp TIVRENAN/share/doc/tivrenan/examples/letter.tif .

@@ -1,5 +1,6 @@
 // The form of a call: whether the document is responsive, its treatment, its designation. A new call has no answer chosen
 // beforehand: each is a decision.
+import { keepCapitals } from './capitals.js'
 import { NotNow } from './review.js'
 
 export class CallForm {
@@ -11,11 +12,7 @@ export class CallForm {
       event.preventDefault()
       return this.send()
     }))
-    form.elements.designation.addEventListener('input', ({ target }) => {
-      const { selectionStart, selectionEnd } = target
-      target.value = target.value.toUpperCase()
-      target.setSelectionRange(selectionStart, selectionEnd)
-    })
+    keepCapitals(form.elements.designation)
   }
 
   // what was chosen and not sent stays where the same document is told anew

@@ -2,11 +2,12 @@
 // without need. They go one at a time: a desk serves one exchange after another.
 import { inWords, withoutDesk } from './refusals.js'
 
-// The desk refused: `name` is its rule.
+// The desk refused: `rule` is its name, `a` the value that it names.
 export class Refused extends Error {
   constructor(refusal) {
     super(inWords(refusal))
     this.rule = refusal.name
+    this.a = refusal.a
   }
 }
 
@@ -32,10 +33,11 @@ export class Desk {
     return this.#inTurn(() => this.#exchange(path, { method: 'GET' }))
   }
 
-  make(path, members) {
+  // `unknown` is what to say where no desk answered
+  make(path, members, unknown = 'It isn’t known whether this was done: look again (L).') {
     const request = { method: 'POST', body: JSON.stringify(members) }
     return this.#inTurn(() => this.#exchange(path, request)).catch((why) => {
-      if (why instanceof NoAnswer) why.message += ' It isn’t known whether this was done: look again (L).'
+      if (why instanceof NoAnswer) why.message += ` ${unknown}`
       throw why
     })
   }

@@ -11,6 +11,7 @@ import { HeldFields } from './held_fields.js'
 import { act, reasonOf, say, the } from './messages.js'
 import { Paper } from './paper.js'
 import { People } from './people.js'
+import { Productions } from './productions.js'
 import { NotNow, Review } from './review.js'
 import { SecondReview } from './second_review.js'
 import { inFull, lacksOf, progressOf, signOf } from './states.js'
@@ -34,6 +35,11 @@ function build(review) {
   new People(review.desk, {
     dialog: the('people'), form: the('person'), handed: the('handed'), newKey: the('new_key'), show: the('show_people'),
     close: the('close_people'), act,
+  })
+  new Productions(review, {
+    dialog: the('productions'), form: the('freeze'), find: the('find'), told: the('frozen'), items: the('items'),
+    fields: the('chosen_fields'), show: the('show_productions'), close: the('close_productions'),
+    names: () => held.names, act,
   })
   review.addEventListener('doc', ({ detail }) => showHead(detail))
   review.addEventListener('page', act(({ detail }) => showPlace(review, detail)))

@@ -18,6 +18,21 @@ const MEANINGS = {
   NoField: 'The matter has no field of this name. Capital and small letters count.',
   TextRefused: 'A text is too long or has a character that it may not have: names, dates and recipients have up to 200 '
     + 'bytes, a description 1,000; a designation up to 40 of A to Z, 0 to 9, space, - _ and point.',
+  RangeEmpty: 'From is 1 or more and at most To, and To is at most the number of documents.',
+  SplitFamily: 'A family reaches outside the range: document {a} is of it. Widen the range to have all of it, or none.',
+  Unsettled: 'Document {a} isn’t settled: it has to be called Produce, or confirmed by a second person, and so has each other '
+    + 'one of its family.',
+  NothingResponsive: 'Nothing is left to produce: each family of the range is produced already, or has no responsive '
+    + 'document.',
+  RequestDiffers: 'This ID belongs to a production with other words. Take another ID.',
+  BadPrefix: 'A prefix has 1 to 12 of A to Z, 0 to 9, - and _, no - at its front and no digit at its end; a number 4 to 10 '
+    + 'digits.',
+  PrefixDiffers: 'This prefix began with {a} digits. Take as many.',
+  BatesFull: 'The numbers under this prefix end at {a}. Take another prefix.',
+  BadVolume: 'An ID has 1 to 32 letters, digits, - and _; a volume the same without small letters.',
+  VolumeTaken: 'Another production has this volume’s name. Take another.',
+  FieldChoice: 'A field is chosen twice, or has the name of a column that each volume has.',
+  NoProduction: 'No production has this ID. Capital and small letters count.',
   StaffThere: 'The key belongs to staff {a} already. Take another key.',
   MatterFull: 'The matter is full: it takes no more of this kind.',
   HeadRefused: 'The desk couldn’t read the request. Tell the one who looks after the desks.',

@@ -82,7 +82,9 @@ class Office:
             words = [self.program, "serve", "1", "100000"]
         else:
             words = [sys.executable, os.path.join(HERE, "stand_in.py"), str(self.desk_port), BATCH, LEAD, str(self.copies)]
-        self.desk = subprocess.Popen(words, cwd=self.folder, stdout=subprocess.PIPE, text=True)
+        # where the tests run in the background of a shell, SIGINT is ignored by what they start, and a desk wouldn't end
+        self.desk = subprocess.Popen(words, cwd=self.folder, stdout=subprocess.PIPE, text=True,
+                                     preexec_fn=lambda: signal.signal(signal.SIGINT, signal.SIG_DFL))
         wait_for(self.desk_port, self.desk)
 
     def close_desk(self):

@@ -1,7 +1,7 @@
 #!/usr/bin/env python3
 """A whole review by the page in a headless Chromium, behind nginx: the decisions of examples/office.sh made with keys and
-mouse, the second review, refusals, and what a person does by mistake. Over the program, where it is given, `produce` then
-writes the volume, and examples/check_volume.py looks at it; else over the stand-in.
+mouse, the second review, refusals, what a person does by mistake, and the production. Over the program, where it is given,
+`press` then writes the volume, and examples/check_volume.py looks at it; else over the stand-in.
 
     review.py SCRATCH SHOTS [PROGRAM]     pictures of the screens go into the folder SHOTS
 """
@@ -415,10 +415,82 @@ def try_secrets(person, key, office):
     check("nothing that the browser or its policy refused", not person.log, person.log)
 
 
-# what the routes of review may answer
+def ask_production(person, words):
+    """Presses Freeze, and waits for what the dialog tells."""
+    person.js("document.getElementById('frozen').textContent = ''")
+    person.click("#freeze > button")
+    try:
+        person.until(f"document.getElementById('frozen').textContent.includes({json.dumps(words)})", 30)
+        return True
+    except RuntimeError:
+        return False
+
+
+def open_productions(person):
+    person.click("#show_productions")
+    person.until("document.getElementById('productions').open")
+
+
+def try_productions(person, ellis, office, shots):
+    """The lead has the decisions frozen; what is in the way is told, and a reviewer may not."""
+    open_productions(ellis)
+    for name, text in (("id", "R-1"), ("volume", "V"), ("prefix", "P")):
+        ellis.click(f"#freeze [name={name}]")
+        ellis.type(text)
+    ask_production(ellis, "Press Freeze again")
+    check("a reviewer's request is refused", ask_production(ellis, "Your role may not do this"), ellis.text("frozen"))
+    ellis.key("Escape")
+    person.enter(office.url, LEAD)
+    open_productions(person)
+    for name, text in (("id", "R-1"), ("volume", "vol001"), ("prefix", "abc")):
+        person.click(f"#freeze [name={name}]")
+        person.type(text)
+    person.click("#freeze [value=AUTHOR]")
+    office.ask(MARLOW, "POST", "/docs/11/back", {})
+    check("a freeze waits for a second press", ask_production(person, "Freeze documents 1 to 12 as R-1? It can’t be taken back"), person.text("frozen"))
+    check("a document that isn't settled is named", ask_production(person, "Document 11 isn’t settled"), person.text("frozen"))
+    person.shot(os.path.join(shots, "unsettled.png"))
+    person.click("#frozen button")
+    person.until("!document.getElementById('productions').open && document.getElementById('title').textContent === 'Document 11'")
+    check("and opened", person.text("state") == "○ Not called yet.", person.text("state"))
+    office.ask(ELLIS, "POST", "/docs/11/call", dict(responsive=True, treatment="Produce", designation=""))
+    open_productions(person)
+    change = lambda name, value: person.js(f"(() => {{ document.querySelector('#freeze').elements.{name}.value = {value!r} }})()")
+    change("from", "-1")
+    check("what is no number is told", ask_production(person, "are whole numbers"), person.text("frozen"))
+    change("from", "1")
+    change("width", "300")
+    ask_production(person, "Press Freeze again")
+    check("a number that is too wide is refused in words", ask_production(person, "4 to 10 digits"), person.text("frozen"))
+    change("width", "8")
+    change("from", "2")
+    ask_production(person, "Press Freeze again")
+    check("a family that is cut is named", ask_production(person, "document 2 is of it"), person.text("frozen"))
+    change("from", "1")
+    check("other words wait for a second press again", ask_production(person, "Press Freeze again"), person.text("frozen"))
+    due = "R-1 stands: 10 documents, ABC00000001 to ABC00000023. "
+    check("the production stands", ask_production(person, due), person.text("frozen"))
+    rows = person.js("Array.from(document.querySelectorAll('#items tbody tr'), (it) => Array.from(it.cells, (cell) => cell.textContent).join(' '))")
+    check("with each document's labels", len(rows) == 10 and rows[2] == "3 Withhold AC ABC00000006" and
+          rows[3] == "4 Produce ABC00000007", rows)
+    person.shot(os.path.join(shots, "production.png"))
+    ask_production(person, "Press Freeze again")
+    check("asked once more it is the same", ask_production(person, due), person.text("frozen"))
+    for name, words in (("R-9", "No production has this ID"), ("R-1", due)):
+        person.js("document.querySelector('#find').elements.id.value = ''")
+        person.click("#find [name=id]")
+        person.type(name)
+        person.click("#find button")
+        person.until("document.getElementById('frozen').textContent !== ''", 30)
+        check(f"a look at {name}", words in person.text("frozen"), person.text("frozen"))
+    person.key("Escape")
+
+
+# what the routes may answer
 RULES = """KeyUnknown NoDocument NoPage RoleRefused BoxOutside BoxShape WrongTreatment BoxesRemain BadBasis NotCalled SamePerson
 NothingRedacted EntryMissing NoField TextRefused MatterFull StaffThere HeadRefused BodyRefused BodyLimit KeyMissing NoRoute
-JournalFull KeeperFault OutOfMemory""".split()
+JournalFull KeeperFault OutOfMemory RangeEmpty SplitFamily Unsettled NothingResponsive RequestDiffers BadPrefix PrefixDiffers
+BatesFull BadVolume VolumeTaken FieldChoice NoProduction""".split()
 
 
 def try_words(person):
@@ -470,13 +542,15 @@ def try_large_letters(office, shots):
         person.close()
 
 
-def produce(office):
+def press(office):
     office.close_desk()
-    line = office.run("produce", "R-1", "VOL001", "ABC", "8", "1", "12", "AUTHOR")
-    check("the volume is produced", line.startswith("production R-1 labels ABC00000001 to ABC00000023 files 37 "), line)
+    line = office.run("press", "R-1")
+    check("the volume is written", line.startswith("production R-1 labels ABC00000001 to ABC00000023 files 37 "), line)
     told = subprocess.run([os.path.join(TOP, "examples", "check_volume.py"), "out"], cwd=office.folder, capture_output=True,
                           text=True, check=False)
     check("and is as examples/check_volume.py expects it", told.returncode == 0, told.stdout + told.stderr)
+    again = office.run("produce", "R-1", "VOL001", "ABC", "8", "1", "12", "AUTHOR")
+    check("`produce` with the same words gives the same", again == line, again)
 
 
 def main():
@@ -500,11 +574,12 @@ def main():
         try_second(marlow, office, shots)
         try_large_letters(office, shots)
         try_people(marlow, office, shots)
+        try_productions(marlow, ellis, office, shots)
         marlow.enter(office.url, MARLOW)
         try_without_desk(marlow, office)
         try_secrets(marlow, MARLOW, office)
         if office.program:
-            produce(office)
+            press(office)
     finally:
         for person in (ellis, marlow):
             if person is not None:

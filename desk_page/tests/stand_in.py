@@ -12,14 +12,17 @@ import re
 import socketserver
 import sys
 
+from stand_in_freeze import REQUEST, Productions
+
 ROLES = {"Reviewer", "Second", "Lead", "Clerk", "Receiver"}
 REVIEWERS, CHECKERS = {"Reviewer", "Second", "Lead"}, {"Second", "Lead"}
 BASES = {"AC", "WP", "PI", "TS"}
 TREATMENTS = {"Produce", "Redact"} | {"Withhold-" + basis for basis in BASES}
 RULES = dict(KeyUnknown=9, NoDocument=10, NoPage=11, RoleRefused=12, BoxOutside=13, BoxShape=14, WrongTreatment=15,
              BoxesRemain=16, BadBasis=17, NotCalled=18, SamePerson=19, NothingRedacted=20, EntryMissing=21, NoField=22,
-             TextRefused=23, NoProduction=33, StaffThere=36, HeadRefused=101, BodyRefused=102, BodyLimit=103, KeyMissing=104,
-             NoRoute=105)
+             TextRefused=23, RangeEmpty=24, SplitFamily=25, Unsettled=26, NothingResponsive=27, RequestDiffers=28, BadPrefix=29,
+             PrefixDiffers=30, BatesFull=31, BadVolume=32, NoProduction=33, StaffThere=36, FieldChoice=40, VolumeTaken=41,
+             HeadRefused=101, BodyRefused=102, BodyLimit=103, KeyMissing=104, NoRoute=105)
 STATUS = dict(KeyUnknown=401, KeyMissing=401, RoleRefused=403, NoDocument=404, NoPage=404, NoRoute=404, NoProduction=404,
               HeadRefused=400, BodyRefused=400, BodyLimit=413)
 COLUMNS_APART = {"BEGDOC", "ENDDOC", "BEGATTACH", "ENDATTACH"}
@@ -71,6 +74,7 @@ class Matter:
         with open(os.path.join(folder, "load.opt"), encoding="utf-8-sig") as file:
             lines = [line.rstrip("\r\n").split(",") for line in file if line.strip()]
         self.docs = []
+        self.productions = Productions(self, Refused)
         for _ in range(copies):
             self.add(columns, records, lines, words, folder)
 
@@ -245,6 +249,14 @@ def send_back(matter, _caller, numbers, _body):
     doc.call, doc.editor, doc.confirmer = None, 0, 0
 
 
+def freeze(matter, _caller, _words, body):
+    return matter.productions.freeze(body)
+
+
+def get_production(matter, _caller, words, _body):
+    return matter.productions.see(words[0])
+
+
 DOC = r"/docs/([1-9]\d{0,8})"
 INSIDERS = ROLES - {"Receiver"}
 # method, target, who may, what it does, members
@@ -262,6 +274,8 @@ ROUTES = [
     ("POST", DOC + "/entry", REVIEWERS, put_entry, dict(date=str, author=str, recipients=str, description=str)),
     ("POST", DOC + "/confirm", CHECKERS, confirm, {}),
     ("POST", DOC + "/back", CHECKERS, send_back, {}),
+    ("POST", "/productions", {"Clerk", "Lead"}, freeze, REQUEST),
+    ("GET", "/productions/([^/?]+)", INSIDERS, get_production, {}),
 ]
 
 
@@ -291,7 +305,8 @@ def answer(matter, method, target, fields, body):
     caller, role = matter.who(keys[0])
     if role not in roles:
         raise Refused("RoleRefused")
-    return work(matter, caller, [int(number) for number in found.groups()], value)
+    words = [int(word) if "docs" in pattern else word for word in found.groups()]
+    return work(matter, caller, words, value)
 
 
 # ---- exchanges, one after another

@@ -181,8 +181,10 @@ try_archive() {
     chmod 644 letter.tif
 }
 nobody=
-if [ "$(id -u)" -eq 0 ] && command -v setpriv > /dev/null; then
-    nobody='setpriv --reuid=65534 --regid=65534 --clear-groups'
+as_nobody='setpriv --reuid=65534 --regid=65534 --clear-groups'
+# shellcheck disable=SC2086 # a list of words
+if [ "$(id -u)" -eq 0 ] && $as_nobody true 2> /dev/null; then
+    nobody=$as_nobody
 else
     echo 'install.sh: the archive is tried as this user, and not as nobody'
 fi

@@ -31,6 +31,7 @@ NEEDED = {
     "tifftopnm": "netpbm",
     "tesseract": "tesseract-ocr",
 }
+IMAGEMAGICK = ("convert", "identify")  # a program `convert` alone may be another's
 JOBS = os.environ.get("JOBS", str(os.cpu_count() or 1))
 os.environ["OMP_THREAD_LIMIT"] = "1"  # several threads of tesseract wait for each other where processors are taken
 TEXT = "The roof of building four leaks since the winter, and the landlord was told of it by registered letter."
@@ -284,7 +285,7 @@ class OtherPrograms(Case):
         self.assertEqual(self.said, "")
         self.assertEqual(batch.pixels(0), sh(["tifftopnm", "-quiet", LETTER]), "the scan's own pixels")
 
-    @has("convert", "img2pdf")
+    @has(*IMAGEMAGICK, "img2pdf")
     def test_imagemagick_and_img2pdf_of_a_grey_scan(self):
         self.put("../grey.png", sh(["convert", LETTER, "-resize", "50%", "-colorspace", "Gray", "-density", "150", "png:-"]))
         self.put("a.pdf", sh(["img2pdf", os.path.join(self.room, "grey.png")]))
@@ -359,7 +360,7 @@ class Scans(Case):
             turns = [["-null"], ["-lr"], ["-r180"], ["-tb"], ["-xy"], ["-r270"], ["-xform=transpose,topbottom,leftright"], ["-r90"]]
             self.check_turned(batch, lambda at: sh(["pamflip", *turns[at - 1]], input=upright))
 
-    @has("convert")
+    @has(*IMAGEMAGICK)
     def test_turned_pages_by_imagemagick(self):
         batch = self.turned(self.small)
 
@@ -636,7 +637,9 @@ class Refusals(Case):
         for at in range(20):
             shutil.copy(LETTER, self.path(f"{at}.tif"))
         for number in (signal.SIGTERM, signal.SIGINT, signal.SIGHUP):
-            running = subprocess.Popen([MAKE, self.folder, os.path.join(self.room, "OUT"), "--jobs", "1"], stderr=subprocess.PIPE)
+            # where the tests run in the background of a shell, SIGINT is ignored by what they start
+            running = subprocess.Popen([MAKE, self.folder, os.path.join(self.room, "OUT"), "--jobs", "1"], stderr=subprocess.PIPE,
+                                       preexec_fn=lambda: signal.signal(signal.SIGINT, signal.SIG_DFL))
             time.sleep(3)
             running.send_signal(number)
             running.communicate(timeout=60)

@@ -21,8 +21,36 @@ use Rattle.bp_core.specs.declared.rules.RuleKind.TheVariants.{CheckBreaks, Check
 use Rattle.bp_check.specs.Labels.{end_digits, label_of, labels_of}
 use Rattle.bp_check.specs.Manifest.{listed_in, manifest_of}
 use Rattle.bp_check.specs.declared.checked.Checked.{Checked}
-use Rattle.bp_check.specs.declared.files.TheConstants.{IMAGE, MANIFEST, OPT}
+use Rattle.bp_check.specs.declared.files.TheConstants.{DAT, FILE_LIMIT, IMAGE, LISTED, MANIFEST, OPT, TEXT}
+use Rattle.bp_check.specs.declared.labels.TheConstants.{MOST_LABEL_DIGITS}
 use Rattle.bp_check.specs.declared.records.Record.{Record}
+
+-- ---- numbers
+
+file_limit : FILE_LIMIT ≡ 134217728
+file_limit = refl
+
+-- the files that a rule speaks of
+dat_file : DAT ≡ 0
+dat_file = refl
+
+opt_file : OPT ≡ 1
+opt_file = refl
+
+manifest_file : MANIFEST ≡ 2
+manifest_file = refl
+
+image_file : IMAGE ≡ 3
+image_file = refl
+
+text_file : TEXT ≡ 4
+text_file = refl
+
+listed_file : LISTED ≡ 5
+listed_file = refl
+
+most_label_digits : MOST_LABEL_DIGITS ≡ 18
+most_label_digits = refl
 
 -- ---- labels
 

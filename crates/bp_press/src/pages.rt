@@ -74,14 +74,7 @@ pub(crate) fn page_file(
     };
     let stamps = stamps_on(alloc, &item.boxes, page)?;
     let scan = row.image.page(alloc)?;
-    let image = produced(
-        alloc,
-        Ink::Black,
-        &scan,
-        &stamps,
-        label,
-        &item.designation,
-    )?;
+    let image = produced(alloc, Ink::Black, &scan, &stamps, label, &item.designation)?;
     write_tiff(alloc, Form::G4, &image)
 }
 

@@ -376,7 +376,7 @@ drop_box = Review (call_edits.Put (call_row Redact (first 2))) (mark_edits.DropB
 -- one change each; the call of a key that nobody has is refused, and changes nothing
 changed : AreChanges begun (by 2 (call_of 1 Redact) ∷ by 9 confirm_it ∷ by 2 (box_of 1 8 1 Ac) ∷ []) (put_call ∷ Nothing ∷ put_box ∷ [])
 unfolding step_of lib.Utf8.encode
-changed = ((refl, λ broken. absurd cc), (refl, λ broken. refl), (refl, λ broken. absurd cc), refl)
+changed = ((refl, λ broken. absurd cc), ((refl, λ broken. refl), ((refl, λ broken. absurd cc), refl)))
 
 -- the call's row is put twice and stands once, before the box's
 put_in_turn : put_changes (put_call ∷ Nothing ∷ put_box ∷ []) [] ≡ call_kept (call_row Redact (first 2)) ∷ box_kept (box_row Ac) ∷ []

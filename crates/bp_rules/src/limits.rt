@@ -8,8 +8,8 @@ ghost use Rattle.bp_rules.specs.Limits.{documents_after, fields_after, full_rule
 
 use bp_core::{Rule, RuleKind, Text};
 use bp_matter::{
-    Batch, BatchDoc, BatchPage, FieldRow, KeptPage, MAX_BATCHES, MAX_DOCUMENTS, MAX_FIELDS, MAX_PAGES,
-    MAX_PIXELS, PageRow, Tables,
+    Batch, BatchDoc, BatchPage, FieldRow, KeptPage, MAX_BATCHES, MAX_DOCUMENTS, MAX_FIELDS,
+    MAX_PAGES, MAX_PIXELS, PageRow, Tables,
 };
 
 // The numbers of the limits.

@@ -16,7 +16,7 @@ returns-then-not-inside c = λ lines placed long.
     let page = c.index-pages-places.result in
     let on : page ≡ get_or pages (get_or places l.row-index 0) page = c.index-pages-places.is ∙ ap (λ n. get_or pages (get_or places n 0) page) l.invariant.number in
     let sides : c.inside.result ≡ lies_inside row.word.rect page.width page.height =
-    c.inside.ensures.value ∙ ap (λ w. lies_inside row.word.rect w c.height.result) c.width.ensures.value ∙ ap (lies_inside row.word.rect page.width) c.height.ensures.value in
+    c.inside.ensures.value ∙ ap (λ w. lies_inside row.word.rect w c.height.result) c.width.ensures.width ∙ ap (lies_inside row.word.rect page.width) c.height.ensures.height in
     let reads : row_inside lines pages row ≡ cond c.inside.result (Some row.word) None =
     row_at lines pages rows places l.row-index row page placed long c.loop-row-test.true c.row-item.is on ∙ ap (λ b. cond b (Some row.word) None) (sym sides) in
     outside_at lines pages rows l.row-index row c.inside.result c.loop-row-test.true c.row-item.is reads c.if-not-inside.true (l.invariant.told lines placed long)
@@ -33,7 +33,7 @@ loop-row-preserved c =
     let page = c.index-pages-places.result in
     let on : page ≡ get_or pages (get_or places l.row-index 0) page = c.index-pages-places.is ∙ ap (λ n. get_or pages (get_or places n 0) page) l.invariant.number in
     let sides : c.inside.result ≡ lies_inside row.word.rect page.width page.height =
-    c.inside.ensures.value ∙ ap (λ w. lies_inside row.word.rect w c.height.result) c.width.ensures.value ∙ ap (lies_inside row.word.rect page.width) c.height.ensures.value in
+    c.inside.ensures.value ∙ ap (λ w. lies_inside row.word.rect w c.height.result) c.width.ensures.width ∙ ap (lies_inside row.word.rect page.width) c.height.ensures.height in
     record {
       number = ap (λ n. n + 1) l.invariant.number;
       told = λ lines placed long.

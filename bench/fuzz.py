@@ -44,9 +44,9 @@ def request_lines(draw):
     while True:
         data = web_model.usual(draw)
         kind = draw.random()
-        if kind < 0.06:
+        if kind < 0.02:
             data = at_a_limit(draw)
-        if kind < 0.03 or kind > 0.45:
+        if kind < 0.01 or kind > 0.45:
             data = (web_model.damaged if draw.random() < 0.6 else damaged)(draw, data)
         line = draw.choice(("read", "read", "read", "enough", "from")) + " " + web_model.escaped(data)
         if len(data) > 3000 and line.startswith("from"):

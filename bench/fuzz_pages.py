@@ -481,8 +481,9 @@ def tiff_lines(draw):
     """Page files, whole and damaged."""
     yield "file hex -", ""
     while True:
-        data = some_file(draw)
-        yield "file tiff + " + hex_word(data), answer(lambda: read_tiff(data).told())
+        whole = stranger(draw, some_page(draw), draw.choice((0, 0, 1, 1, 2, 3)))
+        for data in (whole, damaged(draw, whole), damaged(draw, whole), damaged(draw, whole, 1)):
+            yield "file tiff + " + hex_word(data), answer(lambda: read_tiff(data).told())
 
 
 def strip_lines(draw):

@@ -52,7 +52,7 @@ def request_lines(draw):
         if len(data) > 3000 and line.startswith("from"):
             line = "enough" + line[4:]
         if " = " not in line:
-            yield line, web_model.told(line)
+            yield [(line, web_model.told(line))]
 
 
 def at_a_limit(draw):
@@ -77,14 +77,15 @@ def at_a_limit(draw):
 
 def fuzz_lines(job, program, count, seed, keep):
     draw = random.Random(f"{job} {seed}")
-    lines = request_lines(draw) if job == "requests" else LINES[job](draw)
+    cases = request_lines(draw) if job == "requests" else LINES[job](draw)
     done = failed = 0
     while done < count:
-        chunk = [next(lines) for _ in range(min(AT_ONCE, count - done))]
+        # the lines of a case stay in one file; page files are put behind an empty one
+        chunk = [("file hex -", "")] if job == "tiff" else []
+        while len(chunk) < min(AT_ONCE, count - done):
+            chunk += next(cases)
         failed += told_otherwise(program, chunk, f"{keep}/{job}-{seed}-{done}.txt")
         done += len(chunk)
-        if job == "tiff":
-            lines = LINES[job](draw)
     return done, failed
 
 

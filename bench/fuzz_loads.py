@@ -303,9 +303,9 @@ def load_lines(draw):
         else:
             told, written, name = opt_told, opt_written, "opt"
         if draw.random() < 0.7:
-            yield f"load {name} {said(data)}", answer(told, data)
+            yield [(f"load {name} {said(data)}", answer(told, data))]
         else:
-            yield f"load {name}_written {said(data)}", answer(written, data)
+            yield [(f"load {name}_written {said(data)}", answer(written, data))]
 
 
 def word_lines(draw):
@@ -315,12 +315,14 @@ def word_lines(draw):
         if draw.random() < 0.7:
             data = damaged(draw, data)
         told = answer(words_told, data)
-        yield f"words read {said(data)}", told
+        lines = [(f"words read {said(data)}", told)]
         if not told.startswith("refused") and draw.random() < 0.5:
             words = [row[1:] for row in read_words(data)]
             boxes = [[draw.randrange(30), draw.randrange(12), draw.choice((0, 1, 4)), draw.choice((0, 1, 9))]
                      for _ in range(draw.choice((0, 1, 2)))]
-            yield ("words kept " + " ".join(str(n) for box in boxes for n in box)).rstrip(), told_text(page_text(kept(words, boxes)))
+            asked = " ".join(["words kept", *(str(n) for box in boxes for n in box)])
+            lines.append((asked, told_text(page_text(kept(words, boxes)))))
+        yield lines
 
 
 def name_lines(draw):
@@ -332,18 +334,19 @@ def name_lines(draw):
             text = draw.choice("/\\").join(parts)
             if draw.random() < 0.5:
                 text = damaged(draw, text.encode("utf-8")).decode("utf-8", "ignore")
-            yield f"core path {said(text.encode('utf-8'))}", answer(lambda: told_text(path_of(text)))
+            yield [(f"core path {said(text.encode('utf-8'))}", answer(lambda: told_text(path_of(text))))]
             continue
         prefix = "".join(draw.choice("ABZ-_09aB\u00c4") for _ in range(draw.choice((0, 1, 2, 3, 11, 12, 13))))
         if draw.random() < 0.6:
             prefix = draw.choice(("AB-", "Z", "_", "A1_", "ABCDEFGHIJKL", "0-"))
         width = draw.choice((0, 3, 4, 5, 9, 10, 11, 255))
         if kind == 2:
-            yield f"label good {said(prefix.encode('utf-8'))} {width}", "yes" if good_prefix(prefix, width) else "no"
+            yield [(f"label good {said(prefix.encode('utf-8'))} {width}", "yes" if good_prefix(prefix, width) else "no")]
         elif good_prefix(prefix, width):
             most = largest(width)
             number = draw.choice((1, 2, 9, 10, most, most - 1, draw.randrange(1, most + 1)))
             text = label(prefix, width, number)
-            yield f"label write {said(prefix.encode('utf-8'))} {width} {number}", f"{len(text)} {text.ljust(22, '.')}"
+            yield [(f"label write {said(prefix.encode('utf-8'))} {width} {number}", f"{len(text)} {text.ljust(22, '.')}")]
             number, count = draw.choice((1, number, most, most + 1, most - 19999)), draw.choice((1, 2, 9, 20000, draw.randrange(1, 20001)))
-            yield f"label take {max(1, number)} {width} {count}", answer(lambda: "%d-%d %d" % take(max(1, number), width, count))
+            number = max(1, number)
+            yield [(f"label take {number} {width} {count}", answer(lambda: "%d-%d %d" % take(number, width, count)))]

@@ -473,7 +473,7 @@ def step(m, digest, name, call):
     doc = call["doc"]
     if not 1 <= doc <= len(m.docs):
         raise Rule(10, doc)
-    if "page" in call and (doc, call["page"]) not in m.pages:
+    if name in ("SeePage", "SeeWords", "PutBox") and (doc, call["page"]) not in m.pages:
         raise Rule(11, call["page"])
     return STEPS[name](m, caller, doc, call)
 

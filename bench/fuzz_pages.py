@@ -479,11 +479,10 @@ def some_file(draw):
 
 def tiff_lines(draw):
     """Page files, whole and damaged."""
-    yield "file hex -", ""
     while True:
         whole = stranger(draw, some_page(draw), draw.choice((0, 0, 1, 1, 2, 3)))
         for data in (whole, damaged(draw, whole), damaged(draw, whole), damaged(draw, whole, 1)):
-            yield "file tiff + " + hex_word(data), answer(lambda: read_tiff(data).told())
+            yield [("file tiff + " + hex_word(data), answer(lambda: read_tiff(data).told()))]
 
 
 def strip_lines(draw):
@@ -501,9 +500,10 @@ def strip_lines(draw):
         fills = "high" if fill == 1 else "low"
         asked = f"page coded {width} {height} {fills} {hex_word(strip)}"
         told = answer(lines_of_strip, strip, fill, width, height)
-        yield asked, told if isinstance(told, str) else ""
-        if not isinstance(told, str):
-            yield "page rows", told_bytes(Page(width, height, told).packed())
+        if isinstance(told, str):
+            yield [(asked, told)]
+        else:
+            yield [(asked, ""), ("page rows", told_bytes(Page(width, height, told).packed()))]
 
 
 TEXT = "ABCDEFGHIJKLMNOPQRSTUVWXYZ0123456789-_. "
@@ -522,12 +522,10 @@ def page_lines(draw):
         if draw.random() < 0.3:
             page = page.like(some_lines(draw, page.width, 40), 40)
         page.xres, page.yres, page.unit = (200, 1), (200, 1), 2
-        yield f"page packed {page.width} {page.height} {hex_word(page.packed())}", ""
-        yield "page codes", told_bytes(strip_of(page))
-        yield "page again", "yes"
+        lines = [(f"page packed {page.width} {page.height} {hex_word(page.packed())}", ""),
+                 ("page codes", told_bytes(strip_of(page))), ("page again", "yes")]
         for form in ("plain", "g4"):
-            yield "file hex " + hex_word(tiff_of(page, form)), ""
-            yield f"page written {form}", "yes"
+            lines += [(f"file hex {hex_word(tiff_of(page, form))}", ""), (f"page written {form}", "yes")]
         stamps = [[*some_rect(draw, page.width, page.height), draw.choice(("AC", "WP", "PI", "TS"))]
                   for _ in range(draw.choice((0, 1, 1, 2, 4)))]
         ink = draw.choice(("black", "lettered"))
@@ -535,10 +533,10 @@ def page_lines(draw):
         words = " ".join(str(word) for stamp in stamps for word in stamp)
         words = f"{ink} {said(label.encode())} {said(designation.encode())} {words}".rstrip()
         if draw.random() < 0.5:
-            yield f"page strip_produced {words}", "yes"
-            yield f"page produced {words}", ""
-            yield "page rows", told_bytes(banded(covered(page, stamps, ink), label, designation).packed())
+            made = banded(covered(page, stamps, ink), label, designation)
+            lines += [(f"page strip_produced {words}", "yes"), (f"page produced {words}", "")]
         else:
             boxes = [stamp[:4] for stamp in stamps]
-            yield ("page burn " + " ".join(str(n) for box in boxes for n in box)).rstrip(), ""
-            yield "page rows", told_bytes(burned(page, boxes).packed())
+            made = burned(page, boxes)
+            lines.append((" ".join(["page burn", *(str(n) for box in boxes for n in box)]), ""))
+        yield [*lines, ("page rows", told_bytes(made.packed()))]

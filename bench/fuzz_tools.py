@@ -40,7 +40,7 @@ def answer(make, *words):
 
 # ---- lines of bp_lines
 
-PLAIN = set(b"ABCDEFGHIJKLMNOPQRSTUVWXYZabcdefghijklmnopqrstuvwxyz0123456789,.:/\\\"'|+*#!?;()[]{}<>=@&~^$")
+PLAIN = set(b"ABCDEFGHIJKLMNOPQRSTUVWXYZabcdefghijklmnopqrstuvwxyz0123456789,.:/\\\"'|+*#!?;()[]{}<>@&~^$")
 
 
 def said(data):

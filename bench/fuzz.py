@@ -51,7 +51,7 @@ def request_lines(draw):
         line = draw.choice(("read", "read", "read", "enough", "from")) + " " + web_model.escaped(data)
         if len(data) > 3000 and line.startswith("from"):
             line = "enough" + line[4:]
-        if " = " not in line:
+        if " = " not in f"{line} ":
             yield [(line, web_model.told(line))]
 
 

@@ -48,6 +48,7 @@ MAKE_UP = {
 VERTICAL = {"1": 0, "011": 1, "000011": 2, "0000011": 3, "010": -1, "000010": -2, "0000010": -3}
 MODES = {"0001": "pass", "001": "horizontal", **VERTICAL}
 EXTENSION, END_OF_BLOCK = "0000001", "000000000001" * 2
+DUE_AT_A_MODE = {*MODES, EXTENSION, END_OF_BLOCK}
 
 
 def run_codes(colour):
@@ -110,7 +111,7 @@ def code(lines, width):
 
 def begins(bits, at, codes):
     """The code that begins at a place, if one does."""
-    return next((code for code in codes if bits.startswith(code, at)), None)
+    return next((bits[at:end] for end in range(at + 1, at + 25) if bits[at:end] in codes), None)
 
 
 def read_run(bits, at, black, room, row):
@@ -140,9 +141,9 @@ def read_line(bits, at, reference, width, row):
             edges.append(edge)
 
     while a0 < width:
-        code = begins(bits, at, [*MODES, EXTENSION, END_OF_BLOCK])
+        code = begins(bits, at, DUE_AT_A_MODE)
         if code is None:
-            cut = any(code.startswith(bits[at:]) for code in [*MODES, EXTENSION, END_OF_BLOCK])
+            cut = any(code.startswith(bits[at:]) for code in DUE_AT_A_MODE)
             raise Refused(70 if cut else 73, row, at)
         if code in (EXTENSION, END_OF_BLOCK):
             raise Refused(72 if code == EXTENSION else 71, row, at)

@@ -1,7 +1,7 @@
 # What is made of this repository beside its proofs; CONTRIBUTING.md says how it is proved.
 PREFIX ?= /usr/local
 
-.PHONY: all dist install man check-tools
+.PHONY: all dist install man check check-tools
 
 all:
 	./tivrenan build
@@ -16,9 +16,10 @@ install:
 man:
 	docs/write_man.py
 
-# what no contract reaches of the programs for offices
+# what no contract reaches: tools, page, guide, desks, each where what it needs is installed
+check:
+	tools/tests/all.py
+
+# of that the programs for offices, and what installs and packs
 check-tools:
-	docs/write_man.py check
-	tools/tests/install.sh
-	tools/tests/matter_report.py
-	tools/tests/make_batch.py
+	tools/tests/all.py manual install report batch

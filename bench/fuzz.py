@@ -3,16 +3,19 @@
 built PROGRAM says with the model (docs/FORMATS.md, docs/STATUSES.md), and writes each case that differs into the folder KEEP.
 Ends with status 1 where one does. The same words give the same cases.
 
-Jobs over the programs that read lines, COUNT lines each:
+Jobs over the programs that read lines, COUNT lines each, of `volumes` COUNT checks:
     tiff strips pages loads words names     by bp_lines
     requests                                by bp_web_lines
+    volumes                                 by bp_check_lines: right volumes, each changed in one place at a time
 Jobs over the program, COUNT command lines or requests each:
     burn     page files, boxes and paths
+    check    volumes as those of `volumes`, also with folders in place of files and files at the limit
     batch    imports of whole and damaged batches, one after another into one matter
     matter   damaged rows in matter.db
     file     damaged bytes of matter.db: the answer is that of the rows that Python's sqlite3 reads, or a keeper fault
     day      imports, raw requests at desks, productions, presses and logs in turn; takes the ports 48201 to 48203
 """
+import collections
 import os
 import random
 import shutil
@@ -22,6 +25,7 @@ import tempfile
 import time
 
 import fuzz_batch as batches
+import fuzz_check as checks
 import fuzz_days as days
 import fuzz_loads as loads
 import fuzz_matter as matters
@@ -31,7 +35,7 @@ from fuzz_tools import Rule, damaged
 
 LINES = {
     "tiff": pages.tiff_lines, "strips": pages.strip_lines, "pages": pages.page_lines, "loads": loads.load_lines,
-    "words": loads.word_lines, "names": loads.name_lines,
+    "words": loads.word_lines, "names": loads.name_lines, "volumes": checks.volume_lines,
 }
 AT_ONCE = 20000
 
@@ -78,18 +82,40 @@ def at_a_limit(draw):
 def fuzz_lines(job, program, count, seed, keep):
     draw = random.Random(f"{job} {seed}")
     cases = request_lines(draw) if job == "requests" else LINES[job](draw)
-    done = failed = 0
+    done, failed, told = 0, 0, collections.Counter()
     while done < count:
         # the lines of a case stay in one file; page files are put behind an empty one
         chunk = [("file hex -", "")] if job == "tiff" else []
-        while len(chunk) < min(AT_ONCE, count - done):
+        while len(chunk) < AT_ONCE and counted(job, chunk) < count - done:
             chunk += next(cases)
-        failed += told_otherwise(program, chunk, f"{keep}/{job}-{seed}-{done}.txt")
-        done += len(chunk)
-    return done, failed
+        failed += told_otherwise(program, chunk, f"{keep}/{job}-{seed}-{done}.txt", job)
+        done += counted(job, chunk)
+        told.update(kind_of(due) for asked, due in chunk if is_counted(job, asked))
+    return done, failed, told
 
 
-def told_otherwise(program, chunk, kept):
+def counted(job, chunk):
+    """How many lines of a chunk count: of volumes those that check one."""
+    return len(chunk) if job != "volumes" else sum(is_counted(job, asked) for asked, _ in chunk)
+
+
+def is_counted(job, asked):
+    return job != "volumes" or asked.startswith("check ")
+
+
+def kind_of(due):
+    return " ".join(due.split(" ")[:2]) if due.startswith("refused ") else "told"
+
+
+def lines_of_case(chunk, at, job):
+    """The line that is told otherwise, and of a volume all lines that make it."""
+    begin = at
+    while job == "volumes" and begin > 0 and chunk[begin - 1][0] != "again":
+        begin -= 1
+    return chunk[begin : at + 1]
+
+
+def told_otherwise(program, chunk, kept, job):
     """How many lines of a chunk are told otherwise; those are kept with what is due and what is told."""
     with tempfile.TemporaryDirectory() as room:
         place = os.path.join(room, "lines.txt")
@@ -112,7 +138,8 @@ def told_otherwise(program, chunk, kept):
         with open(kept, "w", encoding="utf-8", newline="") as file:
             for _, number, told in others:
                 asked, due = chunk[int(number) - 1]
-                file.write(f"{asked} = {due}\n# told: {told}\n")
+                file.writelines(f"{line} = {wanted}\n" for line, wanted in lines_of_case(chunk, int(number) - 1, job))
+                file.write(f"# told: {told}\n" + ("again\n" if job == "volumes" else ""))
                 print(f"{asked[:300]}\n    due  {due[:300]}\n    told {told[1:300]}")
     return len(others)
 
@@ -179,6 +206,16 @@ class Run:
             out = "b.tif" if draw.random() < 0.9 else draw.choice(("a\\b.tif", "a//b", "/b.tif", "..\\b.tif", "./b.tif", "c:b"))
             words = ["burn", source, *(str(min(n, 999999999)) for n in rect), out, draw.choice(("plain", "g4"))]
             self.command(day, *(days.other_words(draw, words) if draw.random() < 0.05 else words))
+
+    def check(self, day):
+        draw = self.draw
+        volume, right = checks.a_right_one(draw)
+        for k in range(checks.CHANGES):
+            made = checks.some_case(draw, volume, True) if k else right
+            checks.write_files(self.room, made.files)
+            words = ["check", *(word.replace("\0", "") for word in made.words)]
+            self.command(day, *(days.other_words(draw, words) if draw.random() < 0.03 else words))
+            day.done.clear()
 
     def import_some(self, day, harm):
         draw = self.draw
@@ -423,13 +460,13 @@ def main():
     job, program, count, seed, keep = sys.argv[1], sys.argv[2], int(sys.argv[3]), sys.argv[4], sys.argv[5]
     os.makedirs(keep, exist_ok=True)
     started = time.monotonic()
-    told = ""
     if job in LINES or job == "requests":
-        done, failed = fuzz_lines(job, program, count, seed, keep)
+        done, failed, kinds = fuzz_lines(job, program, count, seed, keep)
     else:
         run = Run(job, program, count, seed, keep)
         done, failed = run.go()
-        told = "; " + ", ".join(f"{kind}: {times}" for kind, times in sorted(run.told.items()))
+        kinds = run.told
+    told = "; " + ", ".join(f"{kind}: {times}" for kind, times in sorted(kinds.items()))
     print(f"{job}, seed {seed}: {done} cases in {time.monotonic() - started:.0f} s, {failed} otherwise{told}")
     sys.exit(1 if failed else 0)
 

@@ -11,6 +11,7 @@ import sqlite3
 import subprocess
 import time
 
+import check_model
 import fuzz_batch as batches
 import fuzz_loads as loads
 import fuzz_matter as matters
@@ -97,6 +98,8 @@ def is_command_line(words):
         return len(rest) == 2 and numbers(0, 1) and 1 <= int(rest[0]) <= 16 and 1 <= int(rest[1]) <= 1000000
     if name == "produce":
         return len(rest) >= 6 and numbers(3, 4, 5) and int(rest[3]) <= 255
+    if name == "check":
+        return len(rest) in (2, 3)
     return name in ("import", "press", "log") and len(rest) == 1
 
 
@@ -124,7 +127,7 @@ class Day:
 
     def commands(self):
         return {"burn": self.burn, "init": self.init, "import": self.import_, "produce": self.produce, "press": self.press,
-                "log": self.log}
+                "log": self.log, "check": self.check}
 
     def burn(self, source, left, top, width, height, out, form):
         source, out = loads.path_of(source), loads.path_of(out)
@@ -171,6 +174,9 @@ class Day:
     def log(self, id_):
         return matters.log_of(matters.production(self.matter(), id_)).decode("utf-8")
 
+    def check(self, *paths):
+        return "checked " + check_model.check(batches.read_below(self.folder)[0], *paths) + "\n"
+
     def pressed(self, matter, made):
         files = volume_of(matter, made)
         self.out.update(files)
@@ -200,8 +206,10 @@ def volume_of(matter, made):
             if withheld:
                 page = slip_of(withheld, label, item["designation"])
             else:
-                boxes = [box[1:5] for box in item["boxes"].values() if box[0] == k + 1]
-                page = pages.banded(pages.burned(matter.pages[item["doc"], k + 1], boxes), label, item["designation"])
+                stamps = [box[1:] for box in item["boxes"].values() if box[0] == k + 1]
+                boxes = [stamp[:4] for stamp in stamps]
+                scan = pages.covered(matter.pages[item["doc"], k + 1], stamps, made["ink"].lower())
+                page = pages.banded(scan, label, item["designation"])
                 text += loads.page_text(loads.kept(matter.words[item["doc"], k + 1], boxes))
             files[path] = pages.tiff_of(page, "g4")
             opt.append((label, volume, path.replace("/", "\\"), k == 0, False, False,

@@ -11,6 +11,7 @@ from fuzz_tools import Rule
 
 ROLES = ["Reviewer", "Second", "Lead", "Clerk", "Receiver"]
 BASES = ["AC", "WP", "PI", "TS"]
+INKS = ["Black", "Lettered"]
 TREATMENTS = ["Produce", "Redact", "AC", "WP"]
 COLUMNS = ["BEGDOC", "ENDDOC", "BEGATTACH", "ENDATTACH", "PAGECOUNT", "DESIGNATION", "WITHHELD", "TEXTPATH"]
 CONTROLS, PRIVILEGED = "\0-\x1f\x7f", ("AC", "WP")
@@ -57,9 +58,14 @@ def listed(values, part):
 
 
 def page_body(page):
+    return u32(page.width, page.height, *page.xres, *page.yres) + bytes([page.unit]) + strip_of(page)
+
+
+def strip_of(page):
+    """The strip of a page, coded once."""
     if not hasattr(page, "strip"):
         page.strip = pages.strip_of(page)
-    return u32(page.width, page.height, *page.xres, *page.yres) + bytes([page.unit]) + page.strip
+    return page.strip
 
 
 def box_rest(box):
@@ -107,7 +113,12 @@ def rows_of(matter):
         rows[11, k, 0] = digest + u32(documents, count) + text(name)
     for key, words in matter.words.items():
         rows[12, *key] = listed(words, lambda word: u32(*word[:5]) + text(word[5]))
-    return {key: b"\1" + body for key, body in rows.items()}
+    return {key: version_of(matter, key) + body for key, body in rows.items()}
+
+
+def version_of(matter, key):
+    kind, k, _ = key
+    return bytes([1 + INKS.index(matter.productions[k - 1]["ink"])]) if kind == 10 else b"\1"
 
 
 class Unformed(Exception):
@@ -178,7 +189,8 @@ class Body:
         return made | {"fields": self.list(self.text), "items": self.list(self.item)}
 
     def of_kind(self, kind):
-        if self.u8() != 1:
+        version = self.u8()
+        if version != 1 and (kind, version) != (10, 2):
             raise Unformed
         read = {
             1: lambda: (self.among(ROLES), self.take(32), self.text()),
@@ -186,7 +198,7 @@ class Body:
             3: lambda: {"parent": self.u32(), "pages": self.u32(), "batch": self.u32(), "id": self.text(), "values": self.list(self.text)},
             4: self.page, 5: self.call, 6: self.box, 7: lambda: self.among(BASES), 8: self.entry,
             9: lambda: (self.u8(), self.u64(), self.text()),
-            10: self.production,
+            10: lambda: self.production() | {"ink": INKS[version - 1]},
             11: lambda: (self.take(32), self.u32(), self.u32(), self.text()),
             12: lambda: self.list(lambda: (*(self.u32() for _ in range(5)), self.text())),
         }.get(kind)
@@ -293,9 +305,19 @@ def is_valid(m):
             and productions_valid(m) and spans_valid(m))
 
 
+def sizes_of(images):
+    """How many pixels they have, and how many bytes of strips."""
+    images = list(images)
+    return sum(page.width * page.height for page in images), sum(len(strip_of(page)) for page in images)
+
+
+def strips_fit(pixels, strips):
+    return pixels <= 4000000000 or strips <= 2000000000
+
+
 def limits_kept(m):
-    pixels = sum(page.width * page.height for page in m.pages.values())
-    return (len(m.docs) <= 10000 and len(m.pages) <= 20000 and pixels <= 4000000000 and len(m.fields) <= 64
+    pixels, strips = sizes_of(m.pages.values())
+    return (len(m.docs) <= 10000 and len(m.pages) <= 20000 and pixels <= 200000000000 and strips_fit(pixels, strips) and len(m.fields) <= 64
             and all(len(list_) <= 1000 for list_ in (m.staff, m.batches, m.productions)))
 
 
@@ -426,11 +448,12 @@ def batch_in(matter, batch):
                 raise Rule(34)
             return documents, count
     images = [page for doc in batch["docs"] for page, _ in doc["pages"]]
-    pixels = sum(page.width * page.height for page in [*matter.pages.values(), *images])
+    pixels, strips = sizes_of([*matter.pages.values(), *images])
     fields = [*matter.fields, *(name for name in batch["fields"] if name not in matter.fields)]
     for which, reached, limit in (
         (1, len(matter.docs) + len(batch["docs"]), 10000), (2, len(matter.pages) + len(images), 20000),
-        (3, pixels, 4000000000), (4, len(fields), 64), (6, len(matter.batches) + 1, 1000),
+        (3, pixels, 200000000000), (8, strips, strips if strips_fit(pixels, strips) else 2000000000), (4, len(fields), 64),
+        (6, len(matter.batches) + 1, 1000),
     ):
         if reached > limit:
             raise Rule(35, which, reached)
@@ -672,7 +695,7 @@ def freeze(m, asked):
         m.prefixes.append(row)
     else:
         m.prefixes[kept] = row
-    made = {key: asked[key] for key in ("id", "volume", "prefix", "width", "from", "to", "fields")} | {"items": items}
+    made = {key: asked[key] for key in ("id", "volume", "prefix", "width", "from", "to", "fields")} | {"items": items, "ink": "Lettered"}
     m.productions.append(made)
     return made
 

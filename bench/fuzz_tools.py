@@ -12,7 +12,8 @@ NAMES = {
     59: "WordsPage", 60: "FamilyBroken", 61: "DocBreaks", 62: "PageLimit", 63: "PathRefused", 70: "T6ShortData",
     71: "T6EarlyEnd", 72: "T6Extension", 73: "T6BadCode", 74: "T6BadPlace", 80: "TiffHead", 81: "TiffBounds",
     82: "TiffMissing", 83: "TiffType", 84: "TiffCompression", 85: "TiffMeaning", 86: "TiffManyPages",
-    87: "TiffStrips", 90: "KeptRowBad",
+    87: "TiffStrips", 90: "KeptRowBad", 110: "CheckColumns", 111: "CheckLabel", 112: "CheckGap", 113: "CheckBreaks",
+    114: "CheckCount", 115: "ManifestShape", 116: "DigestDiffers", 117: "NotListed",
 }
 
 

@@ -1,7 +1,7 @@
 #!/bin/sh
 # An import beside the sum of its parts: processor time of `read_batch` and `step_import` over a made batch of letter pages
 # at 300 dots an inch (Group 4, 376 words each), beside that of reading each image file, digesting it, reading its page and
-# coding its strip; then the growth up to 450 pages (a matter has at most 4,000,000,000 pixels, and so 475 such pages);
+# coding its strip; then the growth up to 450 pages;
 # and of 1,000 to 10,000 documents of one small page, which is to grow in a line. A time is the least of three runs.
 # A word: how many letter pages, 200 where none is given. Needs rt on PATH and python3.
 set -eu

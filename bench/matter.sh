@@ -3,7 +3,7 @@
 # reading and coding their strips alone; of as many pages of 8 by 1 pixels, which shows what all but the strips costs; and
 # of 1,000 to 10,000 documents of one such page, which is to grow in a line. A reading's time is that of a run with
 # several readings, less that of a run with one (which also makes the rows), the least of three.
-# A word: how many letter pages, 450 where none is given: a matter has at most 4,000,000,000 pixels, and so 475 of them.
+# A word: how many letter pages, 450 where none is given.
 # Needs rt on PATH and python3.
 set -eu
 here=$(CDPATH='' cd -- "$(dirname -- "$0")" && pwd)

@@ -2,7 +2,7 @@
 # The press of letter pages at 300 dots an inch, each a document of its own with a box over a paragraph and 300 words: `press`
 # beside the sum of its parts on the images alone (each burned and banded, coded as Group 4, digested, and written), both to
 # a real folder and both into memory; beside a script with public tools (press_peer.sh), once both show the same pixels above
-# the band; then the growth up to 450 pages (a matter has at most 4,000,000,000 pixels, and so 475 such pages), and the
+# the band; then the growth up to 450 pages, and the
 # memory beside the tables. A time is that of a run with several volumes less that of a run with one, a run of the script by
 # itself, the least of three each; the memory is the peak of a run with one volume less that of one which makes the tables.
 # Words: how many pages, 100 where none is given; how often each is run, 3 where none is given.
@@ -16,7 +16,7 @@ rounds=${2:-3}
 
 stop() { echo "press.sh: $1" >&2; exit 1; }
 
-for tool in pbmtext pnmcat pnmpaste pamtotiff tifftopnm pamcut python3; do
+for tool in pbmmake pbmtext pnmcat pnmpaste pamtotiff tifftopnm pamcut python3; do
     command -v "$tool" > /dev/null || stop "needs $tool (Debian: netpbm, python3)"
 done
 scratch=$(mktemp -d)
@@ -33,8 +33,9 @@ volume_of() {
         "$bench" "$1" "$letter" "$2" "$words" $(($3 + 1)) "$4"
 }
 
-# a page file: its pixels above the band
-above_band() { tifftopnm -quiet "$1" | pamcut -top 0 -height 3300; }
+# a page file: its pixels above the band, without the letters in the corner of the box, which the script doesn't draw
+pbmmake -black 39 27 > "$scratch/corner.pbm"
+above_band() { tifftopnm -quiet "$1" | pamcut -top 0 -height 3300 | pnmpaste "$scratch/corner.pbm" 320 1755; }
 
 # the two show the same
 "$bench" press "$letter" 2 "$words" 1 "$out" > /dev/null

@@ -32,15 +32,8 @@ echo '#include <sqlite3.h>' | cc -E - > /dev/null 2>&1 || stop "needs sqlite3.h 
 cc -O2 -o "$scratch/keep_peer" "$here/keep_peer.c" -lsqlite3
 for each in bare client; do cc -O2 -o "$scratch/serve_$each" "$here/serve_$each.c"; done
 
-key='the key of Ellis'
-# a request: its first line, and its body where it has one
-request() {
-    printf '%s HTTP/1.1\r\nHost: 127.0.0.1:%s\r\nUser-Agent: curl/8.5.0\r\nAccept: */*\r\nDesk-Key: %s\r\n' "$1" "$port" "$key"
-    [ -z "${2-}" ] || printf 'Content-Length: %s\r\nContent-Type: application/json\r\n' "${#2}"
-    printf '\r\n%s' "${2-}"
-}
-request 'POST /docs/@/call' '{"responsive":true,"treatment":"Redact","designation":"CONFIDENTIAL ~"}' > "$scratch/call"
-request 'GET /docs/@/pages/1' > "$scratch/page"
+. "$here/serve_requests.sh"
+write_requests "$scratch"
 
 # one round at a desk: the file of its times, how many exchanges beside the first, the request, how many documents, a file for
 # the last reply or -, the desk and its words
@@ -66,13 +59,13 @@ median() { cut -d ' ' -f 1 "$1" | sort -n | awk '{ row[NR] = $1 } END { print (r
 
 # ---- in memory
 
-served "$scratch/first" 1 "$scratch/call" "$docs" "$scratch/call_reply" "$timing" serve - "$docs" 2
-served "$scratch/first" 1 "$scratch/page" 1 "$scratch/page_reply" "$timing" serve "$letter" 1 2
+served "$scratch/first" 1 "$scratch/call" "$docs" "$scratch/call_reply" "$timing" serve - "$docs" 1 2
+served "$scratch/first" 1 "$scratch/page" 1 "$scratch/page_reply" "$timing" serve "$letter" 1 1 2
 for _ in $(seq "$rounds"); do
-    served "$scratch/calls" "$count" "$scratch/call" "$docs" - "$timing" serve - "$docs" $((count + 1))
+    served "$scratch/calls" "$count" "$scratch/call" "$docs" - "$timing" serve - "$docs" 1 $((count + 1))
     served "$scratch/bare" "$count" "$scratch/call" "$docs" - "$scratch/serve_bare" "$port" $((count + 1)) "$scratch/call_reply"
     alone "$scratch/step" 1 $((10 * count + 1)) "$timing" calls - "$docs"
-    served "$scratch/pages" "$pages" "$scratch/page" 1 - "$timing" serve "$letter" 1 $((pages + 1))
+    served "$scratch/pages" "$pages" "$scratch/page" 1 - "$timing" serve "$letter" 1 1 $((pages + 1))
     served "$scratch/bare_pages" "$pages" "$scratch/page" 1 - "$scratch/serve_bare" "$port" $((pages + 1)) "$scratch/page_reply"
 done
 echo "SetCall, $docs documents in memory, $rounds rounds of $count, medians:"

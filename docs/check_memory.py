@@ -18,9 +18,18 @@ MADE = {
     ("bp_matter/src/kept_page.rt", "share"): "Arc's count of holders is full",
     ("bp_outside/src/memory/door.rt", "read"): "the call's own want, noted in the exchange",
     ("bp_outside/src/memory/door.rt", "write"): "the call's own want, noted in the exchange",
-    ("bp_press/src/finding.rt", "manifest_bytes"): "a folder that keeps nothing can only lack memory",
+    ("bp_receiver/src/delivery.rt", "grant"): "the copy of the id, or room for a grant, was refused",
+    ("bp_receiver/src/requests.rt", "read_event"): "the router could not be made for want of memory",
+    ("bp_receiver/src/requests.rt", "asked_in"): "the event of a body was refused, which wants memory alone",
+    ("bp_receiver/src/wants.rt", "given_to"): "room for the list was refused",
     ("bp_rules/src/histories.rt", "answer_next"): "room for an answer was refused",
     ("bp_rules/src/steps.rt", "make"): "room for a change was refused",
+    ("bp_seats/src/matters.rt", "serve_matter"): "room for the posts was refused",
+    ("bp_receiver/src/delivery.rt", "grant"): "the copy of the id, or room for a grant, was refused",
+    ("bp_receiver/src/grant_files.rt", "read_record"): "csv's reader answers an error, which in memory is want of memory",
+    ("bp_receiver/src/requests.rt", "read_event"): "the router could not be made for want of memory",
+    ("bp_receiver/src/requests.rt", "asked_in"): "the event of a body was refused, which wants memory alone",
+    ("bp_receiver/src/wants.rt", "given_to"): "room for the list was refused",
     ("bp_text/src/word_files.rt", "read_record"): "csv's reader answers an error, which in memory is want of memory",
     ("bp_web/src/members.rt", "object_in"): "serde_json's own kind of error says that memory ran out",
     ("bp_web/src/requests.rt", "read_request"): "the router could not be made for want of memory",
@@ -36,8 +45,12 @@ NO_MAKING = re.compile(r"^\s*(?://|use |pub use |ghost |ensures|requires|invaria
 
 def functions(path):
     """Number, text, name of the function, and whether it stands in a conversion of such an error, of each line of code."""
-    name, converting, in_clause, in_ghost = "", False, 0, False
+    name, converting, in_clause, in_import = "", False, 0, False
     for number, line in enumerate(path.read_text().splitlines(), 1):
+        # an import runs to its semicolon
+        if in_import or re.match(r"(?:pub )?use ", line):
+            in_import = not line.endswith(";")
+            continue
         if line.startswith("impl"):
             converting = bool(re.search(r"From<(OutOfMemory|AllocError|AllocFailed|\w*Refusal|\w*Fault)", line))
         elif line and not line[0].isspace() and not line.startswith("}"):

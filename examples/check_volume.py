@@ -17,10 +17,17 @@ VOLUME = "VOL001"
 PAGES = [3, 2, 5, 1, 4, 2, 3, 1, 2, 4, 1, 3]
 FAMILIES = [(1, 3), (4, 6), (9, 12)]
 WITHHELD = {3: "AC"}
-# document, page: the boxes on it, as left, top, width, height
+# document, page: the boxes on it, as left, top, width, height, and the code of their ground, which stands in each in white:
+# it begins three pixels below the top and beside the left edge, and each bit of a letter is three by three pixels
 BOXES = {
-    (5, 1): [(1420, 460, 680, 60), (325, 950, 1900, 180)],
-    (10, 2): [(430, 662, 1690, 670)],
+    (5, 1): [(1420, 460, 680, 60, "PI"), (325, 950, 1900, 180, "PI")],
+    (10, 2): [(430, 662, 1690, 670, "AC")],
+}
+LETTERS = {
+    "A": "01110 10001 10001 11111 10001 10001 10001",
+    "C": "01110 10001 10000 10000 10000 10001 01110",
+    "I": "01110 00100 00100 00100 00100 00100 01110",
+    "P": "11110 10001 10001 11110 10000 10000 10000",
 }
 BAND = 32
 COLUMNS = "BEGDOC ENDDOC BEGATTACH ENDATTACH PAGECOUNT DESIGNATION WITHHELD TEXTPATH AUTHOR".split()
@@ -207,9 +214,20 @@ def rows_of(file):
     return width, [int.from_bytes(rest[at * stride : (at + 1) * stride], "big") for at in range(height)], stride * 8
 
 
-def black(bits, left, width):
-    """A row's pixels of these columns, all black."""
+def these(bits, left, width):
+    """The pixels of these columns of a row."""
     return ((1 << width) - 1) << (bits - left - width)
+
+
+def with_box(row, bits, box, down):
+    """A row of a box, so many rows below its top, covered: black but for what it has of the letters."""
+    left, _, across, _, code = box
+    row |= these(bits, left, across)
+    for k, letter in enumerate(code):
+        for bit in range(5):
+            if 3 <= down < 24 and LETTERS[letter].split()[(down - 3) // 3][bit] == "1":
+                row &= ~these(bits, left + 3 + 18 * k + 3 * bit, 3)
+    return row
 
 
 def check_page(folder, item, page, name):
@@ -217,10 +235,10 @@ def check_page(folder, item, page, name):
     was_width, scan, was_bits = rows_of(os.path.join(BATCH, "IMAGES", "001", f"{image_id(item, page)}.TIF"))
     expect((width, bits, len(rows)) == (was_width, was_bits, len(scan) + BAND), f"{name} has other sides")
     for at, row in enumerate(scan):
-        for left, top, across, down in BOXES.get((item.document, page), []):
-            if top <= at < top + down:
-                row |= black(bits, left, across)
-        expect(rows[at] == row, f"row {at} of {name} isn't the scan's with its boxes black")
+        for box in BOXES.get((item.document, page), []):
+            if box[1] <= at < box[1] + box[3]:
+                row = with_box(row, bits, box, at - box[1])
+        expect(rows[at] == row, f"row {at} of {name} isn't the scan's with its boxes black, and lettered")
 
 
 def check_images(folder, produced):

@@ -19,7 +19,10 @@ tivrenan=$here/../tivrenan
 
 room=$(mktemp -d)
 desk=
-trap '[ -z "$desk" ] || kill "$desk" 2> /dev/null || :; rm -rf "$room"' EXIT
+# the desk leads a group of its own, so that the launcher and the program below it are ended together
+trap '[ -z "$desk" ] || kill -- "-$desk" 2> /dev/null || :; rm -rf "$room"' EXIT
+trap 'exit 130' INT
+trap 'exit 143' TERM
 ln -s "$here/CVI_001" "$room/CVI_001"
 cd "$room"
 stop() { echo "clients.sh: $1" >&2; exit 1; }
@@ -28,7 +31,7 @@ key='k'
 "$tivrenan" init "$(printf %s "$key" | sha256sum | cut -c1-64)" > /dev/null
 "$tivrenan" import CVI_001 > /dev/null
 connections=17
-"$tivrenan" serve 1 $connections > served 2> /dev/null &
+setsid "$tivrenan" serve 1 $connections > served 2> /dev/null &
 desk=$!
 
 cat > clients.py << 'END'

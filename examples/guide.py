@@ -15,7 +15,9 @@ ends with status 0. Ends with 1 at the first command that does something else th
 """
 import os
 import platform
+import random
 import re
+import select
 import shutil
 import signal
 import socket
@@ -129,9 +131,8 @@ def status_due(due):
 
 
 def free_port():
-    with socket.socket() as probe:
-        probe.bind(("127.0.0.1", 0))
-        return probe.getsockname()[1]
+    """One at which nobody listens, below those that the system gives to who connects."""
+    return next(port for port in iter(lambda: random.randrange(20000, 32000), None) if not is_open(port))
 
 
 def is_open(port):
@@ -180,24 +181,25 @@ class Machine:
         self.archive = os.path.basename(path).removesuffix(".tar.gz")
         shutil.copy(path, self.room)
 
+    def told(self, command):
+        """The one line that the shell prints for what it is given."""
+        self.shell.stdin.write(command + "\n")
+        self.shell.stdin.flush()
+        if not select.select([self.shell.stdout], [], [], SECONDS)[0]:
+            stop(f"{command}: it didn't end within {SECONDS} seconds")
+        return self.shell.stdout.readline().strip()
+
     def run(self, command):
         """Status, and the lines that were printed."""
         said = os.path.join(self.room, "said")
-        self.shell.stdin.write(f"{{ {self.placed(command)}\n}} > {said} 2>&1 < /dev/null; echo $?\n")
-        self.shell.stdin.flush()
-        status = int(self.shell.stdout.readline())
+        status = int(self.told(f"{{ {self.placed(command)}\n}} > {said} 2>&1 < /dev/null; echo $?"))
         with open(said, encoding="utf-8", errors="replace") as file:
             return status, self.plain(file.read())
-
-    def where(self):
-        self.shell.stdin.write("pwd\n")
-        self.shell.stdin.flush()
-        return self.shell.stdout.readline().strip()
 
     def open_desk(self, command):
         """A second terminal in the shell's folder; Ctrl-C is for it alone."""
         self.desk = subprocess.Popen(
-            ["bash", "--norc", "-c", self.placed(command)], cwd=self.where(), env=self.around, stdin=subprocess.DEVNULL,
+            ["bash", "--norc", "-c", self.placed(command)], cwd=self.told("pwd"), env=self.around, stdin=subprocess.DEVNULL,
             stdout=subprocess.PIPE, stderr=subprocess.STDOUT, text=True, start_new_session=True,
             preexec_fn=lambda: signal.signal(signal.SIGINT, signal.SIG_DFL))
         for _ in range(SECONDS * 10):
@@ -219,7 +221,7 @@ class Machine:
             os.killpg(self.desk.pid, signal.SIGKILL)
         if os.path.exists(os.path.join(self.room, "nginx.pid")):
             subprocess.run([os.path.join(self.room, "shims", "nginx"), "-q", "-s", "stop"], check=False)
-        self.shell.stdin.close()
+        os.killpg(self.shell.pid, signal.SIGKILL)
         self.shell.wait()
 
 
@@ -259,9 +261,7 @@ def why_not():
     missing = sorted({package for tool, package in PACKAGES.items() if not shutil.which(tool, path=path)})
     if missing:
         return f"{', '.join(missing)} isn't installed (Debian's packages of these names)"
-    # without rt the launcher builds nothing, and says whether the program stands as its sources are
-    plain = {"PATH": "/usr/bin:/bin"}
-    if subprocess.run([os.path.join(TOP, "tivrenan"), "build"], env=plain, capture_output=True, check=False).returncode:
+    if subprocess.run([os.path.join(TOP, "tivrenan"), "build", "look"], capture_output=True, check=False).returncode:
         return "the program isn't built from the sources as they stand (./tivrenan build)"
     if is_open(DESK_PORT):
         return f"somebody is at port {DESK_PORT}"

@@ -19,26 +19,16 @@ mkdir -p "$room"
 ln -s "$here/CVI_001" "$room/CVI_001"
 cd "$room"
 
-stop() { echo "office.sh: $1" >&2; exit 1; }
-
-# status, printed line (as a pattern), words
-run() {
-    wanted=$1 line=$2
-    shift 2
-    echo "\$ tivrenan $*"
-    status=0
-    told=$("$tivrenan" "$@" 2> /dev/null) || status=$?
-    echo "$told"
-    # shellcheck disable=SC2254 # the line is a pattern
-    case $status,$told in "$wanted",$line) ;; *) stop "ended with $status, and not with $wanted and '$line'" ;; esac
-}
+. "$here/commands.sh"
 
 lead='the key of the lead' reviewer='the key of Ellis' second='the key of Marlow'
-digest() { printf %s "$1" | sha256sum | cut -c1-64; }
 
 # The desk takes so many connections, each with one request, and then ends.
 port=48201 connections=26 desk=
-trap '[ -z "$desk" ] || kill "$desk" 2> /dev/null || :' EXIT
+# the desk leads a group of its own, so that the launcher and the program below it are ended together
+trap '[ -z "$desk" ] || kill -- "-$desk" 2> /dev/null || :' EXIT
+trap 'exit 130' INT
+trap 'exit 143' TERM
 
 # status and body that are due, key, what curl is given more: method and target, and the body of a POST
 ask() {
@@ -79,7 +69,7 @@ run 0 'batch CVI_001 documents 12 pages 31' import CVI_001
 run 2 'refused 26 Unsettled 0 1 0' produce R-1 VOL001 ABC 8 1 12 AUTHOR
 
 echo "\$ tivrenan serve 1 $connections"
-"$tivrenan" serve 1 "$connections" > served 2> /dev/null &
+setsid "$tivrenan" serve 1 "$connections" > served 2> /dev/null &
 desk=$!
 
 ask 200 '{"staff":2}' "$lead" POST /staff "{\"name\":\"Ellis\",\"role\":\"Reviewer\",\"digest\":\"$(digest "$reviewer")\"}"

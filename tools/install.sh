@@ -4,7 +4,7 @@
 #   bin/tivrenan                     the launcher, with bin/tivrenan-make-batch and bin/tivrenan-matter-report
 #   lib/tivrenan/bp_main             the program
 #   share/tivrenan/                  what these read: the page of statuses, the programs in Python, the review page
-#   share/doc/tivrenan/              README, guide, formats, license, and examples/ with the letter and the batch
+#   share/doc/tivrenan/              README, guide, formats, license, and examples/ with the letter, the batch and pictures
 #   share/man/man1/, share/bash-completion/completions/
 # It runs in a clone, where the program is built first if it isn't, and nothing is left half: what was there before is replaced.
 set -eu
@@ -23,7 +23,7 @@ program() { install -D -m 755 "$top/$1" "$into/$2"; }
 # folder, where to: its files but what programs left there, each as the one that stands there before is replaced
 folder() {
     rm -rf "${into:?}/$2"
-    (cd "$top/$1" && find . -type f ! -path '*/__pycache__/*' ! -path '*/out/*' ! -path './tests/*') | while read -r name; do
+    (cd "$top/$1" && find . -type f ! -path '*/__pycache__/*' ! -path '*/out/*' ! -path './tests/*' ! -name pictures.sh) | while read -r name; do
         mode=644
         [ ! -x "$top/$1/$name" ] || mode=755
         install -D -m "$mode" "$top/$1/$name" "$into/$2/$name"
@@ -45,6 +45,9 @@ doc=share/doc/tivrenan
 for each in README.md docs/STATUSES.md docs/FORMATS.md docs/PROMISES.md docs/GUIDE.md; do
     [ ! -e "$top/$each" ] || file "$each" "$doc/${each##*/}"
 done
+# their pictures, where they stand here
+for each in "$top"/examples/*.png; do file "examples/${each##*/}" "$doc/examples/${each##*/}"; done
+sed -i -E 's#\]\((\.\./)?desk_page/#](../../tivrenan/desk_page/#' "$into/$doc/README.md" "$into/$doc/GUIDE.md"
 file LICENSE "$doc/copyright"
 file examples/letter.tif "$doc/examples/letter.tif"
 folder examples/CVI_001 "$doc/examples/CVI_001"

@@ -10,6 +10,9 @@ const STILL = 4
 const NEW_BOX = { width: 600, height: 60 }
 const MARK = 16 // height of a box's mark on the screen
 
+const strike = ({ left, top, width, height }) =>
+  shape('line', { x1: left, x2: left + width, y1: top + height / 2, y2: top + height / 2, class: 'strike' })
+
 export class Boxes {
   constructor(review, paper, { list, basis, showWords, act }) {
     Object.assign(this, { review, paper, list, basis, showWords, act })
@@ -54,10 +57,11 @@ export class Boxes {
     )
   }
 
-  // a word that a box touches goes with it
+  // a word that a box touches goes with it, and is struck through
   wordShapes(boxes) {
     const words = this.showWords.checked ? this.review.knownWords() : null
-    return (words ?? []).map((word) => rectangle(word, boxes.some((box) => touches(box, word)) ? 'word gone' : 'word'))
+    return (words ?? []).flatMap((word) =>
+      boxes.some((box) => touches(box, word)) ? [rectangle(word, 'word gone'), strike(word)] : [rectangle(word, 'word')])
   }
 
   boxShapes(box, kind) {

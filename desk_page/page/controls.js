@@ -77,6 +77,7 @@ function focusOn(field) {
 function showKeys() {
   listKeys(the('key_table'))
   the('keys').showModal()
+  the('keys').scrollTop = 0 // its button, at the end, has the focus
 }
 
 async function lookAgain(review) {

@@ -12,7 +12,7 @@ const ROWS = [
   [' ', 'read on, to the next page too', 'Space'],
   ['+', 'larger'],
   ['-', 'smaller'],
-  ['0', 'as wide as the window'],
+  ['0', 'page width'],
   ['t', 'show or hide the words'],
   ['l', 'look again at the document'],
   ['The call'],
@@ -25,7 +25,7 @@ const ROWS = [
   ['d', 'to the designation'],
   ['g', 'to the log entry'],
   ['h', 'to the held fields'],
-  ['CtrlEnter', 'put the log entry from its description', 'Ctrl Enter'],
+  ['CtrlEnter', 'put the log entry, in its description', 'Ctrl Enter'],
   ['Boxes'],
   ['b', 'a new box'],
   ['e', 'choose the next box of the page'],
@@ -44,9 +44,17 @@ const ROWS = [
 ]
 
 const ARROWS = { ArrowLeft: [-1, 0], ArrowRight: [1, 0], ArrowUp: [0, -1], ArrowDown: [0, 1] }
+const IN_LIST = { ArrowUp: 'k', ArrowDown: 'j' } // where the list of documents has the focus
 const STRIDE = 10 // pixels of the page
 
 const isText = (target) => target.matches('textarea, select, input:not([type=radio], [type=checkbox])')
+
+// what the press is among the keys of `does`
+function nameOf({ key, shiftKey, target }) {
+  if (target.matches('[role=listbox]') && key in IN_LIST) return IN_LIST[key]
+  if (key === ' ' && shiftKey) return 'back'
+  return key.length === 1 ? key.toLowerCase() : key
+}
 
 export class Keys {
   // `does` has for each key what it does; `boxes` has the chosen box, which the arrows move
@@ -69,8 +77,7 @@ export class Keys {
     // a button that has the focus keeps Enter and Space, and a choice its arrows
     if ((key === 'Enter' || key === ' ') && target.matches('button, input')) return null
     if (key in ARROWS && target.matches('[type=radio]')) return null
-    const name = key === ' ' && event.shiftKey ? 'back' : key.length === 1 ? key.toLowerCase() : key
-    const work = this.does[name]
+    const work = this.does[nameOf(event)]
     if (work === undefined) return null
     event.preventDefault()
     return work()
@@ -85,23 +92,26 @@ export class Keys {
   }
 }
 
-// the list of keys, as rows of a table
-export function listKeys(table) {
-  table.replaceChildren(...ROWS.map(([key, does, shown]) => {
-    const row = document.createElement('tr')
-    const first = document.createElement(does === undefined ? 'th' : 'td')
-    if (does === undefined) {
-      first.colSpan = 2
-      first.textContent = key
-      row.append(first)
-      return row
-    }
-    const mark = document.createElement('kbd')
-    mark.textContent = shown ?? (key.length === 1 ? key.toUpperCase() : key)
-    first.append(mark)
-    const second = document.createElement('td')
-    second.textContent = does
-    row.append(first, second)
-    return row
-  }))
+// the list of keys: a table for each group
+export function listKeys(place) {
+  place.replaceChildren()
+  for (const [key, does, shown] of ROWS) {
+    if (does === undefined) place.append(groupOf(key))
+    else place.lastElementChild.append(rowOf(shown ?? (key.length === 1 ? key.toUpperCase() : key), does))
+  }
+}
+
+function groupOf(name) {
+  const table = document.createElement('table')
+  table.createCaption().textContent = name
+  return table
+}
+
+function rowOf(key, does) {
+  const row = document.createElement('tr')
+  const mark = document.createElement('kbd')
+  mark.textContent = key
+  row.insertCell().append(mark)
+  row.insertCell().textContent = does
+  return row
 }

@@ -53,7 +53,9 @@ function build(review) {
 }
 
 function showHead(doc) {
-  the('title').textContent = `Document ${doc.doc}`
+  const title = `Document ${doc.doc}`
+  if (the('title').textContent !== title) the('title').closest('aside').scrollTop = 0
+  the('title').textContent = title
   the('state').textContent = `${signOf(doc)} ${inFull(doc)}`
   the('state').className = progressOf(doc)
   const lacks = lacksOf(doc)

@@ -41,7 +41,7 @@ const MEANINGS = {
   KeyMissing: 'No key came to the desk. Tell the one who looks after the desks.',
   NoRoute: 'The desk knows no such request. Tell the one who looks after the desks.',
   JournalFull: 'The desks have taken as many calls as they can ({a}). Have them closed and started again.',
-  KeeperFault: 'The desk couldn’t keep this, and nothing changed. Try again; if it stays, the disk may be full.',
+  KeeperFault: 'The desk couldn’t keep this, and nothing changed. Try again; if it stays, see to the disk, and have the desks ended and opened again.',
   OutOfMemory: 'The desk has too little memory for this. Try again.',
 }
 

@@ -4,11 +4,18 @@ import json
 import os
 import secrets
 import shutil
+import signal
 import socket
 import subprocess
 import tempfile
 import time
 import urllib.request
+
+
+# in a container, too: as root, without a display, with little shared memory; and no request of its own but to this machine
+ALONE = ["--headless=new", "--no-sandbox", "--disable-gpu", "--disable-dev-shm-usage", "--ignore-certificate-errors", "--no-first-run",
+         "--no-default-browser-check", "--disable-background-networking", "--disable-component-update", "--disable-sync",
+         "--disable-extensions", "--no-proxy-server", "--host-resolver-rules=MAP * ~NOTFOUND, EXCLUDE 127.0.0.1"]
 
 
 class Socket:
@@ -65,18 +72,26 @@ class Chromium:
 
     def __init__(self, folder, size=(1500, 1000), points=1):
         self.home = tempfile.mkdtemp(prefix="chromium-", dir=folder)
-        words = ["--headless=new", "--no-sandbox", "--disable-gpu", "--ignore-certificate-errors", "--no-first-run",
-                 "--remote-debugging-port=0", "--hide-scrollbars=false", f"--user-data-dir={self.home}",
+        words = [*ALONE, "--remote-debugging-port=0", "--hide-scrollbars=false", f"--user-data-dir={self.home}",
                  f"--window-size={size[0]},{size[1]}", f"--force-device-scale-factor={points}", "about:blank"]
+        around = {**os.environ, "HOME": self.home}  # what Debian's script and the browser keep beside the profile goes there, too
         with open(os.path.join(self.home, "errors"), "w", encoding="utf-8") as errors:
-            self.process = subprocess.Popen([shutil.which("chromium"), *words], stdout=errors, stderr=errors)
-        self.socket, self.count, self.log, self.requests = Socket(self.tab()), 0, [], []
+            self.process = subprocess.Popen([shutil.which("chromium"), *words], stdout=errors, stderr=errors, env=around,
+                                            start_new_session=True)
+        try:
+            self.socket = Socket(self.tab())
+        except BaseException:
+            self.close()
+            raise
+        self.count, self.log, self.requests = 0, [], []
         for part in ("Page", "Runtime", "Log", "Network"):
             self(part + ".enable")
         self("Emulation.setDeviceMetricsOverride", width=size[0], height=size[1], deviceScaleFactor=points, mobile=False)
 
     def tab(self):
-        for _ in range(300):
+        for _ in range(600):
+            if self.process.poll() is not None:
+                break
             try:
                 with open(os.path.join(self.home, "DevToolsActivePort"), encoding="utf-8") as file:
                     port = file.readline().strip()
@@ -84,7 +99,8 @@ class Chromium:
                     return next(tab for tab in json.load(answer) if tab["type"] == "page")["webSocketDebuggerUrl"]
             except (OSError, StopIteration):
                 time.sleep(0.2)
-        raise RuntimeError("Chromium didn't start")
+        with open(os.path.join(self.home, "errors"), encoding="utf-8", errors="replace") as errors:
+            raise RuntimeError(f"Chromium didn't start: {errors.read()[-2000:]}")
 
     def __call__(self, method, **params):
         self.count += 1
@@ -159,11 +175,21 @@ class Chromium:
         self.mouse("mousePressed", *place)
         self.mouse("mouseReleased", *place)
 
-    def shot(self, path):
+    def shot(self, path, selector="body"):
+        """A picture of an element."""
+        left, top, width, height = self.js(
+            f"(() => {{ const on = document.querySelector({json.dumps(selector)}).getBoundingClientRect();"
+            " return [on.left, on.top, on.width, on.height] })()")
+        clip = dict(x=left, y=top, width=width, height=height, scale=1)
         with open(path, "wb") as file:
-            file.write(base64.b64decode(self("Page.captureScreenshot", format="png")["data"]))
+            file.write(base64.b64decode(self("Page.captureScreenshot", format="png", clip=clip)["data"]))
 
     def close(self):
-        self.process.terminate()
-        self.process.wait()
+        """Ends the browser with all its processes."""
+        for ending in (signal.SIGTERM, signal.SIGKILL):
+            try:
+                os.killpg(self.process.pid, ending)
+                self.process.wait(20)
+            except (ProcessLookupError, subprocess.TimeoutExpired):
+                pass
         shutil.rmtree(self.home, ignore_errors=True)

@@ -43,6 +43,7 @@ def main():
         window.type("5000")
         window.key("Enter")
         window.until("document.getElementById('title').textContent === 'Document 5000'")
+        window.until("document.getElementById('document_5000') !== null")  # drawn once the list has scrolled
         shown = window.js("document.getElementById('document_5000').getBoundingClientRect().top > 0")
         print("document 5000 is open, and its row in sight" if shown else "NOT AS DUE: its row isn't in sight")
         failed += (not shown) + bool(window.log)

@@ -1,11 +1,12 @@
 #!/usr/bin/env python3
 """What nginx does between browsers and desks, by the page's own configuration: which fields a desk gets, that a key stays at
 one desk, that no call is repeated, what is refused ahead of the desks, and what each answer is sent with. The desks are
-sockets that keep what came; the last part is tried with the stand-in, or with the program where it is given.
+sockets that keep what came; then the stand-in's, or the program's where it is given: one, and several of one matter.
 
     nginx.py SCRATCH [PROGRAM]
 """
 import http.client
+import json
 import os
 import socket
 import ssl
@@ -65,20 +66,27 @@ class Behind(Office):
         pass
 
     def open_desk(self):
-        self.desk_port = self.desks[0].port
+        self.ports = [desk.port for desk in self.desks]
 
-    def ask(self, *_words):
+    def take_in(self, *_words):
         pass
 
-    def close(self):
-        for process in self.processes:
-            process.terminate()
-            process.wait()
 
-    def site_of(self, site):
-        more = "".join(f"\n    server 127.0.0.1:{desk.port} max_fails=0;" for desk in self.desks[1:])
-        first = f"server 127.0.0.1:{self.desk_port} max_fails=0;"
-        return site.replace(first, first + more)
+class Watched(Office):
+    """nginx over desks of one matter, which writes down who came to which desk."""
+
+    def site(self):
+        kept = f"access_log {self.folder}/came desks;"
+        return "log_format desks '$upstream_addr $http_desk_key';\n" + super().site().replace("access_log off;", kept)
+
+    def went(self):
+        """The desks of each key."""
+        found = {}
+        with open(os.path.join(self.folder, "came"), encoding="utf-8") as file:
+            for line in file:
+                desk, _, key = line.rstrip("\n").partition(" ")
+                found.setdefault(key, set()).add(desk)
+        return found
 
 
 def raw(office, text):
@@ -131,19 +139,22 @@ def try_heads(office):
               and head["X-Content-Type-Options"] == "nosniff" and len(head.get_all("Content-Security-Policy")) == 1, (status, head.items()))
 
 
+FLOOD = 400  # of which 200 may wait, and 50 pass a second
+
+
 def try_flood(scratch):
     desk = Desk()
     office = Behind(make(scratch, "flood"), [desk])
     try:
         # all are open before the first asks
         trust = ssl._create_unverified_context()
-        peers = [trust.wrap_socket(socket.create_connection(("127.0.0.1", office.port), timeout=60)) for _ in range(300)]
+        peers = [trust.wrap_socket(socket.create_connection(("127.0.0.1", office.port), timeout=60)) for _ in range(FLOOD)]
         start = time.time()
         for peer in peers:
             peer.sendall(b"GET /desk/docs/1 HTTP/1.1\r\nHost: x\r\nDesk-Key: k\r\nConnection: close\r\n\r\n")
         statuses = [int(peer.recv(65536).split(b" ")[1]) for peer in peers]
         took = time.time() - start
-        check("of 300 requests at once some are refused, and the others wait for their turn",
+        check(f"of {FLOOD} requests at once some are refused, and the others wait for their turn",
               set(statuses) == {200, 429} and len(desk.came) == statuses.count(200) and took > statuses.count(200) / 60,
               (statuses.count(429), len(desk.came), took))
     finally:
@@ -200,6 +211,32 @@ def try_desk(scratch, program):
         office.close()
 
 
+DESKS, PEOPLE = 4, [f"person {k}" for k in range(8)]
+
+
+def try_desks(scratch, program):
+    """Several desks of one matter: a person stays at one of them, and sees what others did at theirs."""
+    office = Watched(make(scratch, "desks"), program, desks=DESKS)
+    try:
+        for key in PEOPLE:
+            office.take_in(key, "Second", key)
+        views = []
+        for number, key in enumerate(PEOPLE, 1):
+            office.ask(key, "POST", f"/docs/{number}/call", dict(responsive=True, treatment="Withhold-AC", designation=key.upper()))
+            views.append({json.dumps(office.ask(other, "GET", f"/docs/{number}")) for other in PEOPLE})
+        check("what one did at a desk, all see at theirs",
+              all(len(view) == 1 and key.upper() in view.copy().pop() for key, view in zip(PEOPLE, views)), views)
+        office.ask(PEOPLE[1], "POST", "/docs/1/entry", dict(date="", author="", recipients="", description="x"))
+        status, _, body = office.request(PEOPLE[1], "POST", "/desk/docs/1/confirm", {})
+        check("nobody confirms at one desk what they edited", status == 409 and b"SamePerson" in body, (status, body))
+        office.ask(PEOPLE[2], "POST", "/docs/1/confirm", {})
+        went = office.went()
+        check(f"each of {len(PEOPLE)} people stays at one of {DESKS} desks", all(len(went[key]) == 1 for key in PEOPLE), went)
+        check("and they are at several", len(set.union(*(went[key] for key in PEOPLE))) > 1, went)
+    finally:
+        office.close()
+
+
 def make(scratch, name):
     folder = os.path.join(scratch, name)
     os.mkdir(folder)
@@ -213,6 +250,7 @@ def main():
     try_keys(scratch)
     try_repeats(scratch)
     try_desk(scratch, program)
+    try_desks(scratch, program)
     print(f"nginx before the desks: {passed} as due, {failed} not")
     sys.exit(failed > 0)
 

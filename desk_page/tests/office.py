@@ -1,8 +1,9 @@
-"""What a test of the page needs: nginx with the page's own configuration, and behind it a desk, the program's or the
-stand-in, with three people of the staff."""
+"""What a test of the page needs: nginx with the page's own configuration, and behind it desks of one matter, the program's or the
+stand-in's, with three people of the staff."""
 import hashlib
 import json
 import os
+import random
 import shutil
 import signal
 import socket
@@ -17,13 +18,24 @@ HERE = os.path.dirname(os.path.abspath(__file__))
 TOP = os.path.dirname(os.path.dirname(HERE))
 BATCH = os.path.join(TOP, "examples", "CVI_001")
 LEAD, ELLIS, MARLOW = "the key of the lead", "the key of Ellis", "the key of Marlow"
-DESK_PORT = 48201
+FIRST_PORT = 48201
+# the configuration's line of each desk; the first alone is no comment
+LINES = [f"    {'#' if k else ''}server 127.0.0.1:{FIRST_PORT + k} max_fails=0;\n" for k in range(16)]
+PATIENCE = 60  # seconds that a process has to end
 
 
-def free_port():
-    with socket.socket() as probe:
-        probe.bind(("127.0.0.1", 0))
-        return probe.getsockname()[1]
+def free_ports(count):
+    """So many ports at which nobody listens, below those that the system gives to who connects."""
+    found = []
+    while len(found) < count:
+        port = random.randrange(20000, 32000)
+        try:
+            socket.create_server(("127.0.0.1", port)).close()
+        except OSError:
+            continue
+        if port not in found:
+            found.append(port)
+    return found
 
 
 def answers(port):
@@ -35,7 +47,7 @@ def answers(port):
 
 
 def wait_for(port, process):
-    for _ in range(600):
+    for _ in range(1800):
         if process.poll() is not None:
             raise RuntimeError(f"{process.args[0]} ended with {process.returncode}")
         if answers(port):
@@ -49,24 +61,32 @@ def digest(key):
 
 
 class Office:
-    """Folder is a scratch folder; program the built program, or None for the stand-in."""
+    """Folder is a scratch folder; program the built program, or None for the stand-in; of the batch so many copies, for the stand-in
+    alone; and so many desks."""
 
-    def __init__(self, folder, program=None, copies=1):
+    def __init__(self, folder, program=None, copies=1, desks=1):
         self.folder, self.program, self.copies = folder, program, copies
         self.processes, self.desk = [], None
-        self.desk_port = DESK_PORT if program else free_port()
-        self.port = free_port()
+        self.ports = [FIRST_PORT + k for k in range(desks)] if program else free_ports(desks)
+        self.port = free_ports(1)[0]
         self.url = f"https://127.0.0.1:{self.port}/"
-        self.make_matter()
-        self.open_desk()
-        self.start_nginx()
-        for name, role, key in (("Ellis", "Reviewer", ELLIS), ("Marlow", "Second", MARLOW)):
-            self.ask(LEAD, "POST", "/staff", dict(name=name, role=role, digest=digest(key)))
+        try:
+            self.make_matter()
+            self.open_desk()
+            self.start_nginx()
+            for name, role, key in (("Ellis", "Reviewer", ELLIS), ("Marlow", "Second", MARLOW)):
+                self.take_in(name, role, key)
+        except BaseException:
+            self.close()
+            raise
+
+    def take_in(self, name, role, key):
+        self.ask(LEAD, "POST", "/staff", dict(name=name, role=role, digest=digest(key)))
 
     # ---- the desk
 
     def run(self, *words):
-        told = subprocess.run([self.program, *words], cwd=self.folder, capture_output=True, text=True, check=False)
+        told = subprocess.run([self.program, *words], cwd=self.folder, capture_output=True, text=True, timeout=5 * PATIENCE, check=False)
         if told.returncode != 0:
             raise RuntimeError(f"{words}: status {told.returncode}, {told.stdout}")
         return told.stdout
@@ -79,53 +99,65 @@ class Office:
 
     def open_desk(self):
         if self.program:
-            words = [self.program, "serve", "1", "100000"]
+            words = [self.program, "serve", str(len(self.ports)), "100000"]
         else:
-            words = [sys.executable, os.path.join(HERE, "stand_in.py"), str(self.desk_port), BATCH, LEAD, str(self.copies)]
+            ports = ",".join(map(str, self.ports))
+            words = [sys.executable, os.path.join(HERE, "stand_in.py"), ports, BATCH, LEAD, str(self.copies)]
         # where the tests run in the background of a shell, SIGINT is ignored by what they start, and a desk wouldn't end
         self.desk = subprocess.Popen(words, cwd=self.folder, stdout=subprocess.PIPE, text=True,
                                      preexec_fn=lambda: signal.signal(signal.SIGINT, signal.SIG_DFL))
-        wait_for(self.desk_port, self.desk)
+        for port in self.ports:
+            wait_for(port, self.desk)
 
     def close_desk(self):
         self.desk.send_signal(signal.SIGINT)
-        self.desk.wait()
-        return self.desk.stdout.read()
+        return self.desk.communicate(timeout=PATIENCE)[0]
 
     # ---- nginx, with the configuration that the office gets
 
     def start_nginx(self):
+        self.make_certificate()
+        self.put_page()
+        temps = "".join(f"{kind}_temp_path {self.folder}/{kind};" for kind in ("client_body", "proxy", "fastcgi", "uwsgi", "scgi"))
+        user = "user root;" if os.geteuid() == 0 else ""
+        with open(os.path.join(self.folder, "nginx.conf"), "w", encoding="utf-8") as file:
+            file.write(f"{user} worker_processes 1; daemon off; pid {self.folder}/nginx.pid; error_log {self.folder}/error.log;"
+                       f"events {{ worker_connections 2048; }} http {{ {temps}\n{self.site()} }}")
+        words = [shutil.which("nginx"), "-p", self.folder, "-c", "nginx.conf", "-e", f"{self.folder}/error.log"]
+        nginx = subprocess.Popen(words)
+        self.processes.append(nginx)
+        wait_for(self.port, nginx)
+
+    def make_certificate(self):
         subprocess.run(
             ["openssl", "req", "-x509", "-newkey", "rsa:2048", "-nodes", "-days", "2", "-subj", "/CN=127.0.0.1",
              "-keyout", "key.pem", "-out", "cert.pem"], cwd=self.folder, check=True, capture_output=True)
+
+    def put_page(self):
         page = os.path.join(self.folder, "page")
         shutil.copytree(os.path.join(HERE, "..", "page"), page)
         fields = subprocess.run([sys.executable, os.path.join(HERE, "..", "field_names.py"), os.path.join(BATCH, "load.dat")],
                                 capture_output=True, check=True).stdout
         with open(os.path.join(page, "fields.json"), "wb") as file:
             file.write(fields)
+
+    def site(self):
+        """The configuration with what an office changes of it."""
         with open(os.path.join(HERE, "..", "nginx", "desk_page.conf"), encoding="utf-8") as file:
             site = file.read()
-        for old, new in (("listen 443 ssl", f"listen 127.0.0.1:{self.port} ssl"), ("<review.office.example>", "127.0.0.1"),
-                         ("</etc/ssl/certs/review.pem>", f"{self.folder}/cert.pem"),
-                         ("</etc/ssl/private/review.key>", f"{self.folder}/key.pem"), ("</srv/desk_page/page>", page),
-                         (f"server 127.0.0.1:{DESK_PORT} ", f"server 127.0.0.1:{self.desk_port} ")):
-            if old not in site:
-                raise RuntimeError(f"the configuration has no {old}")
+        changes = {
+            "listen 443 ssl": f"listen 127.0.0.1:{self.port} ssl",
+            "<review.office.example>": "127.0.0.1",
+            "</etc/ssl/certs/review.pem>": f"{self.folder}/cert.pem",
+            "</etc/ssl/private/review.key>": f"{self.folder}/key.pem",
+            "</srv/desk_page/page>": f"{self.folder}/page",
+        }
+        for k, line in enumerate(LINES):
+            changes[line] = f"    server 127.0.0.1:{self.ports[k]} max_fails=0;\n" if k < len(self.ports) else ""
+        for old, new in changes.items():
+            if site.count(old) != 1:
+                raise RuntimeError(f"the configuration has {old} so often: {site.count(old)}")
             site = site.replace(old, new)
-        site = self.site_of(site)
-        temps = "".join(f"{kind}_temp_path {self.folder}/{kind};" for kind in ("client_body", "proxy", "fastcgi", "uwsgi", "scgi"))
-        user = "user root;" if os.geteuid() == 0 else ""
-        with open(os.path.join(self.folder, "nginx.conf"), "w", encoding="utf-8") as file:
-            file.write(f"{user} worker_processes 1; daemon off; pid {self.folder}/nginx.pid; error_log {self.folder}/error.log;"
-                       f"events {{ worker_connections 2048; }} http {{ {temps}\n{site} }}")
-        words = [shutil.which("nginx"), "-p", self.folder, "-c", "nginx.conf", "-e", f"{self.folder}/error.log"]
-        nginx = subprocess.Popen(words)
-        self.processes.append(nginx)
-        wait_for(self.port, nginx)
-
-    # the configuration of a test that changes more of it
-    def site_of(self, site):
         return site
 
     # ---- requests of another client, by way of nginx
@@ -150,6 +182,9 @@ class Office:
 
     def close(self):
         for process in self.processes + [self.desk]:
-            if process.poll() is None:
+            if process is not None and process.poll() is None:
                 process.terminate()
-                process.wait()
+                try:
+                    process.wait(PATIENCE)
+                except subprocess.TimeoutExpired:
+                    process.kill()

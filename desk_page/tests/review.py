@@ -167,6 +167,7 @@ def canvas_is(what, person, number, page):
 
 def try_keys(person, office):
     person.go(office.url)
+    check("the field for the key has the focus", person.js("document.activeElement.id") == "key")
     for key, words in (("nobody", "KeyUnknown"), ("clé", "plain keyboard")):
         person.click("#key")
         person.type(key)
@@ -188,7 +189,13 @@ def try_looking(person, office, shots):
     check("12 documents, with what stands of each", person.text("count") == "12 documents")
     person.until("document.querySelectorAll('#family button').length === 3")
     check("the family of document 1", person.text("family") == "Family: ○ 1○ 2○ 3", person.text("family"))
-    canvas_is("page 1 as wide as the window", person, 1, 1)
+    for key, number in (("ArrowDown", 2), ("ArrowUp", 1)):
+        person.js("document.getElementById('documents').focus()")
+        person.key(key)
+        person.until(f"document.getElementById('title').textContent === 'Document {number}'")
+    check("arrows go through the list", True)
+    person.key("Escape")
+    canvas_is("page 1 at page width", person, 1, 1)
     person.size("1")
     canvas_is("page 1 at full size", person, 1, 1)
     person.size("page")
@@ -197,7 +204,9 @@ def try_looking(person, office, shots):
     person.size("0.33")
     canvas_is("page 2 at a third", person, 1, 2)
     person.key("0")
-    for _ in range(8):
+    for _ in range(50):
+        if person.text("place") == "page 3 of 3":
+            break
         person.key(" ")
         time.sleep(0.1)
     check("Space reads on to page 3", person.text("place") == "page 3 of 3", person.text("place"))
@@ -473,7 +482,7 @@ def try_productions(person, ellis, office, shots):
     rows = person.js("Array.from(document.querySelectorAll('#items tbody tr'), (it) => Array.from(it.cells, (cell) => cell.textContent).join(' '))")
     check("with each document's labels", len(rows) == 10 and rows[2] == "3 Withhold AC ABC00000006" and
           rows[3] == "4 Produce ABC00000007", rows)
-    person.shot(os.path.join(shots, "production.png"))
+    person.shot(os.path.join(shots, "production.png"), "#productions")
     ask_production(person, "Press Freeze again")
     check("asked once more it is the same", ask_production(person, due), person.text("frozen"))
     for name, words in (("R-9", "No production has this ID"), ("R-1", due)):
@@ -512,6 +521,7 @@ def try_people(person, office, shots):
     person.shot(os.path.join(shots, "people.png"))
     person.key("Escape")
     person.until("!document.getElementById('people').open")
+    person.until("document.getElementById('new_key').textContent === ''")  # a closed dialog tells so a moment later
     check("the key is gone with the dialog", person.text("new_key") == "")
     person.enter(office.url, key)
     check("and opens the desk", person.text("count") == "12 documents")
@@ -527,19 +537,24 @@ def try_keys_list(person, shots):
     person.key("Escape")
 
 
+# parts of the window that are wider than their place
+CUT_OFF = """[...document.querySelectorAll('body, nav, #bar, aside, aside form, aside fieldset, .head')]
+  .filter((it) => it.scrollWidth > it.clientWidth).map((it) => it.id || it.tagName)"""
+
+
 def try_large_letters(office, shots):
-    """The browser's zoom at 125 %: a window of as many points, whose letters are larger."""
-    person = Person(office.folder, size=(1200, 800), points=1.25)
-    try:
-        person.enter(office.url, ELLIS)
-        person.open(10)
-        person.turn(2, 4)
-        canvas_is("page 2 of document 10 at 125 %", person, 10, 2)
-        wide = person.js("['nav', 'aside', '#bar', 'body'].filter((it) => document.querySelector(it).scrollWidth > document.querySelector(it).clientWidth)")
-        check("nothing is cut off at 125 %", wide == [], wide)
-        person.shot(os.path.join(shots, "large-letters.png"))
-    finally:
-        person.close()
+    """The browser's zoom at 125 % and 150 %: a window of fewer points, whose letters are larger; a large one and small ones."""
+    for size, zoom, shot in (((1200, 800), 1.25, "large-letters"), ((1093, 614), 1.25, "small-window"), ((853, 480), 1.5, "smallest-window")):
+        person = Person(office.folder, size=size, points=zoom)
+        try:
+            person.enter(office.url, ELLIS)
+            person.open(10)
+            person.turn(2, 4)
+            canvas_is(f"page 2 of document 10 at {zoom:.0%}, {size[0]} by {size[1]}", person, 10, 2)
+            check("nothing is cut off", person.js(CUT_OFF) == [], person.js(CUT_OFF))
+            person.shot(os.path.join(shots, shot + ".png"))
+        finally:
+            person.close()
 
 
 def press(office):
@@ -555,7 +570,7 @@ def press(office):
 
 def main():
     scratch, shots = sys.argv[1:3]
-    office = Office(scratch, sys.argv[3] if len(sys.argv) > 3 else None)
+    office = Office(scratch, sys.argv[3] if len(sys.argv) > 3 else None, desks=2)
     ellis = marlow = None
     try:
         ellis = Person(scratch)

@@ -9,6 +9,7 @@ set -eu
 here=$(CDPATH='' cd -- "$(dirname -- "$0")" && pwd)
 top=$(CDPATH='' cd -- "$here/../.." && pwd)
 PATH=$PATH:/usr/sbin
+export PYTHONDONTWRITEBYTECODE=1
 
 for tool in chromium nginx openssl python3 tifftopnm pamcut tiffcp git; do
     command -v "$tool" > /dev/null && continue
@@ -20,14 +21,15 @@ done
 program=${PROGRAM-$top/crates/bp_main/out/bp_main}
 [ -x "$program" ] || program=
 if [ -n "$program" ]; then
-    echo "desk_page: over the program $program"
-    # a desk is at port 48201, which may be taken
-    if python3 -c 'import socket; socket.create_connection(("127.0.0.1", 48201), 1)' 2> /dev/null; then
-        echo "desk_page: somebody is at port 48201: end that desk first" >&2
-        exit 1
+    # its desks are at ports 48201 to 48204, which may be taken
+    if taken=$(python3 "$here/taken.py" 48201 48204); then
+        echo "desk_page: the program is NOT TRIED: somebody is at port $taken; over the stand-in"
+        program=
+    else
+        echo "desk_page: over the program $program"
     fi
 else
-    echo "desk_page: the program isn't built: over the stand-in"
+    echo "desk_page: the program is NOT TRIED, as it isn't built; over the stand-in"
 fi
 
 scratch=$(mktemp -d)

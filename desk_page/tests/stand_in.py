@@ -1,8 +1,8 @@
 #!/usr/bin/env python3
-"""A stand-in for a desk: the routes of docs/FORMATS.md (bp_web) over a batch, with the rules of review, one exchange after
-another, in memory. It is for the tests of the page where the program isn't built, and for matters of many documents.
+"""A stand-in for desks of one matter: the routes of docs/FORMATS.md (bp_web) over a batch, with the rules of review, at each desk one
+exchange after another, in memory. It is for the tests of the page where the program isn't built, and for matters of many documents.
 
-    stand_in.py PORT BATCH LEADKEY [COPIES]    serves the batch in the folder BATCH, so many times over; Ctrl-C ends it
+    stand_in.py PORT[,PORT ..] BATCH LEADKEY [COPIES]    serves the batch in the folder BATCH, so many times over; Ctrl-C ends it
 """
 import csv
 import hashlib
@@ -11,6 +11,7 @@ import os
 import re
 import socketserver
 import sys
+import threading
 
 from stand_in_freeze import REQUEST, Productions
 
@@ -315,9 +316,9 @@ def answer(matter, method, target, fields, body):
 class Exchange(socketserver.StreamRequestHandler):
     timeout = 10
     count = 0
+    turn = threading.Lock()  # calls of all desks are made one after another
 
     def handle(self):
-        Exchange.count += 1
         lines = []
         while (line := self.rfile.readline(16384).decode("latin-1").rstrip("\r\n")) or not lines:
             if not line:
@@ -328,7 +329,10 @@ class Exchange(socketserver.StreamRequestHandler):
         try:
             if len(fields) > 32:
                 raise Refused("HeadRefused")
-            status, kind, body = 200, "application/json", answer(matter, method, target, fields, self.body(method, fields))
+            sent = self.body(method, fields)
+            with Exchange.turn:
+                Exchange.count += 1
+                status, kind, body = 200, "application/json", answer(matter, method, target, fields, sent)
         except Refused as why:
             status, kind = STATUS.get(why.name, 409), "application/json"
             body = dict(a=why.a, b=0, line=0, name=why.name, rule=RULES[why.name])
@@ -360,9 +364,12 @@ class Door(socketserver.TCPServer):
 
 if __name__ == "__main__":
     if len(sys.argv) not in (4, 5):
-        sys.exit("usage: stand_in.py PORT BATCH LEADKEY [COPIES]")
+        sys.exit("usage: stand_in.py PORT[,PORT ..] BATCH LEADKEY [COPIES]")
     matter = Matter(sys.argv[3], sys.argv[2], int(sys.argv[4]) if len(sys.argv) == 5 else 1)
+    first, *others = [Door(("127.0.0.1", int(port)), Exchange) for port in sys.argv[1].split(",")]
+    for door in others:
+        threading.Thread(target=door.serve_forever, daemon=True).start()
     try:
-        Door(("127.0.0.1", int(sys.argv[1])), Exchange).serve_forever()
+        first.serve_forever()
     except KeyboardInterrupt:
         print(f"served {Exchange.count}")

@@ -9,15 +9,17 @@ BASES = ("AC", "WP", "PI", "TS")
 STATES = ("uncalled", "called", "confirmed")
 TREATMENTS = ("Produce", "Redact", "Withhold AC", "Withhold WP")
 VERSION = 1
+PRODUCTION, LETTERED = 10, 2  # the kind of a production, and its version where its boxes are lettered
 COLUMNS = ["kind", "k1", "k2", "body"]
 
 
 class Reader:
     """Reads the numbers and texts of a row's body, one behind another."""
 
-    def __init__(self, body):
+    def __init__(self, kind, body):
         self.body, self.at = body, 0
-        if self.u8() != VERSION:
+        version = self.u8()
+        if version != VERSION and (kind, version) != (PRODUCTION, LETTERED):
             raise ValueError("another version")
 
     def take(self, count):
@@ -118,8 +120,8 @@ def matter_of(rows, path):
 
 
 def take_row(matter, kind, number, body):
-    reader = Reader(body)
-    takes = {1: take_staff, 3: take_document, 5: take_call, 6: take_box, 7: take_held, 8: take_entry, 10: take_production, 11: take_batch}
+    reader = Reader(kind, body)
+    takes = {1: take_staff, 3: take_document, 5: take_call, 6: take_box, 7: take_held, 8: take_entry, PRODUCTION: take_production, 11: take_batch}
     takes[kind](matter, number, reader)
     reader.end()
 

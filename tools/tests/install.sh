@@ -7,6 +7,7 @@
 set -eu
 here=$(CDPATH='' cd -- "$(dirname -- "$0")" && pwd)
 top=$(CDPATH='' cd -- "$here/../.." && pwd)
+umask 022 # others have to read what is unpacked
 room=$(mktemp -d)
 trap 'rm -rf "$room"' EXIT
 chmod 755 "$room"
@@ -72,9 +73,10 @@ echo 'the first build'
 status_of env FAIL=bp_text "$copy/tivrenan" init x
 check 'a crate that is not proved ends the build' is "$status" 69
 check 'it says which, and where' holds 'bp_text could not be proved; what rt said is in .*/bp_text.log' "$room/said"
-status_of env PAUSE=7.25 timeout -s TERM 3 "$copy/tivrenan" build
+pause=7.$$ # a number that no other trial sleeps
+status_of env PAUSE=$pause timeout -s TERM 3 "$copy/tivrenan" build
 check 'a signal ends the build' is "$status" 124
-check 'and leaves nothing that runs' is "$(pgrep -f 'sleep 7.25' || :)" ''
+check 'and leaves nothing that runs' is "$(grep -lxz "$pause" /proc/[0-9]*/cmdline 2> /dev/null || :)" ''
 : > "$room/events"
 status_of "$copy/tivrenan" init x
 check 'the program is built and run' is "$status" 0
@@ -110,6 +112,19 @@ check 'each crate once, after those below it' python3 "$room/order.py" "$copy/cr
 : > "$room/events"
 status_of "$copy/tivrenan" build
 check 'nothing is built twice' is "$status$(cat "$room/events" "$room/said")" 0
+status_of "$copy/tivrenan" build look
+check 'look sees that it is built' is "$status$(cat "$room/said")" 0
+echo '// changed' >> "$copy/crates/bp_core/src/lib.rt"
+status_of "$copy/tivrenan" build look
+check 'and that it is not, and builds nothing' is "$status$(cat "$room/events")" 69
+status_of "$copy/tivrenan" build gate
+check 'a program older than its sources is not taken for what the gate built' is "$status" 69
+check 'and the source is named' holds 'crates/bp_core/src/lib.rt is newer' "$room/said"
+touch "$copy/crates/bp_main/out/bp_main"
+status_of "$copy/tivrenan" build gate
+check 'one that the gate has just built is' is "$status$(cat "$room/said")" 0
+status_of "$copy/tivrenan" build
+check 'and nothing is built once more' is "$status$(cat "$room/events" "$room/said")" 0
 
 echo 'make install'
 status_of make -C "$copy" install PREFIX="$room/usr"
@@ -137,6 +152,14 @@ check 'the report runs' is "$(cat "$room/said")" \
     'tivrenan-matter-report: matter.db: there is no such file; tivrenan keeps a matter in matter.db of its folder'
 status_of "$room/usr/bin/tivrenan-make-batch" "$room/none" "$room/B"
 check 'make_batch runs' holds 'none: there is no such folder' "$room/said"
+cat > "$room/links.py" << 'END'
+import os, re, sys
+for name in ("README.md", "GUIDE.md"):
+    with open(os.path.join(sys.argv[1], name), encoding="utf-8") as file:
+        for link in re.findall(r"!\[[^]]*\]\(([^)]*)\)", file.read()):
+            assert os.path.isfile(os.path.join(sys.argv[1], link)), f"{name}: {link}"
+END
+check 'each picture of the documents is there' python3 "$room/links.py" "$room/usr/share/doc/tivrenan"
 check 'the page of the manual is there' test -s "$room/usr/share/man/man1/tivrenan.1.gz"
 if command -v man > /dev/null; then
     check 'man reads it' sh -c "man -l '$room/usr/share/man/man1/tivrenan.1.gz' 2>&1 | tr -s ' ' | grep -q 'blackens in the page file'"
@@ -212,8 +235,7 @@ check 'a damaged archive is refused' is "$status$(tail -n 1 "$room/said")" '1ins
 check 'and nothing installed' test ! -e "$room/usr3"
 PATH=${PATH#*:}
 
-# without rt the launcher builds nothing, and says whether the program stands as its sources are
-if env -i PATH=/usr/bin:/bin "$top/tivrenan" build > /dev/null 2>&1; then
+if "$top/tivrenan" build look > /dev/null 2>&1; then
     echo 'with the program'
     status_of "$top/tools/dist.sh"
     check 'it packs the program' is "$status" 0

@@ -38,10 +38,10 @@ TEXT = "The roof of building four leaks since the winter, and the landlord was t
 
 
 def built():
-    """The program, where it is built from the sources as they stand; without rt on PATH the launcher builds nothing."""
+    """The program, where it is built from the sources as they stand."""
     path = os.path.join(TOP, "crates", "bp_main", "out", "bp_main")
-    words = [os.path.join(TOP, "tivrenan"), "build"]
-    return path if subprocess.run(words, env={"PATH": "/usr/bin:/bin"}, capture_output=True, check=False).returncode == 0 else None
+    words = [os.path.join(TOP, "tivrenan"), "build", "look"]
+    return path if subprocess.run(words, capture_output=True, check=False).returncode == 0 else None
 
 
 PROGRAM = built()
@@ -586,8 +586,9 @@ class Refusals(Case):
         self.refused("a.pdf: page 1 would have 41663 by 413 pixels, and at most 20000 a side")
 
     def test_more_than_a_matter_takes(self):
-        self.put("a.pdf", pdf_of([text_at(100, 700, "page")] * 476))
-        self.refused("the batch: 476 pages have 4005540000 pixels, and a matter takes 4000000000: take a lower --dpi")
+        self.put("a.pdf", pdf_of([text_at(100, 700, "page")] * 5942))
+        why = "the batch: 5942 pages have 200007720000 pixels, and a matter takes 200000000000: take a lower --dpi"
+        self.refused(why, options=("--dpi", "600"))
 
     def test_fields(self):
         self.page("a.pdf")

@@ -11,6 +11,7 @@
 //     bp_bench strips FILE PAGES TIMES
 //     bp_bench import FOLDER NAME TIMES
 //     bp_bench import_parts FOLDER NAME TIMES
+//     bp_bench check FOLDER DAT OPT MANIFEST TIMES
 //     bp_bench calls DOCS BOXES MIX COUNT
 //     bp_bench scattered_calls DOCS BOXES MIX COUNT
 //     bp_bench call_rows DOCS BOXES MIX COUNT
@@ -22,9 +23,12 @@
 //     bp_bench offices DOCS BOXES TIMES
 //     bp_bench press FILE PAGES WORDS TIMES OUT
 //     bp_bench press_parts FILE PAGES WORDS TIMES OUT
+//     bp_bench receive FILE PAGES WORDS PATH TIMES
+//     bp_bench file_of FILE PAGES WORDS PATH TIMES
 #![tactic(auto)]
 
 mod calls;
+mod checks;
 mod codes;
 mod dat;
 mod freezes;
@@ -35,6 +39,7 @@ mod office;
 mod opt;
 mod pages;
 mod presses;
+mod receives;
 mod sums;
 mod volume;
 mod words;
@@ -68,11 +73,12 @@ fn run<R: Files + Alloc + Threads + Sync>(rt: &R, alloc: Global, words: &[String
         "strips" => matter::strips(rt, alloc, operands),
         "import" => import::import(rt, alloc, operands),
         "import_parts" => import::parts(rt, alloc, operands),
+        "check" => checks::run(rt, alloc, operands),
         other => decide_or_press(rt, alloc, other, operands),
     }
 }
 
-// The jobs of review calls, of the freeze and of the press.
+// The jobs of review calls, of the freeze, of the press and of receivers.
 fn decide_or_press<R: Files + Alloc>(
     rt: &R,
     alloc: Global,
@@ -91,6 +97,8 @@ fn decide_or_press<R: Files + Alloc>(
         "offices" => freezes::offices(alloc, operands),
         "press" => presses::press(rt, alloc, operands),
         "press_parts" => presses::parts(rt, alloc, operands),
+        "receive" => receives::receive(rt, alloc, operands),
+        "file_of" => receives::make(rt, alloc, operands),
         other => bail!("no job {other}"),
     }
 }

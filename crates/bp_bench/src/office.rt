@@ -100,7 +100,8 @@ impl Office {
         self.add_staff("Marlow", Role::Second, SECOND)
     }
 
-    fn add_staff(&mut self, name: &str, role: Role, digest: [u8; 32]) -> Result<()> {
+    /// The lead takes in a member of the staff.
+    pub fn add_staff(&mut self, name: &str, role: Role, digest: [u8; 32]) -> Result<()> {
         let name = self.text(name)?;
         self.ask(&LEAD, &Call::AddStaff { name, role, digest })
     }

@@ -52,7 +52,8 @@ fn task_of<'a, R: Files + Alloc>(
     })
 }
 
-fn frozen(alloc: Global, image: &Page, shape: Shape) -> Result<Office> {
+/// An office where all documents are confirmed, each with a box on its first page, and frozen.
+pub fn frozen(alloc: Global, image: &Page, shape: Shape) -> Result<Office> {
     let mut office = confirmed(alloc, image, shape, 1)?;
     let request = office.request(shape.docs)?;
     office.freeze(request)?;

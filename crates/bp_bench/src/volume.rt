@@ -1,9 +1,9 @@
 // The volume of a kept production.
 use anyhow::{Result, bail};
-use bp_core::Text;
+use bp_core::{Bytes, Text};
 use bp_matter::Tables;
 use bp_outside::Folder;
-use bp_press::press;
+use bp_press::{file_of, press};
 use std::alloc::Global;
 
 /// Writes the volume of the production of this id: its number of files.
@@ -20,5 +20,17 @@ pub fn write_volume<F: Folder>(
     match press(alloc, tables, production, folder) {
         Ok(pressed) => Ok(u64::from(pressed.files)),
         Err(refusal) => bail!("the volume isn't written: {refusal}"),
+    }
+}
+
+/// The file of that path, of the volume of the production of this id.
+#[tactic(auto, using(crate::proofs::VolumeLemmas::found_is_kept))]
+pub fn file_in(alloc: Global, tables: &Tables, id: &Text, path: &Text) -> Result<Bytes> {
+    let Some(production) = tables.production(id) else {
+        bail!("no production has the id");
+    };
+    match file_of(alloc, tables, production, path) {
+        Ok(bytes) => Ok(bytes),
+        Err(_refusal) => bail!("the file isn't made"),
     }
 }

@@ -15,6 +15,7 @@ use Rattle.bp_burn.specs.Band.{band_texts, produced_of, slip_text}
 use Rattle.bp_burn.specs.Covered.{covered_pixel}
 use Rattle.bp_burn.specs.Drawn.{columns_of, has_glyphs, is_drawn}
 use Rattle.bp_burn.specs.Ink.{in_row, inked}
+use Rattle.bp_burn.specs.Strips.{touches_above, touches_row}
 use Rattle.bp_burn.specs.declared.band.TheConstants.{BAND_ROWS, MARGIN, TEXT_TOP}
 use Rattle.bp_burn.specs.declared.drawing.TheConstants.{COLUMNS, PITCH, SCALE}
 use Rattle.bp_burn.specs.declared.letters.TheConstants.{LETTERED_HEIGHT, LETTERED_WIDTH, LETTERS_IN}
@@ -71,6 +72,22 @@ other_row = refl
 abbrev stamp : Basis → ℕ → ℕ → ℕ → ℕ → Stamp
 stamp ground left top width height =
     record { rect = record { left = left; top = top; width = width; height = height }; basis = ground }
+
+-- ---- rows that a stamp touches
+
+-- a box of rows 3 and 4
+abbrev rows_three_and_four : List Stamp
+rows_three_and_four = stamp Ac 0 3 5 2 ∷ []
+
+touched : map (touches_row rows_three_and_four) (range_with_len 2 4) ≡ false ∷ true ∷ true ∷ false ∷ []
+touched = refl
+
+-- the rows below them; above row 0 there is none
+touched_above : map (touches_above rows_three_and_four) (range_with_len 3 4) ≡ false ∷ true ∷ true ∷ false ∷ []
+touched_above = refl
+
+none_above_the_first : touches_above (stamp Ac 0 0 5 1 ∷ []) 0 ≡ false
+none_above_the_first = refl
 
 -- the box is black in the page, and white in the band, which has no texts here
 produced_page : produced_of Black two_columns (record { rect = past_the_edges; basis = Ac } ∷ []) [] [] ≡ record two_columns { height = 33; rows = (false ∷ true ∷ []) ∷ replicate 32 (false ∷ false ∷ []) }

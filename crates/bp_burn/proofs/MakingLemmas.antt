@@ -1,7 +1,6 @@
 -- The strip of a page that goes out under way: what was read and added so far.
-use Rattle.std.proofs.Common.{ℕ, ◌≡◌, ◌+◌, ◌*◌, ◌<◌, ◌≤◌, ◌&&◌, ◌||◌, Bool, false, nat_le, nat_lt, List, [], ◌∷◌, ◌++◌, length, take, refl, sym, ap, subst, ◌∙◌, arith, append-nil, append_assoc}
+use Rattle.std.proofs.Common.{ℕ, zero, suc, ◌≡◌, ◌+◌, ◌-◌, ◌*◌, ◌<◌, ◌≤◌, ◌&&◌, ◌||◌, Bool, true, false, nat_le, nat_lt, List, [], ◌∷◌, ◌++◌, length, take, refl, sym, ap, subst, ◌∙◌, arith, append-nil, append_assoc}
 use Rattle.std.specs.Prelude.{IsTrue}
-use Rattle.std.specs.List.{sum}
 use Rattle.std.proofs.lemmas.Bool.{and_from, le-leb, leb-true, lt-ltb, ltb-true}
 use Rattle.std.proofs.lemmas.List.{take_all, take_more}
 use Rattle.bp_core.specs.declared.stamps.Ink.{Ink}
@@ -9,17 +8,17 @@ use Rattle.bp_core.specs.declared.stamps.Stamp.{Stamp}
 use Rattle.bp_rows.specs.declared.resolution.Unit.TheVariants.{Inch}
 use Rattle.bp_rows.specs.Image.{Image, IsGrid, IsPage, grid_of, pixel, row_of, white_image}
 use Rattle.bp_rows.specs.Limits.{sides_are_allowed, sides_are_imported}
-use Rattle.bp_rows.specs.Runs.{IsRuns, painted_runs}
 use Rattle.bp_rows.proofs.GridLemmas.{cell-grid_of, cell-white, grid_of_is_grid, same_grids, white_is_grid}
-use Rattle.bp_rows.proofs.RunLemmas.{length-painted}
-use Rattle.bp_t6.specs.SoFar.{AddedSoFar, HasAdded, ReadSoFar, ReadsPage}
+use Rattle.bp_t6.specs.SoFar.{AddedSoFar, HasAdded, ReadSoFar, ReadsPage, last_line, row_above}
+use Rattle.bp_t6.specs.Written.{white_line}
+use Rattle.bp_t6.proofs.StripLemmas.{last-more}
 use Rattle.bp_burn.specs.Band.{band_texts, produced_of, slip_resolution}
 use Rattle.bp_burn.specs.Covered.{covered, covered_pixel}
 use Rattle.bp_burn.specs.Ink.{inked}
-use Rattle.bp_burn.specs.Strips.{HasStrip, band_rows}
+use Rattle.bp_burn.specs.Strips.{HasStrip, band_rows, touches_above, touches_row}
 use Rattle.bp_burn.proofs.BandLemmas.{five}
 use Rattle.bp_burn.proofs.ChangeLemmas.{changed_is_grid}
-use Rattle.bp_burn.proofs.StripLemmas.{or_false, produced_rows}
+use Rattle.bp_burn.proofs.StripLemmas.{or_false, produced_rows, untouched_row}
 
 -- the width of a page that comes in
 pub imported_width : (w h : ℕ) → IsTrue (sides_are_imported w h) → (0 < w) × (w ≤ 20000)
@@ -33,14 +32,34 @@ pub one_row_more : (q : Image) (row : ℕ) → IsGrid q.width q.height q.rows �
 one_row_more q row grid down = take_more q.rows row [] (omega (arith, grid.down))
 
 -- all rows of the page that goes out
-pub rows_out : (ink : Ink) (p : Image) (stamps : List Stamp) (label designation : List ℕ) (width height : ℕ) → p.width ≡ width → p.height ≡ height
-    → take height (covered ink p stamps).rows ++ band_rows width label designation ≡ (produced_of ink p stamps label designation).rows
-rows_out ink p stamps label designation width height wide high =
-    let q = covered ink p stamps in
-    let grid = changed_is_grid p (covered_pixel ink stamps) in
-    ap (λ rows. rows ++ band_rows width label designation) (take_all height q.rows (omega (arith, grid.down, high)))
-    ∙ ap (λ w. q.rows ++ band_rows w label designation) (sym wide)
+pub rows_out : (ink : Ink) (p : Image) (stamps : List Stamp) (label designation : List ℕ) (width : ℕ) → p.width ≡ width
+    → (covered ink p stamps).rows ++ band_rows width label designation ≡ (produced_of ink p stamps label designation).rows
+rows_out ink p stamps label designation width wide =
+    ap (λ w. (covered ink p stamps).rows ++ band_rows w label designation) (sym wide)
     ∙ sym (produced_rows ink p stamps label designation)
+
+-- the row above one that is touched neither itself nor there is the page's
+above_row : (p : Image) (ink : Ink) (stamps : List Stamp) (row : ℕ) → IsPage p → row < p.height → touches_row stamps row ≡ false
+    → last_line (white_line p.width) (take (row + 1) (covered ink p stamps).rows) ≡ last_line (white_line p.width) (take (row + 1) p.rows)
+above_row p ink stamps row page down none =
+    let q = covered ink p stamps in
+    let white = white_line p.width in
+    let grid = changed_is_grid p (covered_pixel ink stamps) in
+    let same = untouched_row p ink stamps row down (page.grid.across row down) none in
+    ap (last_line white) (one_row_more q row grid down) ∙ last-more white (take row q.rows) (row_of q row)
+    ∙ sym (ap (last_line white) (one_row_more p row page.grid down) ∙ last-more white (take row p.rows) (row_of p row) ∙ same)
+
+pub same_above : (p : Image) (ink : Ink) (stamps : List Stamp) (row : ℕ) → IsPage p → row < p.height → touches_above stamps row ≡ false
+    → last_line (white_line p.width) (take row (covered ink p stamps).rows) ≡ row_above p row
+same_above p ink stamps zero page down none = refl
+same_above p ink stamps (suc n) page down none =
+    let less : nat_lt 0 (suc n) ≡ true = lt-ltb 0 (suc n) (omega arith) in
+    let back : suc n - 1 ≡ n = omega arith in
+    let next : n + 1 ≡ suc n = omega arith in
+    let above : touches_row stamps n ≡ false =
+    ap (touches_row stamps) (sym back) ∙ sym (ap (λ b. b && touches_row stamps (suc n - 1)) less) ∙ none in
+    subst (λ (m : ℕ). last_line (white_line p.width) (take m (covered ink p stamps).rows) ≡ last_line (white_line p.width) (take m p.rows)) next
+    (above_row p ink stamps n page (omega arith) above)
 
 -- what is known after so many rows of making a strip
 pub record Making (width height : ℕ) (strip : List ℕ) (ink : Ink) (stamps : List Stamp) (row : ℕ) (reader : ReadSoFar) (writer : AddedSoFar) : Type 0 where

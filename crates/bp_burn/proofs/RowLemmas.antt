@@ -1,12 +1,12 @@
 -- One row of a page, painted and covered alone, against the row of the covered page.
-use Rattle.std.proofs.Common.{ℕ, ◌≡◌, ◌<◌, Bool, false, List, [], map, get_or, Result, Ok, Err, refl, sym, ap, subst, ◌∙◌, arith, add-zero, zero-add}
+use Rattle.std.proofs.Common.{ℕ, ◌≡◌, ◌<◌, Bool, false, List, [], map, get_or, Result, Ok, Err, refl, sym, ap, ◌∙◌, arith, add-zero, zero-add}
 use Rattle.std.specs.List.{range_with_len, sum}
 use Rattle.std.specs.Result.{IfOk}
 use Rattle.std.proofs.lemmas.List.FromFn.{get_or-map-range_with_len}
 use Rattle.bp_core.specs.declared.stamps.Ink.{Ink}
 use Rattle.bp_core.specs.declared.stamps.Stamp.{Stamp}
 use Rattle.bp_rows.specs.Image.{Image, pixel, row_of, white_image, with_row}
-use Rattle.bp_rows.specs.Runs.{IsRuns, painted_runs}
+use Rattle.bp_rows.specs.Runs.{painted_runs}
 use Rattle.bp_rows.specs.declared.resolution.Unit.TheVariants.{Inch}
 use Rattle.bp_burn.specs.Band.{slip_resolution}
 use Rattle.bp_burn.specs.Covered.{covered, covered_pixel, covered_rows}

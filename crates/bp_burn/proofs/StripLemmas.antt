@@ -1,22 +1,18 @@
 -- The rows of a page that goes out, one behind another: those of the covered page, and the band's.
-use Rattle.std.proofs.Common.{ℕ, ◌≡◌, ◌+◌, ◌-◌, ◌<◌, ◌≤◌, ◌&&◌, ◌||◌, Bool, true, false, nat_le, nat_lt, Option, Some, None, List, [], ◌∷◌, ◌++◌, length, get_or, replicate, refl, sym, ap, ◌∙◌, arith, inl, inr, length-append, zero-add, if◌then◌else◌}
-use Rattle.std.specs.List.{sum}
+use Rattle.std.proofs.Common.{ℕ, ◌≡◌, ◌+◌, ◌-◌, ◌<◌, ◌≤◌, ◌&&◌, ◌||◌, Bool, true, false, nat_le, nat_lt, Option, Some, None, List, [], ◌∷◌, ◌++◌, length, get_or, refl, sym, ap, ◌∙◌, arith, inl, inr, length-append, zero-add, if◌then◌else◌}
 use Rattle.std.proofs.lemmas.Bool.{cases_lt}
 use Rattle.std.proofs.lemmas.Bool.Decides.{nat_tests}
-use Rattle.std.proofs.lemmas.List.{ext_get_or, get_or-append_right, get_or-replicate, get_or_append_left, get_or_past}
+use Rattle.std.proofs.lemmas.List.{ext_get_or, get_or-append_right, get_or_append_left, get_or_past}
 use Rattle.std.proofs.lemmas.List.FromFn.{get_or-map-range_with_len, length-map-range_with_len}
 use Rattle.bp_core.specs.Rectangle.{has_pixel}
 use Rattle.bp_core.specs.declared.rectangle.Rect.{Rect}
 use Rattle.bp_core.specs.declared.stamps.Ink.{Ink}
 use Rattle.bp_core.specs.declared.stamps.Ink.TheVariants.{Black, Lettered}
 use Rattle.bp_core.specs.declared.stamps.Stamp.{Stamp}
-use Rattle.bp_rows.specs.declared.resolution.Unit.TheVariants.{Inch}
 use Rattle.bp_rows.specs.Burned.{covers}
 use Rattle.bp_rows.specs.Image.{Image, IsGrid, grid_of, pixel, row_of}
-use Rattle.bp_rows.specs.Runs.{IsRuns, painted_runs}
 use Rattle.bp_rows.proofs.GridLemmas.{cell-grid_of, grid_of_is_grid, same_grids}
-use Rattle.bp_rows.proofs.RunLemmas.{length-painted}
-use Rattle.bp_burn.specs.Band.{band_texts, produced_of, slip_resolution}
+use Rattle.bp_burn.specs.Band.{band_texts, produced_of}
 use Rattle.bp_burn.specs.Covered.{covered, covered_pixel, last_with, rects_of}
 use Rattle.bp_burn.specs.Drawn.{columns_of, is_drawn, text_pixel}
 use Rattle.bp_burn.specs.Strips.{band_rows, has_row, touches_row}

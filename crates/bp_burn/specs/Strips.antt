@@ -1,5 +1,5 @@
 -- Strips of pages that go out (ITU-T T.6).
-use Rattle.std.specs.Prelude.{ℕ, ◌≡◌, ◌+◌, ◌&&◌, Bool, List, nat_le, nat_lt}
+use Rattle.std.specs.Prelude.{ℕ, ◌≡◌, ◌+◌, ◌-◌, ◌&&◌, Bool, List, nat_le, nat_lt}
 use Rattle.std.specs.List.{list_any}
 use Rattle.bp_core.specs.declared.rectangle.Rect.{Rect}
 use Rattle.bp_core.specs.declared.stamps.Stamp.{Stamp}
@@ -29,6 +29,10 @@ has_row box row = nat_le box.top row && nat_lt row (box.top + box.height)
 -- some stamp lies in the row
 abbrev pub touches_row : List Stamp → ℕ → Bool
 touches_row stamps row = list_any (λ (s : Stamp). has_row s.rect row) stamps
+
+-- some stamp lies in the row above
+abbrev pub touches_above : List Stamp → ℕ → Bool
+touches_above stamps row = nat_lt 0 row && touches_row stamps (row - 1)
 
 -- the rows of the band below a page of that width
 abbrev pub band_rows : ℕ → List ℕ → List ℕ → List (List Bool)

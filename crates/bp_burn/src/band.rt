@@ -14,10 +14,11 @@ use bp_core::{Ink, OutOfMemory, StampList, Text};
 use bp_rows::Page;
 use std::alloc::Global;
 
-// The rows of the band, the first row of its texts, and the columns left of the designation and
-// right of the label, in pixels.
-pub(crate) const BAND_ROWS: u32 = 32;
+/// The rows of the band, in pixels.
+pub const BAND_ROWS: u32 = 32;
 
+// The first row of its texts, and the columns left of the designation and right of the label, in
+// pixels.
 const TEXT_TOP: u32 = 5;
 
 const MARGIN: u32 = 16;

@@ -13,13 +13,15 @@ mod drawing;
 mod glyph_rows;
 mod letters;
 mod paper;
+mod room;
 mod slips;
 mod stamps;
 mod strips;
 
-pub use band::produced;
+pub use band::{BAND_ROWS, produced};
 pub use burning::{burn, burn_in_place, burn_row};
 pub use glyph_rows::{glyph, has_glyphs};
-pub use slips::slip_page;
+pub use paper::SLIP_DOTS;
+pub use slips::{SLIP_HEIGHT, SLIP_WIDTH, slip_page};
 pub use stamps::covered_runs;
 pub use strips::produced_strip;

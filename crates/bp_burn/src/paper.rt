@@ -9,7 +9,8 @@ use bp_core::{OutOfMemory, Refusal};
 use bp_rows::{Page, Res, Unit};
 use std::alloc::Global;
 
-const SLIP_DOTS: u32 = 200;
+/// The resolution of a slip sheet, in dots to the inch.
+pub const SLIP_DOTS: u32 = 200;
 
 /// A white page of these sides, at 200 dots to the inch.
 pub fn white_page(alloc: Global, width: u32, height: u32) -> Result<Page, OutOfMemory>

@@ -11,11 +11,13 @@ use bp_core::{Basis, OutOfMemory, Text};
 use bp_rows::Page;
 use std::alloc::Global;
 
-// The sides of a letter page at 200 dots to the inch, and where its text begins, in pixels.
-const SLIP_WIDTH: u32 = 1700;
+/// The width of a slip sheet in pixels: that of a letter page at 200 dots to the inch.
+pub const SLIP_WIDTH: u32 = 1700;
 
-const SLIP_HEIGHT: u32 = 2200;
+/// The height of a slip sheet above its band, in pixels.
+pub const SLIP_HEIGHT: u32 = 2200;
 
+// Where its text begins, in pixels.
 const SLIP_TOP: u32 = 1000;
 
 const SLIP_LEFT: u32 = 200;

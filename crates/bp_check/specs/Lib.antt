@@ -1,3 +1,4 @@
+pub mod Ahead
 pub mod Breaks
 pub mod Check
 pub mod Checking

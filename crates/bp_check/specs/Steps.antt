@@ -2,6 +2,7 @@
 use Rattle.std.specs.Prelude.{ℕ, ◌+◌, Bool, List, [], ◌∷◌, ◌++◌, Result, Ok, Err, if◌then◌else◌}
 use Rattle.bp_core.specs.declared.rules.Rule.{Rule}
 use Rattle.bp_core.specs.InTurn.{onto}
+use Rattle.bp_core.specs.RuleSteps.{◌>>=◌}
 
 -- a test passes, or a rule is broken
 abbrev pub demand : Bool → Rule → Result (Unit {0}) Rule
@@ -21,3 +22,8 @@ behind front (Err rule) = Err rule
 abbrev pub each : {X V : Type 0} → (ℕ → X → Result V Rule) → ℕ → List X → Result (List V) Rule
 each step n [] = Ok []
 each step n (piece ∷ pieces) = in_turn (step n piece) (each step (n + 1) pieces)
+
+-- a test for each piece, counted from n
+abbrev pub all_by : {X : Type 0} → (ℕ → X → Result (Unit {0}) Rule) → ℕ → List X → Result (Unit {0}) Rule
+all_by step n [] = Ok tt
+all_by step n (piece ∷ pieces) = step n piece >>= (λ _. all_by step (n + 1) pieces)

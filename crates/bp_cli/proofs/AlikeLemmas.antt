@@ -34,8 +34,10 @@ use Rattle.bp_cli.specs.Init.{init_gives}
 use Rattle.bp_cli.proofs.ImportLemmas.{SomeBatch}
 use Rattle.bp_cli.specs.Runs.{Tells}
 use Rattle.bp_cli.specs.Words.{◌>>=◌}
+use Rattle.bp_cli.specs.Check.{CheckOutcome}
 use Rattle.bp_cli.specs.Burn.{BurnLine, BurnPaths, HasPage, BurnAlike, lacks_a_side, burn_page, burn_read, burn_gives, paths_of, path_refused, FileAnswers, PathAnswers, BurnsAt, BurnComes}
-use Rattle.bp_cli.specs.Commands.{CommandLine, Inputs, burn, init, import, produce, press, log, uses_of, AreKnown, AlikeFor, ComesTo, IsOutcome, RowsAlike, ShowAlike}
+use Rattle.bp_cli.specs.Commands.{CommandLine, Inputs, burn, init, import, produce, press, log, check, uses_of, AreKnown, AlikeFor, ComesTo, IsOutcome, RowsAlike, ShowAlike}
+use Rattle.bp_cli.proofs.CheckLemmas.{check_one, some_check}
 use Rattle.bp_cli.proofs.KeptLemmas.{answers_loaded}
 use Rattle.bp_cli.proofs.ProduceLemmas.{same_frozen, same_logged, same_pressed, some_rows}
 use Rattle.bp_cli.proofs.RunLemmas.{AlikeOutcome}
@@ -107,6 +109,7 @@ one_outcome laws (import name) inputs o o' x y = import_one laws name inputs o o
 one_outcome laws (produce q) inputs o o' x y = rows_one laws.rows (produce_gives q) inputs.rows o o' x y
 one_outcome laws (press id) inputs o o' x y = rows_one laws.rows (press_gives id) inputs.rows o o' x y
 one_outcome laws (log id) inputs o o' x y = rows_one laws.rows (log_gives id) inputs.rows o o' x y
+one_outcome laws (check asked) inputs o o' x y = check_one laws.one asked inputs.files o o' x y
 
 -- ---- and there is one
 
@@ -136,6 +139,7 @@ some_outcome laws (import name) inputs known =
 some_outcome laws (produce q) inputs known = (produce_gives q known.0, rows_known (produce_gives q) inputs.rows known.0 known.1)
 some_outcome laws (press id) inputs known = (press_gives id known.0, rows_known (press_gives id) inputs.rows known.0 known.1)
 some_outcome laws (log id) inputs known = (log_gives id known.0, rows_known (log_gives id) inputs.rows known.0 known.1)
+some_outcome laws (check asked) inputs known = some_check laws.some asked inputs.files
 
 -- ---- two matters
 
@@ -225,6 +229,8 @@ outcome_alike laws (press id) inputs inputs' other both comes =
 outcome_alike laws (log id) inputs inputs' other both comes =
     let there = rows_alike laws.rows (log id) (KeepSame id) (log_gives id) inputs.rows inputs'.rows other both comes (same_logged (log id) id both.one both.two both.holds refl) in
     record { outcome = there.0; comes = there.1.0; same = there.1.1 }
+outcome_alike laws (check asked) inputs inputs' other alike comes =
+    same_comes (check asked) inputs other (λ rows. refl) (subst (λ (files : FileMap). CheckOutcome asked (Some files) other) (sym alike) comes)
 
 -- ---- what is told
 
@@ -244,3 +250,4 @@ told_outcome (import name) before inputs outcome files rows is =
 told_outcome (produce q) before inputs outcome files rows is = subst (λ (o : Option (List Row)). RowsOutcome (produce_gives q) o outcome) rows is
 told_outcome (press id) before inputs outcome files rows is = subst (λ (o : Option (List Row)). RowsOutcome (press_gives id) o outcome) rows is
 told_outcome (log id) before inputs outcome files rows is = subst (λ (o : Option (List Row)). RowsOutcome (log_gives id) o outcome) rows is
+told_outcome (check asked) before inputs outcome files rows is = subst (λ (o : Option FileMap). CheckOutcome asked o outcome) files is

@@ -34,7 +34,6 @@ use Rattle.bp_cli.specs.declared.burn.TheConstants.{FILE_LIMIT}
 use Rattle.bp_keep.specs.Keeper.{KeeperView}
 use Rattle.bp_press.specs.Writing.{AddsPart}
 use Rattle.bp_cli.specs.Endings.{Outcome, done, refused, Ending, World, world, failed_folder, KeeperLeft, Ends, partly, untouched}
-use Rattle.bp_core.specs.declared.rectangle.Rect.{Rect}
 use Rattle.bp_core.specs.declared.rules.RuleKind.{RuleKind}
 use Rattle.bp_core.specs.declared.refusals.Refusal.{Refusal}
 use Rattle.bp_core.specs.declared.refusals.Refusal.TheVariants as refusals
@@ -163,7 +162,7 @@ page_read from before after bytes (Err stops.FolderFault) short there stays it =
 page_read from before after bytes (Err stops.KeeperFault) short there stays it = it
 
 -- a list longer than a number
-longer : (n : ℕ) → (bytes : List ℕ) × (n < length bytes)
+pub longer : (n : ℕ) → (bytes : List ℕ) × (n < length bytes)
 longer n = let zero_byte : ℕ = 0 in (replicate (n + 1) zero_byte, omega (arith, length-replicate (n + 1) zero_byte))
 
 long_path : (found : Option (List ℕ)) → IsSomeAnd found (λ bytes. FILE_LIMIT < length bytes) → PathAnswers found (Err too_long_rule)

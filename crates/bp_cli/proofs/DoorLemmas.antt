@@ -1,5 +1,5 @@
 -- Lemmas of the doors: the ports with one more.
-use Rattle.std.proofs.Common.{ℕ, suc, ◌+◌, ◌≡◌, List, [], ◌∷◌, ◌++◌, map, refl, sym, ap, subst, ◌∙◌, arith}
+use Rattle.std.proofs.Common.{ℕ, suc, ◌+◌, ◌≡◌, List, [], ◌∷◌, ◌++◌, map, refl, ap, subst, ◌∙◌, arith}
 use Rattle.bp_outside.specs.declared.system.tcp_door.TheConstants.{BASE_PORT}
 use Rattle.bp_cli.specs.Doors.{ports_to}
 

@@ -4,7 +4,7 @@ use Rattle.std.specs.Prelude.{codes}
 use Rattle.std.specs.Fmt.{digits}
 use Rattle.std.specs.Str.{chars}
 use Rattle.bp_core.specs.declared.rules.RuleKind.TheVariants as kinds
-use Rattle.bp_core.specs.Rules.{bare_rule, page_limit_rule}
+use Rattle.bp_core.specs.Rules.{bare_rule, check_gap_rule, page_limit_rule}
 use Rattle.bp_outside.specs.Folder.{file}
 use Rattle.bp_rows.specs.declared.resolution.Unit.TheVariants as units
 use Rattle.bp_rows.specs.Image.{Image}
@@ -25,7 +25,8 @@ use Rattle.bp_rules.specs.Importing.{import_of}
 use Rattle.bp_cli.specs.Import.{import_gives}
 use Rattle.bp_cli.specs.Kept.{MatterAnswers}
 use Rattle.bp_cli.specs.Init.{digest_of, init_gives}
-use Rattle.bp_cli.specs.Commands.{burn, init, import, command_of}
+use Rattle.bp_cli.specs.Check.{check_gives}
+use Rattle.bp_cli.specs.Commands.{burn, init, import, check, command_of}
 use Rattle.bp_cli.specs.Endings.{done, refused, status_of, text_of}
 use Rattle.bp_cli.specs.Runs.{all_statuses}
 use Rattle.bp_cli.specs.declared.burn.TheConstants.{FILE_LIMIT}
@@ -35,6 +36,8 @@ use Rattle.bp_cli.specs.declared.serve.TheConstants.{MAX_CONNECTIONS, MAX_DESKS,
 use Rattle.bp_cli.specs.declared.statuses.TheConstants.{DONE, WORDS_REFUSED, RULE_BROKEN, SOURCE_FAULT, FOLDER_FAULT, KEEPER_FAULT, OUT_OF_MEMORY, OUT_FAULT}
 use Rattle.bp_cli.specs.declared.words.TheConstants.{MAX_DIGITS}
 use Rattle.bp_cli.specs.Produce.{width_of}
+use Rattle.bp_cli.specs.Deliver.{deliver_of, delivered_line, file_read, opening_of}
+use Rattle.bp_cli.specs.declared.deliver.TheConstants.{DELIVER_WORDS}
 use Rattle.bp_cli.specs.Serve.{serve_of}
 
 -- ---- words
@@ -185,6 +188,33 @@ batch_differs : import_gives (codes "B0") (Ok with_batch) (Ok (empty_batch 8)) �
 unfolding empty_batch with_batch import_of
 batch_differs = refl
 
+-- ---- check
+
+check_line : command_of (codes "check" ∷ codes "V.DAT" ∷ codes "V.OPT" ∷ []) ≡ Some (check (record { dat = codes "V.DAT"; opt = codes "V.OPT"; manifest = None }))
+unfolding chars
+check_line = refl
+
+check_listed : command_of (codes "check" ∷ codes "V.DAT" ∷ codes "V.OPT" ∷ codes "M" ∷ []) ≡ Some (check (record { dat = codes "V.DAT"; opt = codes "V.OPT"; manifest = Some (codes "M") }))
+unfolding chars
+check_listed = refl
+
+check_one_file : command_of (codes "check" ∷ codes "V.DAT" ∷ []) ≡ None
+check_one_file = refl
+
+check_more : command_of (codes "check" ∷ codes "V.DAT" ∷ codes "V.OPT" ∷ codes "M" ∷ codes "M" ∷ []) ≡ None
+check_more = refl
+
+volume_checked : check_gives (Ok (record { documents = 2; images = 3; files = 7 })) ≡ done (codes "checked documents 2 images 3 files 7\n") [] None
+unfolding digits
+volume_checked = refl
+
+volume_refused : check_gives (Err (check_gap_rule 2 2 3)) ≡ refused (check_gap_rule 2 2 3)
+volume_refused = refl
+
+gap_line : text_of (Err (stops.Broken (check_gap_rule 2 2 3))) ≡ codes "refused 112 CheckGap 2 2 3\n"
+unfolding digits
+gap_line = refl
+
 -- ---- the file, or the first broken rule
 
 -- a page of 8 by 1 pixels at 200 to the inch, all of one colour
@@ -294,11 +324,20 @@ widths = (refl, refl)
 
 -- ---- serve
 
-serve_five : serve_of 16 (codes "serve" ∷ codes "1" ∷ codes "5" ∷ []) ≡ Some 5
+serve_five : serve_of 16 (codes "serve" ∷ codes "1" ∷ codes "5" ∷ [])
+    ≡ Some (record { desks = 1; connections = 5 })
 serve_five = refl
 
-serve_two_desks : serve_of 16 (codes "serve" ∷ codes "2" ∷ codes "5" ∷ []) ≡ None
-serve_two_desks = refl
+serve_all_doors : serve_of 16 (codes "serve" ∷ codes "16" ∷ codes "2" ∷ [])
+    ≡ Some (record { desks = 16; connections = 2 })
+serve_all_doors = refl
+
+-- no more desks than doors, nor than sixteen
+serve_few_doors : serve_of 1 (codes "serve" ∷ codes "2" ∷ codes "5" ∷ []) ≡ None
+serve_few_doors = refl
+
+serve_seventeen : serve_of 20 (codes "serve" ∷ codes "17" ∷ codes "5" ∷ []) ≡ None
+serve_seventeen = refl
 
 serve_at_no_door : serve_of 0 (codes "serve" ∷ codes "1" ∷ codes "5" ∷ []) ≡ None
 serve_at_no_door = refl
@@ -312,8 +351,43 @@ serve_is_no_other_command = refl
 serve_words : SERVE_WORDS ≡ 3
 serve_words = refl
 
-most_desks : MAX_DESKS ≡ 1
+most_desks : MAX_DESKS ≡ 16
 most_desks = refl
 
 most_connections : MAX_CONNECTIONS ≡ 1000000
 most_connections = refl
+
+-- ---- deliver
+
+deliver_five : deliver_of 16 (codes "deliver" ∷ codes "5" ∷ codes "g.csv" ∷ []) ≡ Some (record { connections = 5; grants = codes "g.csv" })
+unfolding chars
+deliver_five = refl
+
+deliver_nobody : deliver_of 16 (codes "deliver" ∷ codes "0" ∷ codes "g.csv" ∷ []) ≡ None
+deliver_nobody = refl
+
+deliver_too_many : deliver_of 16 (codes "deliver" ∷ codes "1000001" ∷ codes "g.csv" ∷ []) ≡ None
+deliver_too_many = refl
+
+deliver_at_no_door : deliver_of 0 (codes "deliver" ∷ codes "5" ∷ codes "g.csv" ∷ []) ≡ None
+deliver_at_no_door = refl
+
+deliver_no_file : deliver_of 16 (codes "deliver" ∷ codes "5" ∷ []) ≡ None
+deliver_no_file = refl
+
+deliver_option : deliver_of 16 (codes "deliver" ∷ codes "5" ∷ codes "-g" ∷ []) ≡ None
+deliver_option = refl
+
+deliver_words : DELIVER_WORDS ≡ 3
+deliver_words = refl
+
+-- a file that isn't there is no file of grants; neither is one with a bad record
+grants_absent : (m : Matter) → opening_of (Ok m) (file_read None) ≡ Err (bare_rule kinds.FileAbsent)
+grants_absent m = refl
+
+rows_first : opening_of (Err (bare_rule kinds.NoMatter)) (file_read None) ≡ Err (bare_rule kinds.NoMatter)
+rows_first = refl
+
+two_delivered : delivered_line 2 ≡ codes "delivered 2\n"
+unfolding digits
+two_delivered = refl

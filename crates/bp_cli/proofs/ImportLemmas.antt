@@ -1,14 +1,13 @@
 -- Lemmas of import: from what loading the tables, reading the batch and the step gave to the outcome
 -- of the command.
-use Rattle.std.proofs.Common.{ℕ, ◌≡◌, Bool, true, false, cond, List, [], ◌∷◌, Option, Some, None, Result, Ok, Err, refl, sym, ap, subst, ◌∙◌}
-use Rattle.std.specs.Prelude.{IfSome, nat_lt}
+use Rattle.std.proofs.Common.{ℕ, ◌≡◌, Bool, true, false, cond, List, [], Option, Some, None, Result, Ok, Err, refl, sym, ap, subst, ◌∙◌}
+use Rattle.std.specs.Prelude.{IfSome, nat_lt, not}
 use Rattle.std.specs.Result.{IsErr, IsErrAnd}
 use Rattle.std.specs.Str.{bytes_eq, chars}
 use Rattle.bp_core.specs.Counts.{risen}
 use Rattle.bp_core.specs.Rules.{bare_rule}
 use Rattle.bp_core.specs.declared.kept.Row.{Row}
 use Rattle.bp_core.specs.declared.rules.Rule.{Rule}
-use Rattle.bp_core.specs.declared.rules.RuleKind.{RuleKind}
 use Rattle.bp_core.specs.declared.rules.RuleKind.TheVariants as kinds
 use Rattle.bp_outside.specs.Source.{FileMap, SourceView}
 use Rattle.bp_outside.specs.Folder.{FolderView}
@@ -22,12 +21,13 @@ use Rattle.bp_matter.specs.Batches.{BatchShown}
 use Rattle.bp_matter.specs.KeptRows.{rows_of}
 use Rattle.bp_matter.specs.Matter.{Matter, Shown}
 use Rattle.bp_matter.specs.Valid.{IsValid}
+use Rattle.bp_matter.specs.ValidPages.{strips_fit}
 use Rattle.bp_rules.specs.Changes.{after, puts_of}
 use Rattle.bp_rules.specs.Importing.{import_of, import_by, batch_with, unless_full}
 use Rattle.bp_matter.specs.declared.limits.TheConstants.{MAX_BATCHES, MAX_DOCUMENTS, MAX_FIELDS, MAX_PAGES, MAX_PIXELS}
-use Rattle.bp_rules.specs.Limits.{limit_passed, full_rule, documents_limit, pages_limit, pixels_limit, fields_limit, batches_limit, documents_after, pages_after, pixels_after, fields_after, batches_after}
-use Rattle.bp_rules.specs.Loading.{IsLoadRule, LoadedFrom, LoadsTables}
-use Rattle.bp_rules.specs.Steps.{Stays, StepsImport, ImportMade}
+use Rattle.bp_rules.specs.Limits.{limit_passed, full_rule, documents_limit, pages_limit, pixels_limit, strip_bytes_limit, fields_limit, batches_limit, documents_after, pages_after, pixels_after, strip_bytes_after, fields_after, batches_after}
+use Rattle.bp_rules.specs.Loading.{LoadsTables}
+use Rattle.bp_rules.specs.Steps.{StepsImport, ImportMade}
 use Rattle.bp_rules.specs.declared.decide_imports.Imported.{Imported}
 use Rattle.bp_rules.specs.declared.refusals.MatterRefusal.{MatterRefusal}
 use Rattle.bp_rules.specs.declared.refusals.MatterRefusal.TheVariants as refusals
@@ -37,7 +37,6 @@ use Rattle.bp_cli.specs.declared.stops.Stop.TheVariants as stops
 use Rattle.bp_cli.specs.Commands.{import, uses_of, IsOutcome, ReadsAndWorks}
 use Rattle.bp_cli.specs.Endings.{Ending, world, done, CallsKeeper, KeeperLeft, RowsRead, Ends, untouched, kept}
 use Rattle.bp_cli.specs.Import.{ImportOutcome, imported_line, step_gives}
-use Rattle.bp_cli.specs.Kept.{MatterAnswers}
 use Rattle.bp_cli.specs.Stops.{StopsForBatch, StopsForMatter}
 use Rattle.bp_cli.proofs.KeptLemmas.{as_loaded, by_stop, calm_by, count_left, keeps_matter, kept_matter, kept_rule, load_calls, load_calm, load_left, quiet_calls, read_itself, read_left, read_same, stays_left, step_calls, told_then}
 
@@ -70,8 +69,11 @@ from_batches m = cond (nat_lt MAX_BATCHES (batches_after m)) (Some (full_rule ba
 abbrev from_fields : Matter → BatchShown → Option Rule
 from_fields m b = cond (nat_lt MAX_FIELDS (fields_after m b)) (Some (full_rule fields_limit (fields_after m b))) (from_batches m)
 
+abbrev from_strips : Matter → BatchShown → Option Rule
+from_strips m b = cond (not (strips_fit (pixels_after m b) (strip_bytes_after m b))) (Some (full_rule strip_bytes_limit (strip_bytes_after m b))) (from_fields m b)
+
 abbrev from_pixels : Matter → BatchShown → Option Rule
-from_pixels m b = cond (nat_lt MAX_PIXELS (pixels_after m b)) (Some (full_rule pixels_limit (pixels_after m b))) (from_fields m b)
+from_pixels m b = cond (nat_lt MAX_PIXELS (pixels_after m b)) (Some (full_rule pixels_limit (pixels_after m b))) (from_strips m b)
 
 abbrev from_pages : Matter → BatchShown → Option Rule
 from_pages m b = cond (nat_lt MAX_PAGES (pages_after m b)) (Some (full_rule pages_limit (pages_after m b))) (from_pixels m b)
@@ -80,9 +82,10 @@ limit_kind : (m : Matter) (b : BatchShown) (rule : Rule) → limit_passed m b �
 limit_kind m b rule is =
     pick (nat_lt MAX_DOCUMENTS (documents_after m b)) (full_rule documents_limit (documents_after m b)) rule (from_pages m b) refl
     (pick (nat_lt MAX_PAGES (pages_after m b)) (full_rule pages_limit (pages_after m b)) rule (from_pixels m b) refl
-    (pick (nat_lt MAX_PIXELS (pixels_after m b)) (full_rule pixels_limit (pixels_after m b)) rule (from_fields m b) refl
+    (pick (nat_lt MAX_PIXELS (pixels_after m b)) (full_rule pixels_limit (pixels_after m b)) rule (from_strips m b) refl
+    (pick (not (strips_fit (pixels_after m b) (strip_bytes_after m b))) (full_rule strip_bytes_limit (strip_bytes_after m b)) rule (from_fields m b) refl
     (pick (nat_lt MAX_FIELDS (fields_after m b)) (full_rule fields_limit (fields_after m b)) rule (from_batches m) refl
-    (pick (nat_lt MAX_BATCHES (batches_after m)) (full_rule batches_limit (batches_after m)) rule None refl (no_limit rule))))) is
+    (pick (nat_lt MAX_BATCHES (batches_after m)) (full_rule batches_limit (batches_after m)) rule None refl (no_limit rule)))))) is
 
 full_calm : (source : SourceView) (m : Matter) (b : BatchShown) (o : Option Rule) (rule : Rule) → limit_passed m b ≡ o → unless_full m b o ≡ Err rule → source ≡ after_kind source rule.kind
 full_calm source m b None rule passed is = cc

@@ -1,6 +1,6 @@
 -- Lemmas of labels: the first and the last number of a production that a valid matter keeps have
 -- labels under its prefix.
-use Rattle.std.proofs.Common.{ℕ, ◌≡◌, ◌≤◌, Bool, true, ◌&&◌, eqb, nat_le, List, [], ◌∷◌, length, not, Option, Some, None, refl, sym, ap, subst, ◌∙◌, arith, Bor}
+use Rattle.std.proofs.Common.{ℕ, ◌≡◌, Bool, true, nat_le, List, [], ◌∷◌, length, not, Option, Some, None, refl, sym, ap, subst, ◌∙◌, Bor}
 use Rattle.std.specs.Prelude.{◌==◌}
 use Rattle.std.specs.List.{find, list_all}
 use Rattle.std.specs.Option.{option_copied}

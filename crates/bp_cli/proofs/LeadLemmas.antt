@@ -1,16 +1,14 @@
 -- Lemmas of the lead's freeze: the step of Freeze for the key of staff 1 answers as the freeze does,
 -- and what it leaves is what the command `produce` goes on with.
-use Rattle.std.proofs.Common.{ℕ, ◌≡◌, Bool, true, List, [], ◌∷◌, not, Option, Some, None, Result, Ok, Err, refl, sym, ap, subst, ◌∙◌}
-use Rattle.std.specs.Prelude.{IsTrue}
+use Rattle.std.proofs.Common.{ℕ, ◌≡◌, true, List, [], ◌∷◌, Option, Some, Result, Ok, Err, refl, sym, ap, subst, ◌∙◌}
 use Rattle.std.specs.List.{find}
 use Rattle.std.specs.Str.{bytes_eq}
-use Rattle.bp_core.specs.Counts.{risen}
 use Rattle.bp_core.specs.declared.review.Role.{Role}
 use Rattle.bp_core.specs.declared.review.Role.TheVariants.{Lead}
 use Rattle.bp_core.specs.declared.rules.Rule.{Rule}
 use Rattle.bp_keep.specs.Keeper.{KeeperView}
 use Rattle.bp_keep.specs.Puts.{put_all}
-use Rattle.bp_matter.specs.LookUps.{lead_digest_in, staff_with}
+use Rattle.bp_matter.specs.LookUps.{lead_digest_in}
 use Rattle.bp_matter.specs.Matter.{Matter}
 use Rattle.bp_matter.specs.Valid.{IsValid}
 use Rattle.bp_matter.specs.ValidStaff.{begins_with_lead, is_lead}
@@ -26,11 +24,10 @@ use Rattle.bp_freeze.proofs.PutRowLemmas.{text-same}
 use Rattle.bp_rules.specs.Changes.{after, puts_of}
 use Rattle.bp_rules.specs.Roles.{is_clerk}
 use Rattle.bp_rules.specs.Stepping.{Stepped, freeze, step_for, step_of}
-use Rattle.bp_rules.specs.Steps.{CallMade, Stays, StepsCall}
+use Rattle.bp_rules.specs.Steps.{CallMade, StepsCall}
 use Rattle.bp_rules.specs.declared.refusals.MatterRefusal.{MatterRefusal}
 use Rattle.bp_rules.specs.declared.refusals.MatterRefusal.TheVariants as refusals
 use Rattle.bp_cli.specs.declared.stops.Stop.{Stop}
-use Rattle.bp_cli.specs.declared.stops.Stop.TheVariants as stops
 use Rattle.bp_cli.specs.Producing.{Freezes, Froze, IsProduced}
 use Rattle.bp_cli.specs.Stops.{StopsForMatter}
 use Rattle.bp_cli.proofs.KeptLemmas.{told_then}

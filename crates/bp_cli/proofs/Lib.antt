@@ -2,6 +2,9 @@ mod ArgumentLemmas
 mod AlikeLemmas
 mod BurnLemmas
 mod CalmLemmas
+mod CheckLemmas
+mod DeliverLemmas
+mod DeliverRunLemmas
 mod DoorLemmas
 mod Examples
 mod ImportLemmas

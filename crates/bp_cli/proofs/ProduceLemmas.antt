@@ -1,7 +1,6 @@
 -- Lemmas of produce, press and log: that two matters which differ only in what is withheld give
 -- outcomes that show the same.
 use Rattle.std.proofs.Common.{ℕ, ◌≡◌, true, List, [], ◌∷◌, ◌++◌, map, Option, Some, None, Result, Ok, Err, refl, sym, ap, subst, inl, inr, cond, Bool, false, ◌∙◌}
-use Rattle.std.specs.Prelude.{IsTrue}
 use Rattle.bp_core.specs.declared.kept.Row.{Row}
 use Rattle.bp_core.specs.Rules.{bare_rule}
 use Rattle.bp_core.specs.declared.rules.Rule.{Rule}
@@ -15,7 +14,7 @@ use Rattle.bp_matter.specs.declared.rows.Production.{Production}
 use Rattle.bp_matter.specs.declared.rows.Request.{Request}
 use Rattle.bp_matter.specs.declared.rows.StaffRow.{StaffRow}
 use Rattle.bp_freeze.specs.Agree.{Agree}
-use Rattle.bp_freeze.specs.Alike.{Alike, DecidedAlike}
+use Rattle.bp_freeze.specs.Alike.{Alike}
 use Rattle.bp_freeze.specs.Freezing.{freeze_of, frozen_by, kept_production, same_request}
 use Rattle.bp_freeze.specs.Keeping.{after_freeze, frozen_matter, with_production}
 use Rattle.bp_freeze.specs.Log.{log_of}
@@ -28,7 +27,7 @@ use Rattle.bp_press.specs.Pressed.{pressed_of}
 use Rattle.bp_press.specs.Volume.{volume_of}
 use Rattle.bp_press.proofs.SameLemmas.{volume-same}
 use Rattle.bp_cli.specs.Commands.{CommandLine, RowsAlike, ShowAlike, produce}
-use Rattle.bp_cli.specs.Endings.{Outcome, done, refused}
+use Rattle.bp_cli.specs.Endings.{done}
 use Rattle.bp_cli.specs.Kept.{OfTwo}
 use Rattle.bp_cli.specs.Press.{KeepSame, ShowSame, kept_gives, log_gives, press_gives}
 use Rattle.bp_cli.specs.Produce.{FrozenAlike, KeptSame, frozen_gives, produce_gives, volume_done, volume_line}

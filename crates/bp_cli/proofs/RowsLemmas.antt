@@ -9,7 +9,6 @@ use Rattle.bp_core.specs.declared.rules.Rule.{Rule}
 use Rattle.bp_outside.specs.Source.{SourceView}
 use Rattle.bp_outside.specs.Folder.{FolderView}
 use Rattle.bp_outside.specs.declared.files.FileRow.{FileRow}
-use Rattle.bp_import.specs.Importing.{after_kind}
 use Rattle.bp_keep.specs.Keeper.{KeeperView}
 use Rattle.bp_matter.specs.KeptRows.{rows_of}
 use Rattle.bp_matter.specs.Matter.{Matter, Shown}
@@ -19,7 +18,6 @@ use Rattle.bp_matter.specs.declared.rows.Request.{Request}
 use Rattle.bp_freeze.specs.Keeping.{frozen_matter}
 use Rattle.bp_press.specs.Pressed.{pressed_of}
 use Rattle.bp_press.specs.Volume.{volume_of}
-use Rattle.bp_press.specs.Writing.{AddsPart, with_files}
 use Rattle.bp_rules.specs.Loading.{LoadsTables}
 use Rattle.bp_rules.specs.declared.refusals.MatterRefusal.{MatterRefusal}
 use Rattle.bp_rules.specs.declared.refusals.MatterRefusal.TheVariants as refusals
@@ -35,7 +33,7 @@ use Rattle.bp_cli.proofs.CalmLemmas.{IsCalm, freeze_calm}
 use Rattle.bp_cli.proofs.KeptLemmas.{as_loaded, by_stop, count_left, keeps_matter, kept_matter, kept_rule, load_calls, load_calm, load_left, quiet_calls, read_itself, read_left, read_same, stays_left, step_calls}
 
 abbrev pub rows_used : Bool → Uses
-rows_used commits = record { files = false; rows = true; commits = commits }
+rows_used commits = record { files = false; rows = true; commits = commits; ahead = false }
 
 -- a command whose outcome is this one of the matter, and the source that it doesn't use, where the
 -- rows from before are those that were loaded

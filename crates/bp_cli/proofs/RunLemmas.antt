@@ -15,7 +15,7 @@ use Rattle.bp_press.specs.Writing.{AddsPart, with_files}
 use Rattle.bp_cli.specs.Endings.{Outcome, Ending, World, LacksMemory, untouched, kept, partly, wholly, with_rows, status_of, text_of, refused_line, failed_folder}
 use Rattle.bp_cli.specs.Commands.{CommandLine, Inputs, uses_of, IsOutcome, ComesTo, AreKnown, AlikeFor, ShowAlike, Works, ReadsAndWorks, uses_by}
 use Rattle.bp_cli.specs.Printing.{Prints, whole, cut, lacking, instead}
-use Rattle.bp_cli.specs.Runs.{Outside, Tells, Asks, Completes, SourceFailed, FolderFailed, KeeperFailed, InputsServed, NoneFailed, AreSure, Ended, RanShort, WasCut, Gives, GivesAlike, IsAmong, outcome_status, outcome_files, AddsFirst, nothing_added, part_added, all_added, GivesFirst, Promises, Runs}
+use Rattle.bp_cli.specs.Runs.{Outside, Tells, Asks, Completes, SourceFailed, FolderFailed, KeeperFailed, InputsServed, NoneFailed, AreSure, Ended, RanShort, WasCut, Gives, IsAmong, outcome_status, outcome_files, nothing_added, part_added, all_added, GivesFirst, Promises, Runs}
 use Rattle.bp_cli.proofs.StatusLemmas.{rose_at, whole_of, out_rose, out_sure, among_three, among_two, status_known, is_done, is_words_refused, is_broken, is_source_fault, is_folder_fault, is_keeper_fault, lacking_part, cut_part}
 
 -- ---- what an ending says
@@ -187,7 +187,7 @@ module _ (one : OneOutcome) (told : ToldOutcome) (c : CommandLine) (before after
   given : (line : List ℕ) (had : List FileRow) (stands : Option (List Row)) → IsOutcome c before (outcomes.done line had stands) → GivesFirst had before.folder after.folder → GivesFirst (outcome_files outcome) before.folder after.folder
   given line had stands is gives = subst (λ (fs : List FileRow). GivesFirst fs before.folder after.folder) (its_files line had stands is) gives
 
-  lacking_given : LacksMemory (IsOutcome c before) before after → GivesFirst (outcome_files outcome) before.folder after.folder
+  lacking_given : LacksMemory (uses_of c) (IsOutcome c before) before after → GivesFirst (outcome_files outcome) before.folder after.folder
   lacking_given (untouched source keeper folder) = none_given (outcome_files outcome) before.folder after.folder folder
   lacking_given (kept line had left is source keeper folder) = none_given (outcome_files outcome) before.folder after.folder folder
   lacking_given (partly line had left is source keeper folder) = given line had left is (record { folder = before.folder; failed = inl refl; adds = part_added folder })

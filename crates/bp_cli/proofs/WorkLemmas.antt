@@ -1,5 +1,5 @@
 -- Lemmas of the work of a run that ends before a command begins: nothing was read or asked.
-use Rattle.std.proofs.Common.{ℕ, ◌≡◌, Option, Some, None, Err, refl, sym, subst, inl, inr}
+use Rattle.std.proofs.Common.{ℕ, ◌≡◌, Bool, true, false, Option, Some, None, Err, refl, sym, subst, inl, inr}
 use Rattle.std.specs.Result.{IsErr, IsErrAnd}
 use Rattle.bp_outside.specs.Source.{SourceView}
 use Rattle.bp_outside.specs.Folder.{FolderView}
@@ -7,8 +7,8 @@ use Rattle.bp_keep.specs.Keeper.{KeeperView}
 use Rattle.bp_cli.specs.declared.stops.Stop.{Stop}
 use Rattle.bp_cli.specs.declared.stops.Stop.TheVariants as stops
 use Rattle.bp_rules.specs.Steps.{never}
-use Rattle.bp_cli.specs.Commands.{CommandLine, burn, init, import, produce, press, log, ReadsAndWorks, ReadsAsOften, Works, uses_by}
-use Rattle.bp_cli.specs.Endings.{CallsKeeper, Ending, Uses, untouched, world}
+use Rattle.bp_cli.specs.Commands.{CommandLine, burn, init, import, produce, press, log, check, ReadsAndWorks, ReadsAsOften, Works, uses_by, uses_of}
+use Rattle.bp_cli.specs.Endings.{CallsKeeper, Ending, SourceLeft, Uses, none_ahead, untouched, world}
 use Rattle.bp_cli.proofs.BurnLemmas.{unused}
 use Rattle.bp_cli.proofs.KeptLemmas.{by_stop, never_rose, rows_itself, told_itself}
 
@@ -24,9 +24,14 @@ nothing_read command s k f e works = record {
   calls = uncalled (uses_by command) k;
 }
 
+-- a source that wasn't read is left as it was
+pub left_itself : (ahead : Bool) (source : SourceView) → SourceLeft ahead source source
+left_itself false source = refl
+left_itself true source = none_ahead refl
+
 lacked_works : (command : Option CommandLine) (s : SourceView) (k : KeeperView) (f : FolderView) → Works command (world s k f) (Err stops.OutOfMemory) (world s k f)
 lacked_works None s k f = record { stop = inr refl; same = refl }
-lacked_works (Some c) s k f = untouched refl (unused k) refl
+lacked_works (Some c) s k f = untouched (left_itself (uses_of c).ahead s) (unused k) refl
 
 -- memory to read the words lacked
 pub words_lacked : (command : Option CommandLine) (s : SourceView) (k : KeeperView) (f : FolderView) (e : Ending) → IsErr e → IsErrAnd e (λ x. x ≡ stops.OutOfMemory) → ReadsAndWorks command (world s k f) e (world s k f)
@@ -53,3 +58,4 @@ never_read (Some (import name)) n = tt
 never_read (Some (produce q)) n = refl
 never_read (Some (press id)) n = refl
 never_read (Some (log id)) n = refl
+never_read (Some (check asked)) n = tt

@@ -8,6 +8,7 @@ use Rattle.std.specs.Str.{bytes_eq, chars}
 use Rattle.bp_core.specs.declared.kept.Row.{Row}
 use Rattle.bp_core.specs.declared.rules.Rule.{Rule}
 use Rattle.bp_outside.specs.Source.{FileMap}
+use Rattle.bp_check.specs.Check.{Operands}
 use Rattle.bp_matter.specs.Matter.{Matter}
 use Rattle.bp_matter.specs.declared.rows.Request.{Request}
 use Rattle.bp_rules.specs.Steps.{AtMostOnce}
@@ -18,6 +19,7 @@ use Rattle.bp_cli.specs.Words.{is_bad_word}
 use Rattle.bp_cli.specs.Endings.{Outcome, Ending, World, Uses, CallsKeeper, RowsRead, with_rows, Ends}
 use Rattle.bp_cli.specs.Endings.{done, refused}
 use Rattle.bp_cli.specs.Burn.{BurnLine, burn_seen, burn_of, BurnComes, BurnOutcome, BurnAlike}
+use Rattle.bp_cli.specs.Check.{CheckOutcome, check_named, check_seen}
 use Rattle.bp_cli.specs.Import.{batch_named, ImportOutcome}
 use Rattle.bp_cli.specs.Init.{init_of, init_gives, InitOutcome}
 use Rattle.bp_cli.specs.Kept.{MatterAnswers, OfTwo, RowsOutcome}
@@ -32,6 +34,7 @@ pub data CommandLine : Type 0 where
   produce : Request → CommandLine
   press : List ℕ → CommandLine
   log : List ℕ → CommandLine
+  check : Operands → CommandLine
 
 -- a command as contracts see it
 abbrev pub command_seen : Command → CommandLine
@@ -41,6 +44,7 @@ command_seen (commands.Import name) = import name.now
 command_seen (commands.Produce request) = produce request
 command_seen (commands.Press id) = press (chars id.now)
 command_seen (commands.Log id) = log (chars id.now)
+command_seen (commands.Check asked) = check (check_seen asked)
 
 -- by the first word
 -- the command of words: its name, then its operands
@@ -53,28 +57,30 @@ named_command (name ∷ operands) =
     else (if bytes_eq name (codes "produce") then option_map produce (request_of operands)
     else (if bytes_eq name (codes "press") then option_map press (id_named operands)
     else (if bytes_eq name (codes "log") then option_map log (id_named operands)
-    else None)))))
+    else (if bytes_eq name (codes "check") then option_map check (check_named operands)
+    else None))))))
 
 -- the command that the words are a line of, if they are one
 abbrev pub command_of : List (List ℕ) → Option CommandLine
 command_of words = if list_any is_bad_word words then None else named_command words
 
--- which inputs a command uses, and whether it may commit rows
+-- which inputs a command uses, whether it may commit rows, and whether it may read ahead
 abbrev pub uses_of : CommandLine → Uses
-uses_of (burn b) = record { files = true; rows = false; commits = false }
-uses_of (init digest) = record { files = false; rows = true; commits = true }
-uses_of (import name) = record { files = true; rows = true; commits = true }
-uses_of (produce q) = record { files = false; rows = true; commits = true }
-uses_of (press id) = record { files = false; rows = true; commits = false }
-uses_of (log id) = record { files = false; rows = true; commits = false }
+uses_of (burn b) = record { files = true; rows = false; commits = false; ahead = false }
+uses_of (init digest) = record { files = false; rows = true; commits = true; ahead = false }
+uses_of (import name) = record { files = true; rows = true; commits = true; ahead = false }
+uses_of (produce q) = record { files = false; rows = true; commits = true; ahead = false }
+uses_of (press id) = record { files = false; rows = true; commits = false; ahead = false }
+uses_of (log id) = record { files = false; rows = true; commits = false; ahead = false }
+uses_of (check asked) = record { files = true; rows = false; commits = false; ahead = true }
 
 -- what the command uses, if the words are one
 abbrev pub uses_by : Option CommandLine → Uses
-uses_by None = record { files = false; rows = false; commits = false }
+uses_by None = record { files = false; rows = false; commits = false; ahead = false }
 uses_by (Some c) = uses_of c
 
--- a command reads from the source once at most, `import` as often as its batch has files, and those
--- that use no files never
+-- a command reads from the source once at most, `import` and `check` as often as files are named,
+-- and those that use no files never
 abbrev pub ReadsAsOften : Option CommandLine → ℕ → ℕ → Type 0
 ReadsAsOften None before now = now ≡ before
 ReadsAsOften (Some (burn b)) before now = AtMostOnce before now
@@ -83,6 +89,7 @@ ReadsAsOften (Some (import name)) before now = Unit {0}
 ReadsAsOften (Some (produce q)) before now = now ≡ before
 ReadsAsOften (Some (press id)) before now = now ≡ before
 ReadsAsOften (Some (log id)) before now = now ≡ before
+ReadsAsOften (Some (check asked)) before now = Unit {0}
 
 -- all that the outcome of a command may depend on: the files of the source, the rows of the keeper
 pub record Inputs : Type 0 where
@@ -98,6 +105,7 @@ ComesTo (import name) inputs outcome =
 ComesTo (produce q) inputs outcome = RowsOutcome (produce_gives q) (Some inputs.rows) outcome
 ComesTo (press id) inputs outcome = RowsOutcome (press_gives id) (Some inputs.rows) outcome
 ComesTo (log id) inputs outcome = RowsOutcome (log_gives id) (Some inputs.rows) outcome
+ComesTo (check asked) inputs outcome = CheckOutcome asked (Some inputs.files) outcome
 
 -- the outcome over the inputs that the outside tells, or over some that it doesn't tell
 abbrev pub IsOutcome : CommandLine → World → Outcome → Type 0
@@ -108,6 +116,7 @@ IsOutcome (import name) world outcome =
 IsOutcome (produce q) world outcome = RowsOutcome (produce_gives q) world.keeper.rows outcome
 IsOutcome (press id) world outcome = RowsOutcome (press_gives id) world.keeper.rows outcome
 IsOutcome (log id) world outcome = RowsOutcome (log_gives id) world.keeper.rows outcome
+IsOutcome (check asked) world outcome = CheckOutcome asked world.source.files outcome
 
 -- the rows come to a matter, or to a rule: they are those of a valid matter, or there is none that
 -- has them
@@ -122,10 +131,11 @@ AreKnown (import name) inputs = RowsKnown inputs
 AreKnown (produce q) inputs = RowsKnown inputs
 AreKnown (press id) inputs = RowsKnown inputs
 AreKnown (log id) inputs = RowsKnown inputs
+AreKnown (check asked) inputs = Unit {0}
 
--- what the command doesn't withhold is the same in both; `init` and `import` withhold nothing.
--- `produce` withholds what the decisions hold back that it freezes, and `press` what those held
--- back that it froze; a log is of these decisions alone
+-- what the command doesn't withhold is the same in both; `init`, `import` and `check` withhold
+-- nothing. `produce` withholds what the decisions hold back that it freezes, and `press` what those
+-- held back that it froze; a log is of these decisions alone
 abbrev pub AlikeFor : CommandLine → Inputs → Inputs → Type 0
 AlikeFor (burn b) inputs inputs' = BurnAlike b inputs.files inputs'.files
 AlikeFor (init digest) inputs inputs' = inputs.rows ≡ inputs'.rows
@@ -134,6 +144,7 @@ AlikeFor (import name) inputs inputs' =
 AlikeFor (produce q) inputs inputs' = OfTwo (FrozenAlike q) inputs.rows inputs'.rows
 AlikeFor (press id) inputs inputs' = OfTwo (ShowSame id) inputs.rows inputs'.rows
 AlikeFor (log id) inputs inputs' = OfTwo (KeepSame id) inputs.rows inputs'.rows
+AlikeFor (check asked) inputs inputs' = inputs.files ≡ inputs'.files
 
 -- the rows that are kept are the same in both, but for `produce`: then they are those of two valid
 -- matters, which keep the same production under the id and show the same of it

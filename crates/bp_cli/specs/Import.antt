@@ -1,6 +1,6 @@
 -- The command `import`: its line, and what it comes to.
 use Rattle.std.specs.Prelude.{ℕ, ◌≡◌, ◌==◌, Option, Some, None, Result, Ok, Err, List}
-use Rattle.std.specs.Prelude.{[], ◌∷◌, ◌++◌, length, codes, if◌then◌else◌, IfSome}
+use Rattle.std.specs.Prelude.{[], ◌++◌, length, codes, if◌then◌else◌, IfSome}
 use Rattle.std.specs.Fmt.{decimal}
 use Rattle.std.specs.Str.{chars}
 use Rattle.bp_core.specs.declared.kept.Row.{Row}

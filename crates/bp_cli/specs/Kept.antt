@@ -1,6 +1,6 @@
 -- The matter that kept rows are of: what commands come to that read rows and no files, and which
 -- rows are of two matters.
-use Rattle.std.specs.Prelude.{◌≡◌, Option, Some, None, Result, Ok, Err, List, [], ◌∷◌}
+use Rattle.std.specs.Prelude.{◌≡◌, Option, Result, Ok, Err, List, [], ◌∷◌}
 use Rattle.std.specs.Prelude.{IfSome}
 use Rattle.bp_core.specs.declared.kept.Row.{Row}
 use Rattle.bp_core.specs.declared.refusals.Refusal.TheVariants as refusals

@@ -1,7 +1,10 @@
 pub mod Arguments
 pub mod Burn
 pub mod Burning
+pub mod Check
 pub mod Commands
+pub mod Deliver
+pub mod Delivering
 pub mod Doors
 pub mod Endings
 pub mod Import

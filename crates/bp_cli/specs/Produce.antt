@@ -1,6 +1,6 @@
 -- The command `produce`: its line, what it comes to, and what it withholds.
 use Rattle.std.specs.Prelude.{ℕ, ◌≡◌, ◌⊎◌, ◌++◌, Option, Some, None, Result, Ok}
-use Rattle.std.specs.Prelude.{Err, List, [], drop, length, map, nat_le, codes, encode_utf8_all}
+use Rattle.std.specs.Prelude.{Err, List, drop, length, map, nat_le, codes, encode_utf8_all}
 use Rattle.std.specs.Prelude.{if◌then◌else◌}
 use Rattle.std.specs.Fmt.{decimal}
 use Rattle.std.specs.Str.{chars}

@@ -1,6 +1,5 @@
 -- What the steps of `produce` and `press` leave, one behind the other.
 use Rattle.std.specs.Prelude.{◌≡◌, ◌≤◌, ◌⊎◌, ℕ, is_some, IfSome, IsTrue, List, Result, Ok, Err}
-use Rattle.std.specs.Result.{IsOk}
 use Rattle.bp_core.specs.Counts.{risen}
 use Rattle.bp_bates.specs.Prefixes.{is_good_prefix}
 use Rattle.bp_bates.specs.Spans.{largest_of}

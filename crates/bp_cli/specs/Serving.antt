@@ -1,35 +1,31 @@
 -- What the steps of serve leave, one behind the other.
-use Rattle.std.specs.Prelude.{ℕ, ◌≡◌, ◌≢◌, Option, Some, None, Ok, Err, List, ◌∷◌}
+use Rattle.std.specs.Prelude.{ℕ, ◌≡◌, ◌≢◌, Option, Some, None, Ok, Err, List}
 use Rattle.bp_core.specs.declared.kept.Row.{Row}
-use Rattle.bp_desk.specs.History.{HistoryView}
-use Rattle.bp_desk.specs.Serving.{ServesDoor}
 use Rattle.bp_desk.specs.declared.history.Made.{Made}
-use Rattle.bp_desk.specs.declared.history.TheConstants.{DOOR_SEAT}
 use Rattle.bp_keep.specs.Keeper.{KeeperView}
 use Rattle.bp_outside.specs.Door.{DoorView}
+use Rattle.bp_outside.specs.Out.{OutView}
 use Rattle.bp_rules.specs.Steps.{AtMostOnce}
+use Rattle.bp_cli.specs.declared.serve.ServeLine.{ServeLine}
 use Rattle.bp_cli.specs.declared.statuses.TheConstants.{OUT_OF_MEMORY}
 use Rattle.bp_cli.specs.declared.stops.Stop.TheVariants as stops
 use Rattle.bp_cli.specs.Endings.{Ending, RowsRead}
-use Rattle.bp_cli.specs.Serve.{Hall, ServeEnds, served_line, with_read}
+use Rattle.bp_cli.specs.Serve.{Hall, ServeEnds, hall, served_line, with_read}
 
 -- what the work of serve leaves, over the rows of the keeper as it reads them
-pub record ServesWith {D : Type 0} (shows : D → DoorView) (connections : ℕ) (before : Hall D)
+pub record ServesWith {D : Type 0} (shows : D → DoorView) (asked : ServeLine) (before : Hall D)
     (ending : Ending) (history : Option (List Made)) (after : Hall D) : Type 0 where
   pub read : Option (List Row)
   pub rows : RowsRead before.keeper.rows read after.keeper.rows
-  pub ends : ServeEnds shows connections (with_read read before) ending history after
+  pub ends : ServeEnds shows asked (with_read read before) ending history after
   pub loads : AtMostOnce before.keeper.loads after.keeper.loads
 
--- the first door was served, and the others weren't touched
-pub record ServesAtFirst {D : Type 0} (shows : D → DoorView) (connections : ℕ)
-    (before : HistoryView) (given : List D) (after : HistoryView) (handed : List D) : Type 0 where
-  pub first : D
-  pub served : D
-  pub others : List D
-  pub were : given ≡ first ∷ others
-  pub are : handed ≡ served ∷ others
-  pub door : ServesDoor DOOR_SEAT connections before (shows first) after (shows served)
+-- the same whatever is known of the out, which this work doesn't touch
+abbrev pub ServesAnyhow : {D : Type 0} → (D → DoorView) → ServeLine → KeeperView → List D → Ending
+    → Option (List Made) → KeeperView → List D → Type 0
+ServesAnyhow shows asked given doors ending history left handed =
+    (out out' : OutView)
+    → ServesWith shows asked (hall given doors out) ending history (hall left handed out')
 
 -- the history that is handed on is the one that was made, but where memory ran out
 pub record HandsOn (status : ℕ) (made handed : Option (List Made)) : Type 0 where

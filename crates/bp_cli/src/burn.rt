@@ -126,7 +126,8 @@ fn burn_paths(alloc: Global, asked: &Burn<'_>) -> Result<BurnPaths, Stop>
     Ok(BurnPaths { from, to })
 }
 
-fn path_named(alloc: Global, word: &str) -> Result<Text, Stop>
+/// The path that a word names.
+pub fn path_named(alloc: Global, word: &str) -> Result<Text, Stop>
     ensures { NamesPath (path_in (chars word.now)) result }
 {
     match path_of(alloc, word) {
@@ -146,7 +147,8 @@ fn page_at<S: Source>(alloc: Global, from: &Text, source: &mut S) -> Result<Page
     }
 }
 
-fn stop_of_read(refusal: ReadRefusal) -> Stop
+/// Why a read that was refused ends the command.
+pub fn stop_of_read(refusal: ReadRefusal) -> Stop
     ensures { result ≡ read_stop refusal }
 {
     match refusal {

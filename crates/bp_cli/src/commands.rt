@@ -7,6 +7,7 @@ ghost use Rattle.bp_cli.specs.Commands.{command_seen, command_of, named_command,
 ghost use Rattle.bp_cli.specs.Produce.{request_of};
 
 use crate::burn::{Burn, burn_in};
+use crate::check::{Check, check_in};
 use crate::import::batch_in;
 use crate::init::init_in;
 use crate::operands::operands_of;
@@ -31,6 +32,7 @@ pub enum Command<'a> {
     Press(&'a str),
     /// Print the privilege log of the production of this id.
     Log(&'a str),
+    Check(Check<'a>),
 }
 
 /// The command that the words are a line of, if they are one. The words don't have the program's
@@ -97,6 +99,9 @@ fn command_lent<'a>(name: &str, operands: &[&'a str]) -> Option<Command<'a>>
     }
     if name == "log" {
         return Some(Command::Log(id_in(operands)?));
+    }
+    if name == "check" {
+        return Some(Command::Check(check_in(operands)?));
     }
     None
 }

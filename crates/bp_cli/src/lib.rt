@@ -6,7 +6,9 @@
 
 mod arguments;
 mod burn;
+mod check;
 mod commands;
+mod deliver;
 pub mod doors;
 mod import;
 mod init;

@@ -12,6 +12,7 @@ use sqlite::{Alter, Connection, Error, ErrorCode};
 use std::alloc::Global;
 use std::env::Args;
 use std::rt::Files;
+use std::sync::Wait;
 use std::thread::Threads;
 use std::{fs, io};
 
@@ -49,7 +50,12 @@ pub fn hold_descriptors<S: Files>(system: &S) -> Descriptors<S::File> {
 /// `out`, and prints to the standard output. Where no database could be opened, or no doors could
 /// be made, the program says so before it looks at the words, and ends with 6 for want of memory,
 /// else 5.
-pub fn program<S: Files + Print, T: Threads + Sync, A: Alter + Drop, D: Door + Send + Drop>(
+pub fn program<
+    S: Files + Print,
+    T: Threads + Wait + Sync,
+    A: Alter + Send + Drop,
+    D: Door + Send + Drop,
+>(
     system: &S,
     threads: &T,
     alloc: Global,
@@ -68,7 +74,12 @@ pub fn program<S: Files + Print, T: Threads + Sync, A: Alter + Drop, D: Door + S
     }
 }
 
-fn with_doors<S: Files + Print, T: Threads + Sync, A: Alter + Drop, D: Door + Send + Drop>(
+fn with_doors<
+    S: Files + Print,
+    T: Threads + Wait + Sync,
+    A: Alter + Send + Drop,
+    D: Door + Send + Drop,
+>(
     system: &S,
     threads: &T,
     alloc: Global,
@@ -87,7 +98,12 @@ fn with_doors<S: Files + Print, T: Threads + Sync, A: Alter + Drop, D: Door + Se
     }
 }
 
-fn over_database<S: Files + Print, T: Threads + Sync, A: Alter + Drop, D: Door + Send + Drop>(
+fn over_database<
+    S: Files + Print,
+    T: Threads + Wait + Sync,
+    A: Alter + Send + Drop,
+    D: Door + Send + Drop,
+>(
     system: &S,
     threads: &T,
     alloc: Global,

@@ -1,23 +1,29 @@
 // The top call.
-ghost use Rattle.std.specs.Prelude.{◌≡◌, ◌<◌, IsSomeAnd, length};
+ghost use Rattle.std.specs.Prelude.{◌≡◌, ◌<◌, IsSomeAnd, List, length};
 ghost use Rattle.bp_cli.specs.Words.{word_bytes};
 ghost use Rattle.bp_cli.specs.Commands.{command_of, ReadsAndWorks, ReadsAsOften};
+ghost use Rattle.bp_cli.specs.Deliver.{deliver_of, deliver_seen};
 ghost use Rattle.bp_cli.specs.Endings.{world};
 ghost use Rattle.bp_cli.specs.Runs.{Runs, outside};
 ghost use Rattle.bp_cli.specs.Arguments.{RunsArguments};
-ghost use Rattle.bp_cli.specs.Running.{RunsWords, moment};
-ghost use Rattle.bp_cli.specs.Serve.{ServesOver, hall};
-ghost use Rattle.bp_cli.specs.Serving.{HandsOn};
+ghost use Rattle.bp_cli.specs.Running.{DeliversAt, ReadsFor, RunsOther, RunsWords, desk_side, moment};
+ghost use Rattle.bp_cli.specs.Serve.{HasDoors, ServesOver, hall};
+ghost use Rattle.bp_cli.specs.Serving.{HandsOn, ServesAnyhow};
+ghost use Rattle.bp_cli.specs.declared.serve.ServeLine.{ServeLine};
+ghost use Rattle.bp_keep.specs.Keeper.{KeeperView};
+ghost use Rattle.bp_rules.specs.Steps.{AtMostOnce};
 
 use crate::arguments::words_of;
 use crate::burn::burn_box;
+use crate::check::check_files;
 use crate::commands::{Command, command_in};
+use crate::deliver::{DeliverLine, deliver, deliver_in};
 use crate::import::import_batch;
 use crate::init::make_matter;
 use crate::press::{log_kept, press_kept};
 use crate::printing::finish;
 use crate::produce::produce_volume;
-use crate::serve::{serve, serve_in};
+use crate::serve::{ServeLine, Service, serve, serve_in};
 use crate::statuses::OUT_OF_MEMORY;
 use crate::stops::Stop;
 use bp_core::Bytes;
@@ -30,6 +36,7 @@ use bp_tiff::one_answer;
 use std::alloc::Global;
 use std::env::Args;
 use std::io;
+use std::sync::Wait;
 use std::thread::Threads;
 
 /// How a run ended: its status, the keeper and the doors that it was handed, and what desks did.
@@ -44,9 +51,9 @@ pub struct Ended<K, D> {
 /// Carries out the command line that the system gave, the program's name before its words: see
 /// `run`.
 pub fn run_arguments<
-    R: Threads + Sync,
+    R: Threads + Wait + Sync,
     S: Source,
-    K: Keeper + Drop,
+    K: Keeper + Send + Drop,
     F: Folder,
     O: Out,
     D: Door + Send,
@@ -96,10 +103,18 @@ pub fn run_arguments<
 /// words don't have the program's name. Keeper and doors are handed back, and where desks were
 /// served the history of their calls. The status: 0 where all was done, 1 where the words are no
 /// command line, 2 where a rule is broken, 3 at a fault of the source, 4 of the folder, 5 of the
-/// keeper, 6 where memory ran out, 7 at a fault of the out. The runtime is for commands that serve
-/// several doors at once.
-pub fn run<R: Threads + Sync, S: Source, K: Keeper + Drop, F: Folder, O: Out, D: Door + Send>(
-    _rt: &R,
+/// keeper, 6 where memory ran out, 7 at a fault of the out. Several doors are served at once, by
+/// threads of the runtime, and so are files judged that a check has read. Of all commands serving and
+/// delivering alone may wait for ever.
+pub fn run<
+    R: Threads + Wait + Sync,
+    S: Source,
+    K: Keeper + Send + Drop,
+    F: Folder,
+    O: Out,
+    D: Door + Send,
+>(
+    rt: &R,
     alloc: Global,
     words: &[String],
     source: &mut S,
@@ -115,31 +130,80 @@ pub fn run<R: Threads + Sync, S: Source, K: Keeper + Drop, F: Folder, O: Out, D:
         (O.shows out.new) in
         RunsWords D.shows (word_bytes words.now) (moment before doors.items) result.history
         (moment after result.doors.items) result.status) }
-    ensures reads { let command = command_of (word_bytes words.now) in
-        ReadsAsOften command (S.reads source.old) (S.reads source.new) }
+    ensures reads { let delivers = deliver_of (length doors.items) (word_bytes words.now) in
+        let command = command_of (word_bytes words.now) in
+        ReadsFor delivers command (S.reads source.old) (S.reads source.new) }
 {
     match serve_in(words, doors.len()) {
-        Some(connections) => serve_and_tell(alloc, connections, keeper, out, doors),
-        None => carry_out(alloc, words, source, keeper, folder, out, doors),
+        Some(asked) => serve_and_tell(rt, alloc, asked, keeper, out, doors),
+        None => run_other(rt, alloc, words, source, keeper, folder, out, doors),
+    }
+}
+
+// The same of words that don't ask to serve.
+fn run_other<R: Threads + Sync, S: Source, K: Keeper, F: Folder, O: Out, D: Door>(
+    rt: &R,
+    alloc: Global,
+    words: &[String],
+    source: &mut S,
+    keeper: K,
+    folder: &mut F,
+    out: &mut O,
+    doors: Vec<D>,
+) -> Ended<K, D>
+    ensures runs { let delivers = deliver_of (length doors.items) (word_bytes words.now) in
+        let command = command_of (word_bytes words.now) in
+        let before = outside (S.shows source.old) (K.shows keeper) (F.shows folder.old)
+        (O.shows out.old) in
+        IsSomeAnd result.keeper (λ kept.
+        let after = outside (S.shows source.new) (K.shows kept) (F.shows folder.new)
+        (O.shows out.new) in
+        RunsOther D.shows delivers command (moment before doors.items) result.history
+        (moment after result.doors.items) result.status) }
+    ensures reads { let delivers = deliver_of (length doors.items) (word_bytes words.now) in
+        let command = command_of (word_bytes words.now) in
+        ReadsFor delivers command (S.reads source.old) (S.reads source.new) }
+{
+    match deliver_in(words, doors.len()) {
+        Some(asked) => deliver_and_tell(alloc, &asked, source, keeper, out, doors),
+        None => carry_out(rt, alloc, words, source, keeper, folder, out, doors),
     }
 }
 
 // Serves, and prints its line.
-fn serve_and_tell<K: Keeper + Drop, O: Out, D: Door>(
+fn serve_and_tell<R: Threads + Wait + Sync, K: Keeper + Send + Drop, O: Out, D: Door + Send>(
+    rt: &R,
     alloc: Global,
-    connections: u32,
+    asked: ServeLine,
     keeper: K,
     out: &mut O,
     doors: Vec<D>,
 ) -> Ended<K, D>
-    requires { 0 < length doors.items }
+    requires { HasDoors asked (length doors.items) }
     ensures { let before = hall (K.shows keeper) doors.items (O.shows out.old) in
         IsSomeAnd result.keeper (λ kept.
         let after = hall (K.shows kept) result.doors.items (O.shows out.new) in
-        ServesOver D.shows connections before result.history after result.status) }
+        ServesOver D.shows asked before result.history after result.status) }
+{
+    let served = serve(rt, alloc, asked, keeper, doors);
+    tell(alloc, out, served)
+}
+
+// Prints the line of serving.
+fn tell<K: Keeper + Drop, O: Out, D: Door>(
+    alloc: Global,
+    out: &mut O,
+    served: Service<K, D>,
+) -> Ended<K, D>
+    ensures { (asked : ServeLine) (given : KeeperView) (doors : List D)
+        → ServesAnyhow D.shows asked given doors served.ending served.history
+        (K.shows served.keeper) served.doors.items
+        → IsSomeAnd result.keeper (λ kept.
+        let before = hall given doors (O.shows out.old) in
+        let after = hall (K.shows kept) result.doors.items (O.shows out.new) in
+        ServesOver D.shows asked before result.history after result.status) }
 {
     rows_law();
-    let served = serve(alloc, connections, keeper, doors);
     let status = finish(alloc, out, served.ending);
     Ended {
         status,
@@ -160,8 +224,39 @@ fn handed_on(status: u8, history: Option<History>) -> Option<History>
     }
 }
 
+// Delivers at the first door, and prints its line.
+fn deliver_and_tell<S: Source, K: Keeper, O: Out, D: Door>(
+    alloc: Global,
+    asked: &DeliverLine<'_>,
+    source: &mut S,
+    mut keeper: K,
+    out: &mut O,
+    mut doors: Vec<D>,
+) -> Ended<K, D>
+    requires { 0 < length doors.items }
+    ensures delivers { let before = desk_side (S.shows source.old) (K.shows keeper) doors.items
+        (O.shows out.old) in
+        IsSomeAnd result.keeper (λ kept.
+        let after = desk_side (S.shows source.new) (K.shows kept) result.doors.items
+        (O.shows out.new) in
+        DeliversAt D.shows (deliver_seen asked.now) before after result.status) }
+    ensures reads { AtMostOnce (S.reads source.old) (S.reads source.new) }
+    ensures history { result.history ≡ None }
+{
+    rows_law();
+    let delivered = deliver(alloc, asked, source, &mut keeper, &mut doors[0]);
+    let status = finish(alloc, out, delivered);
+    Ended {
+        status,
+        keeper: Some(keeper),
+        doors,
+        history: None,
+    }
+}
+
 // Carries out each other command.
-fn carry_out<S: Source, K: Keeper, F: Folder, O: Out, D>(
+fn carry_out<R: Threads + Sync, S: Source, K: Keeper, F: Folder, O: Out, D>(
+    rt: &R,
     alloc: Global,
     words: &[String],
     source: &mut S,
@@ -185,7 +280,7 @@ fn carry_out<S: Source, K: Keeper, F: Folder, O: Out, D>(
     one_answer();
     one_batch();
     rows_law();
-    let ending = work(alloc, words, source, &mut keeper, folder);
+    let ending = work(rt, alloc, words, source, &mut keeper, folder);
     let status = finish(alloc, out, ending);
     Ended {
         status,
@@ -195,7 +290,8 @@ fn carry_out<S: Source, K: Keeper, F: Folder, O: Out, D>(
     }
 }
 
-fn work<S: Source, K: Keeper, F: Folder>(
+fn work<R: Threads + Sync, S: Source, K: Keeper, F: Folder>(
+    rt: &R,
     alloc: Global,
     words: &[String],
     source: &mut S,
@@ -217,5 +313,6 @@ fn work<S: Source, K: Keeper, F: Folder>(
         Some(Command::Produce(request)) => produce_volume(alloc, request, keeper, folder),
         Some(Command::Press(id)) => press_kept(alloc, id, keeper, folder),
         Some(Command::Log(id)) => log_kept(alloc, id, keeper),
+        Some(Command::Check(asked)) => check_files(rt, alloc, &asked, source),
     }
 }

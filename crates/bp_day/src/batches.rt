@@ -104,6 +104,13 @@ impl Files {
         self.put(words, path, bytes)
     }
 
+    /// A file, in place of the one of its path.
+    pub fn replace(&mut self, file: FileRow) -> Result<()> {
+        let _old = self.taken(&file.path);
+        self.rows.push(file)?;
+        Ok(())
+    }
+
     fn remove(&mut self, words: &mut Words) -> Result<String> {
         let path = words.text();
         let _old = self.taken(&path);

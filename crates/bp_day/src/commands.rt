@@ -19,6 +19,7 @@ use bp_keep::MemKeeper;
 use bp_outside::{MemDoor, MemFolder, MemOut, MemSource};
 use bp_script::{Words, escaped};
 use std::alloc::Global;
+use std::sync::Wait;
 use std::thread::Threads;
 
 /// What the next command line meets outside, and the door of the last one.
@@ -118,7 +119,7 @@ fn note(alloc: Global, place: &mut NumberList, words: &mut Words) -> Result<Stri
 }
 
 /// Carries out the command line of these words, texts with a space between them.
-pub fn carry_out<R: Threads + Sync>(rt: &R, day: &mut Day, line: &str) -> Result<String> {
+pub fn carry_out<R: Threads + Wait + Sync>(rt: &R, day: &mut Day, line: &str) -> Result<String> {
     let alloc = day.alloc;
     let words = words_in(alloc, line)?;
     let outside = std::mem::replace(&mut day.outside, Outside::new(alloc));
@@ -161,7 +162,7 @@ struct Stage {
 
 impl Stage {
     // The status. The day's keeper and its last door are those that were handed back.
-    fn run<R: Threads + Sync>(
+    fn run<R: Threads + Wait + Sync>(
         &mut self,
         rt: &R,
         alloc: Global,

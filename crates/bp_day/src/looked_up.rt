@@ -3,7 +3,7 @@
 //     lead                  the digest of the lead's key
 //     documents             how many documents there are
 //     lookup DOC            how many pages a document has, its state, and how many boxes
-//     kept DOC PAGE         the strip that a page is kept as, in hex
+//     strip DOC PAGE        the strip that a page is kept as, in hex
 //     production ID         what was asked, and how many items there are with which numbers
 //     item ID DOC           an item, whole
 //     log ID                the log of a production
@@ -22,7 +22,7 @@ pub fn told(day: &Day, verb: &str, words: &mut Words) -> Option<Result<String>> 
         "lead" => Some(lead(day)),
         "documents" => Some(documents(day)),
         "lookup" => Some(lookup(day, words)),
-        "kept" => Some(kept(day, words)),
+        "strip" => Some(strip(day, words)),
         "production" => Some(production(day, words)),
         "item" => Some(item(day, words)),
         "log" => Some(log(day, words)),
@@ -57,7 +57,7 @@ fn lookup(day: &Day, words: &mut Words) -> Result<String> {
     }
 }
 
-fn kept(day: &Day, words: &mut Words) -> Result<String> {
+fn strip(day: &Day, words: &mut Words) -> Result<String> {
     let doc = words.doc();
     let page = words.page();
     if !words.is_read() {

@@ -7,6 +7,8 @@
 //     path NUMBER            the path of that file, from 1
 //     text PATH / hex PATH / length PATH      what stands in the file
 //     shelve                 the files are laid aside
+//     handed                 the files that were laid aside are files in memory too, each in place of the one
+//                            of its path
 //     alike                  whether the files are those that were laid aside
 //     part                   how many files there are, and how many of them are whole, where they are a first
 //                            part of those
@@ -63,6 +65,7 @@ pub fn told(day: &mut Day, verb: &str, words: &mut Words) -> Option<Result<Strin
         "hex" => Some(hex_of(day, words)),
         "length" => Some(length(day, words)),
         "shelve" => Some(shelve(day)),
+        "handed" => Some(hand_over(day)),
         "alike" => Some(alike(day)),
         "part" => Some(part(day)),
         "found" => Some(found(day, words)),
@@ -162,6 +165,13 @@ fn length(day: &Day, words: &mut Words) -> Result<String> {
 fn shelve(day: &mut Day) -> Result<String> {
     let folder = empty(day.alloc, NumberList::new(day.alloc));
     day.pressed.aside = std::mem::replace(&mut day.pressed.folder, folder);
+    constant(day.alloc, "")
+}
+
+fn hand_over(day: &mut Day) -> Result<String> {
+    for file in day.pressed.aside.files() {
+        day.files.replace(file.clone()?)?;
+    }
     constant(day.alloc, "")
 }
 

@@ -1,8 +1,7 @@
 // What is seen of documents, pages, words and productions, as a line says it.
 use anyhow::Result;
 use bp_core::{Text, Treatment};
-use bp_matter::{BoxRow, DocView, Entry, HeldRow, Item, Production, State};
-use bp_rows::Page;
+use bp_matter::{BoxRow, DocView, Entry, HeldRow, Item, KeptPage, Production, State};
 use bp_text::WordList;
 use std::alloc::Global;
 
@@ -97,7 +96,8 @@ pub fn add_entry(text: &mut String, entry: &Option<Entry>) -> Result<()> {
 }
 
 /// Width and height of a page, and the row and column of its first black pixel.
-pub fn page(alloc: Global, image: &Page) -> Result<String> {
+pub fn page(alloc: Global, kept: &KeptPage) -> Result<String> {
+    let image = kept.page(alloc)?;
     let (width, height) = (image.width(), image.height());
     for row in 0..height {
         for column in 0..width {

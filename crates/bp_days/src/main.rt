@@ -7,6 +7,7 @@ use anyhow::Result;
 use bp_day::{Day, carry_out, make};
 use bp_script::Tally;
 use std::rt::Files;
+use std::sync::Wait;
 use std::thread::Threads;
 use std::{env, fs};
 
@@ -17,7 +18,7 @@ fn main(rt: HostRuntime) -> Result<()> {
 }
 
 // The first word is the program's name.
-fn take_files<R: Files + Alloc + Print + Threads + Sync>(
+fn take_files<R: Files + Alloc + Print + Threads + Wait + Sync>(
     rt: &R,
     day: &mut Day,
     words: &[String],
@@ -30,7 +31,7 @@ fn take_files<R: Files + Alloc + Print + Threads + Sync>(
 }
 
 // Does what the lines of a file ask for.
-fn take_file<R: Files + Alloc + Print + Threads + Sync>(
+fn take_file<R: Files + Alloc + Print + Threads + Wait + Sync>(
     rt: &R,
     day: &mut Day,
     tally: &mut Tally,
@@ -48,7 +49,7 @@ fn take_file<R: Files + Alloc + Print + Threads + Sync>(
 }
 
 // Command lines alone need the runtime.
-fn tell<R: Threads + Sync>(rt: &R, day: &mut Day, asked: &str) -> Result<String> {
+fn tell<R: Threads + Wait + Sync>(rt: &R, day: &mut Day, asked: &str) -> Result<String> {
     match asked.split_once("tivrenan") {
         Some(("", words)) => carry_out(rt, day, words.trim_start()),
         _ => make(day, asked),

@@ -33,23 +33,21 @@ use Rattle.bp_web.specs.declared.replies.Answer.TheVariants as answers
 use Rattle.bp_web.specs.declared.requests.Asked.{Asked}
 use Rattle.bp_desk.specs.Calls.{made_by}
 use Rattle.bp_desk.specs.History.{Turn, turns_of}
-use Rattle.bp_desk.specs.Served.{Served, memory_text}
-use Rattle.bp_desk.specs.Served.Sent.{cut, whole}
+use Rattle.bp_doors.specs.Exchanges.{memory_text}
+use Rattle.bp_doors.specs.Exchanges.Sent.{cut, whole}
+use Rattle.bp_desk.specs.Served.{Served}
 use Rattle.bp_desk.specs.Served.Served.{called, nobody, uncalled}
 use Rattle.bp_desk.specs.Served.TextOfCall.{no_reply, reply}
 use Rattle.bp_desk.specs.Served.TextOfNone.{fault, no_memory, no_room, refusal}
 use Rattle.bp_desk.specs.Serving.{IsAnswered}
 use Rattle.bp_desk.specs.declared.history.Made.{Made}
-use Rattle.bp_desk.specs.declared.history.TheConstants.{DOOR_SEAT, MOST_CALLS}
+use Rattle.bp_desk.specs.declared.history.TheConstants.{MOST_CALLS}
 use Rattle.bp_desk.proofs.ServedLemmas.{served_complete}
 
 -- ---- the limits
 
 most_calls : MOST_CALLS ≡ 1048576
 most_calls = refl
-
-door_seat : DOOR_SEAT ≡ 1
-door_seat = refl
 
 -- ---- the calls of a seat in a history
 

@@ -1,19 +1,12 @@
--- Carry what a call gave, what was read and what was sent to one exchange.
-use Rattle.std.proofs.Common.{◌≡◌, ℕ, ◌≤◌, eq-eqb, Bool, true, false, List, [], length, take, drop, refl, sym, ap, subst, ◌∙◌, inl, inr, IfOk, Result}
+-- Carry what a call gave and what was read to one exchange.
+use Rattle.std.proofs.Common.{◌≡◌, ℕ, ◌≤◌, eq-eqb, Bool, true, false, List, [], length, refl, sym, ap, subst, ◌∙◌, inl, inr, IfOk, Result}
 use Rattle.std.specs.Prelude.{◌⊎◌, Ok, Err, IsTrue}
-use Rattle.std.specs.Option.{option_map}
 use Rattle.std.proofs.lemmas.Bool.{false≢true}
-use Rattle.std.proofs.lemmas.List.{take-append-drop}
 use Rattle.bp_core.specs.Counts.{risen}
 use Rattle.bp_core.specs.declared.refusals.OutOfMemory.{OutOfMemory}
 use Rattle.bp_core.specs.declared.rules.Rule.{Rule}
 use Rattle.bp_matter.specs.declared.calls.Reply.{Reply}
-use Rattle.bp_outside.proofs.DoorLemmas.{told_changed}
-use Rattle.bp_outside.specs.Door.{DoorView, Sends, after_refusal, changed, fresh, hung, refused, to_last, took, wrote}
-use Rattle.bp_outside.specs.Input.{StopsAt, TakesPart, TakesWhole}
 use Rattle.bp_outside.specs.declared.exchange.Exchange.{Exchange}
-use Rattle.bp_outside.specs.declared.refusals.DoorRefusal.{DoorRefusal}
-use Rattle.bp_outside.specs.declared.refusals.DoorRefusal.TheVariants as door_refusals
 use Rattle.bp_web.specs.Heads.{NeverBegins, start_of}
 use Rattle.bp_web.specs.Replies.{reply_text}
 use Rattle.bp_web.specs.Requests.{HttpReads, IsWhole}
@@ -22,163 +15,18 @@ use Rattle.bp_web.specs.declared.refusals.WebRefusal.TheVariants as web_refusals
 use Rattle.bp_web.specs.declared.replies.Answer.{Answer}
 use Rattle.bp_web.specs.declared.replies.Answer.TheVariants as answers
 use Rattle.bp_web.specs.declared.requests.Asked.{Asked}
-use Rattle.bp_desk.specs.Exchanges.{Answers, AnswersBytes, AnswersRead, CallsAt, Changes, Deals, IsRefusalText, ReadsAs, Refuses, Talks, TellsRequest, answer_from, text_of}
+use Rattle.bp_doors.specs.Exchanges.{IsRefusalText, Sent, memory_text, text_of}
+use Rattle.bp_doors.specs.Serving.{RoseBy}
+use Rattle.bp_desk.specs.Exchanges.{Answers, AnswersRead, CallsAt, Deals, ReadsAs, Refuses, answer_from}
 use Rattle.bp_desk.specs.Exchanges.Deals.{made_none, made_one}
 use Rattle.bp_desk.specs.History.{AreOthers, HistoryView, asked_by, is_full, sent_for}
-use Rattle.bp_desk.specs.Served.{Asks, IsEnough, Sent, TextOfNone, WasRead, memory_text}
-use Rattle.bp_desk.specs.Served.Sent.{cut, whole}
+use Rattle.bp_desk.specs.Served.{Asks, IsEnough, TellsRequest, TextOfNone, WasRead}
 use Rattle.bp_desk.specs.Served.TextOfCall.{no_reply, reply}
 use Rattle.bp_desk.specs.Served.TextOfNone.{fault, no_memory, no_room, refusal}
-use Rattle.bp_desk.specs.Serving.{RoseBy}
 use Rattle.bp_desk.specs.declared.history.Made.{Made}
 use Rattle.bp_desk.specs.declared.refusals.DeskRefusal.{DeskRefusal}
 use Rattle.bp_desk.specs.declared.refusals.DeskRefusal.TheVariants as desk_refusals
 use Rattle.bp_desk.proofs.HistoryLemmas.{grew_not, no_others, not_full}
-
--- ---- what passes in an exchange
-
-changes_of : (change : Exchange → Exchange) (door after : DoorView)
-    → after ≡ changed change door
-    → Changes change door after
-changes_of change door after is =
-    record {
-      exchanges = ap (λ d. d.exchanges) is;
-      under_way = ap (λ d. d.under_way) is;
-      closed = ap (λ d. d.closed) is;
-      accepts = ap (λ d. d.accepts) is;
-    }
-
-changes_twice : (f g : Exchange → Exchange) (door between after : DoorView)
-    → Changes f door between
-    → Changes g between after
-    → Changes (λ x. g (f x)) door after
-changes_twice f g door between after first then =
-    record {
-      exchanges = then.exchanges ∙ ap (option_map (to_last g)) first.exchanges
-          ∙ told_changed f g (λ x. g (f x)) (λ x. refl) door.exchanges;
-      under_way = then.under_way ∙ first.under_way;
-      closed = then.closed ∙ first.closed;
-      accepts = then.accepts ∙ first.accepts;
-    }
-
-changes_refused : (change : Exchange → Exchange) (why : DoorRefusal) (door after : DoorView)
-    → after ≡ after_refusal (changed change door) why
-    → Changes (λ x. refused why (change x)) door after
-changes_refused change why door after is =
-    record {
-      exchanges = ap (λ d. d.exchanges) is
-          ∙ told_changed change (refused why) (λ x. refused why (change x)) (λ x. refl)
-          door.exchanges;
-      under_way = ap (λ d. d.under_way) is;
-      closed = ap (λ d. d.closed) is;
-      accepts = ap (λ d. d.accepts) is;
-    }
-
--- a text was sent after bytes were read
-pub talk_sent : (seat : ℕ) (history history' : HistoryView) (door between after : DoorView)
-    (bytes : List ℕ) (ended : Bool) (text : List ℕ) (result : Result (Unit {0}) DoorRefusal)
-    → between ≡ changed (took bytes ended) door
-    → Sends between text result after
-    → ((x : Exchange) → x.read ≡ bytes → x.ended ≡ ended → Sent x text
-    → Deals seat history x history')
-    → Talks seat history door history' after
-talk_sent seat history history' door between after bytes ended text (Ok done) read sent_ deal =
-    record {
-      change = λ x. wrote text (took bytes ended x);
-      changes = changes_twice (took bytes ended) (wrote text) door between after
-          (changes_of (took bytes ended) door between read)
-          (changes_of (wrote text) between after sent_);
-      deals = deal (hung (wrote text (took bytes ended fresh))) refl refl (whole refl);
-    }
-talk_sent seat history history' door between after bytes ended text (Err door_refusals.Failed) read sent_ deal =
-    let part = take sent_.count text in
-    record {
-      change = λ x. refused door_refusals.Failed (wrote part (took bytes ended x));
-      changes = changes_twice (took bytes ended) (λ x. refused door_refusals.Failed (wrote part x))
-          door between after (changes_of (took bytes ended) door between read)
-          (changes_refused (wrote part) door_refusals.Failed between after sent_.written);
-      deals = deal (hung (refused door_refusals.Failed (wrote part (took bytes ended fresh))))
-          refl refl (cut (inl refl) (drop sent_.count text) (take-append-drop sent_.count text));
-    }
-talk_sent seat history history' door between after bytes ended text (Err door_refusals.OutOfMemory) read sent_ deal =
-    let part = take sent_.count text in
-    record {
-      change = λ x. refused door_refusals.OutOfMemory (wrote part (took bytes ended x));
-      changes = changes_twice (took bytes ended)
-          (λ x. refused door_refusals.OutOfMemory (wrote part x))
-          door between after (changes_of (took bytes ended) door between read)
-          (changes_refused (wrote part) door_refusals.OutOfMemory between after sent_.written);
-      deals = deal (hung (refused door_refusals.OutOfMemory (wrote part (took bytes ended fresh))))
-          refl refl (cut (inr refl) (drop sent_.count text) (take-append-drop sent_.count text));
-    }
-
--- an exchange that was answered that memory ran out, or cut off before it was answered
-deal_memory : (seat : ℕ) (history : HistoryView) (x : Exchange)
-    → Sent x memory_text
-    → Deals seat history x history
-deal_memory seat history x s =
-    made_none [] 0 memory_text tt (λ _. refl) (no_memory refl) s (grew_not history)
-    (grew_not history).faults
-
--- memory ran out before all was read
-pub talk_memory : (seat : ℕ) (history : HistoryView) (door between after : DoorView)
-    (said : List ℕ) (result : Result (Unit {0}) DoorRefusal)
-    → TakesPart door between
-    → said ≡ memory_text
-    → Sends between said result after
-    → Talks seat history door history after
-talk_memory seat history door between after said result part spoken sent_ =
-    let P : List ℕ → Type 0 = λ t. Sends between t result after in
-    talk_sent seat history history door between after part.some false memory_text result part.read
-    (subst P spoken sent_) (λ x r e s. deal_memory seat history x s)
-
--- a read was refused
-pub talk_refused : (seat : ℕ) (history : HistoryView) (door after : DoorView) (why : DoorRefusal)
-    → StopsAt door why after
-    → Talks seat history door history after
-talk_refused seat history door after door_refusals.Failed stop =
-    let bytes = stop.some in
-    record {
-      change = λ x. refused door_refusals.Failed (took bytes false x);
-      changes = changes_refused (took bytes false) door_refusals.Failed door after stop.read;
-      deals = deal_memory seat history
-          (hung (refused door_refusals.Failed (took bytes false fresh)))
-          (cut (inl refl) memory_text refl);
-    }
-talk_refused seat history door after door_refusals.OutOfMemory stop =
-    let bytes = stop.some in
-    record {
-      change = λ x. refused door_refusals.OutOfMemory (took bytes false x);
-      changes = changes_refused (took bytes false) door_refusals.OutOfMemory door after stop.read;
-      deals = deal_memory seat history
-          (hung (refused door_refusals.OutOfMemory (took bytes false fresh)))
-          (cut (inr refl) memory_text refl);
-    }
-
-was_read : (x : Exchange) (bytes : List ℕ) (ended : Bool)
-    → x.read ≡ bytes
-    → x.ended ≡ ended
-    → IsEnough bytes ⊎ (ended ≡ true)
-    → WasRead x
-was_read x bytes ended r e (inl enough) = inl (subst IsEnough (sym r) enough)
-was_read x bytes ended r e (inr all) = inr (e ∙ all)
-
--- the bytes were read whole
-pub talk_whole : (seat : ℕ) (history history' : HistoryView) (door between after : DoorView)
-    (bytes seen text said : List ℕ) (result : Result (Unit {0}) DoorRefusal)
-    → TakesWhole TellsRequest door bytes between
-    → seen ≡ bytes
-    → AnswersBytes seat history seen text history'
-    → said ≡ text
-    → Sends between said result after
-    → Talks seat history door history' after
-talk_whole seat history history' door between after bytes seen text said result all is answers_ spoken sent_ =
-    let stopped : (x : Exchange) → x.read ≡ bytes → x.ended ≡ all.ended → WasRead x =
-    λ x r e. was_read x bytes all.ended r e all.whole in
-    let P : List ℕ → Type 0 = λ t. Sends between t result after in
-    talk_sent seat history history' door between after bytes all.ended text result all.read
-    (subst P spoken sent_)
-    (λ x r e s. answers_ x (r ∙ sym is) (stopped x r e) s)
 
 -- what is told of bytes, by what the test promises
 pub tells : (bytes : List ℕ) (answer : Bool)
@@ -351,14 +199,11 @@ pub answer_bytes : (seat : ℕ) (before after : HistoryView) (bytes text : List 
     (request : Result Asked WebRefusal)
     → ReadsAs bytes request
     → AnswersRead seat before request text after
-    → AnswersBytes seat before bytes text after
+    → (x : Exchange)
+    → x.read ≡ bytes
+    → WasRead x
+    → Sent x text
+    → Deals seat before x after
 answer_bytes seat before after bytes text request reads is x read stopped s =
     let P : List ℕ → Type 0 = λ xs. HttpReads xs request in
     is x (λ other. subst P (sym read) (reads other)) stopped s
-
-pub refusal_text : (why : WebRefusal) (result : Result (List ℕ) OutOfMemory)
-    → (why ≡ web_refusals.OutOfMemory → ⊥)
-    → IfOk result (λ text. text ≡ reply_text (answers.Web why))
-    → IsRefusalText why (text_of result)
-refusal_text why (Ok text) other is = inr (other, is)
-refusal_text why (Err none) other is = inl refl

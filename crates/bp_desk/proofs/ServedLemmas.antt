@@ -12,8 +12,9 @@ use Rattle.bp_web.specs.declared.refusals.WebRefusal.{WebRefusal}
 use Rattle.bp_web.specs.declared.requests.Asked.{Asked}
 use Rattle.bp_desk.specs.Calls.{run_calls}
 use Rattle.bp_desk.specs.History.{Turn, turns_of}
-use Rattle.bp_desk.specs.Served.{Asks, Sent, Served, TextOfCall, TextOfNone, WasRefused, memory_text}
-use Rattle.bp_desk.specs.Served.Sent.{cut, whole}
+use Rattle.bp_doors.specs.Exchanges.{Sent, WasRefused, memory_text}
+use Rattle.bp_doors.specs.Exchanges.Sent.{cut, whole}
+use Rattle.bp_desk.specs.Served.{Asks, Served, TextOfCall, TextOfNone}
 use Rattle.bp_desk.specs.Served.Served.{called, nobody, uncalled}
 use Rattle.bp_desk.specs.Served.TextOfCall.{no_reply, reply}
 use Rattle.bp_desk.specs.Served.TextOfNone.{fault, no_memory, no_room, refusal}

@@ -74,18 +74,6 @@ BookCalls before made (Err refusals.KeeperFault) after =
 BookCalls before made (Err (refusals.JournalFull count)) after = Full before count after
 BookCalls before made (Err refusals.OutOfMemory) after = Unmade before before.keeper.faults after
 
--- all of these calls are of this seat
-abbrev pub AreBy : ℕ → List Made → Type 0
-AreBy seat [] = Unit {0}
-AreBy seat (made ∷ more) = (made.seat ≡ seat) × AreBy seat more
-
--- the journal of a book got calls of this seat alone, and its keeper wasn't asked to load
-pub record GrewBy (seat : ℕ) (before after : BookView) : Type 0 where
-  pub made : List Made
-  pub journal : after.journal ≡ before.journal ++ made
-  pub own : AreBy seat made
-  pub keeper : StaysWith before.keeper after.keeper
-
 -- whether a call stands in the history after an answer
 abbrev pub is_made : Result Reply DeskRefusal → Bool
 is_made (Ok reply) = true

@@ -1,34 +1,31 @@
 -- One exchange at a door: what a call made in it gives, what is sent, and what it comes to.
-use Rattle.std.specs.Prelude.{◌≡◌, ◌≢◌, ◌⊎◌, ℕ, ◌≤◌, Bool, true, false, List, [], ◌∷◌, ◌++◌, length, Result, Ok, Err}
-use Rattle.std.specs.Option.{option_map}
+use Rattle.std.specs.Prelude.{◌≡◌, ◌≢◌, ℕ, ◌≤◌, true, List, [], ◌∷◌, ◌++◌, length, Result, Ok, Err, refl}
+use Rattle.std.proofs.Common.{sym}
+use Rattle.std.proofs.Math.Nat.{le_refl}
+use Rattle.std.proofs.lemmas.List.{append-nil}
 use Rattle.bp_core.specs.Counts.{risen}
-use Rattle.bp_core.specs.declared.refusals.OutOfMemory.{OutOfMemory}
 use Rattle.bp_core.specs.declared.rules.Rule.{Rule}
 use Rattle.bp_matter.specs.declared.calls.Reply.{Reply}
-use Rattle.bp_outside.specs.Door.{DoorView, fresh, hung, to_last}
 use Rattle.bp_outside.specs.declared.exchange.Exchange.{Exchange}
-use Rattle.bp_web.specs.Heads.{NeverBegins, start_of}
-use Rattle.bp_web.specs.Replies.{reply_text}
-use Rattle.bp_web.specs.Requests.{HttpReads, IsWhole}
+use Rattle.bp_web.specs.Requests.{HttpReads}
 use Rattle.bp_web.specs.declared.refusals.WebRefusal.{WebRefusal}
 use Rattle.bp_web.specs.declared.refusals.WebRefusal.TheVariants as web_refusals
 use Rattle.bp_web.specs.declared.replies.Answer.{Answer}
 use Rattle.bp_web.specs.declared.replies.Answer.TheVariants as answers
 use Rattle.bp_web.specs.declared.requests.Asked.{Asked}
-use Rattle.bp_desk.specs.Books.{GrewBy}
 use Rattle.bp_desk.specs.Calls.{answer_to, run_calls}
-use Rattle.bp_desk.specs.History.{AreOthers, Grew, HistoryView, history_of, is_full, matter_of, turn_of}
-use Rattle.bp_desk.specs.Served.{IsEnough, Sent, TextOfCall, TextOfNone, WasRead, memory_text}
-use Rattle.bp_desk.specs.Serving.{RoseBy}
-use Rattle.bp_desk.specs.Shown.{BookView}
+use Rattle.bp_desk.specs.History.{AreOthers, Grew, HistoryView, is_full, matter_of, turn_of}
+use Rattle.bp_doors.specs.Exchanges.{Sent, memory_text}
+use Rattle.bp_doors.specs.Serving.{RoseBy}
+use Rattle.bp_desk.specs.Served.{TextOfCall, TextOfNone, WasRead}
+use Rattle.bp_desk.specs.Served.TextOfNone.{no_memory}
 use Rattle.bp_desk.specs.declared.history.Made.{Made}
 use Rattle.bp_desk.specs.declared.refusals.DeskRefusal.{DeskRefusal}
 use Rattle.bp_desk.specs.declared.refusals.DeskRefusal.TheVariants as desk_refusals
 
 -- ---- a call
 
--- a call was made behind calls of others, and this is the answer at its place. At a book there are
--- no others
+-- a call was made behind calls of others, and this is the answer at its place
 pub record Answers (before : HistoryView) (made : Made) (answer : Result Reply Rule)
     (after : HistoryView) : Type 0 where
   pub others : List Made
@@ -55,12 +52,6 @@ CallsAt before made (Err (desk_refusals.JournalFull count)) after =
     Refuses before made.seat after × (length after.calls ≡ after.room) × (count ≡ after.room)
 CallsAt before made (Err desk_refusals.OutOfMemory) after = Refuses before made.seat after
 
--- a call of a book gave this by its history, and the book got no call of another seat
-pub record CallsBook (before : BookView) (made : Made) (given : Result Reply DeskRefusal)
-    (after : BookView) : Type 0 where
-  pub calls : CallsAt (history_of before) made given (history_of after)
-  pub grew : GrewBy made.seat before after
-
 -- what is sent for what a call gave
 abbrev pub answer_from : Result Reply DeskRefusal → Answer
 answer_from (Ok reply) = answers.Reply reply
@@ -71,25 +62,9 @@ answer_from (Err desk_refusals.OutOfMemory) = answers.OutOfMemory
 
 -- ---- a request
 
--- what is told of bytes: no more are needed; or no whole request is there, and one can come
-abbrev pub TellsRequest : List ℕ → Bool → Type 0
-TellsRequest bytes true = IsEnough bytes
-TellsRequest bytes false = ¬ (IsWhole bytes) × ¬ (NeverBegins (start_of bytes))
-
 -- bytes were read so, unless memory ran out
 abbrev pub ReadsAs : List ℕ → Result Asked WebRefusal → Type 0
 ReadsAs bytes request = request ≢ Err web_refusals.OutOfMemory → HttpReads bytes request
-
--- the text that is sent
-abbrev pub text_of : Result (List ℕ) OutOfMemory → List ℕ
-text_of (Ok text) = text
-text_of (Err _) = memory_text
-
--- the text that answers bytes that are no request
-abbrev pub IsRefusalText : WebRefusal → List ℕ → Type 0
-IsRefusalText refusal text =
-    (text ≡ memory_text)
-    ⊎ ((refusal ≡ web_refusals.OutOfMemory → ⊥) × (text ≡ reply_text (answers.Web refusal)))
 
 -- ---- an exchange
 
@@ -106,27 +81,21 @@ pub data Deals (seat : ℕ) (before : HistoryView) (x : Exchange) (after : Histo
       → Grew before others after → RoseBy faults before.faults after.faults
       → Deals seat before x after
 
--- an answer to these bytes deals so in every exchange that read them whole and was sent it
-abbrev pub AnswersBytes : ℕ → HistoryView → List ℕ → List ℕ → HistoryView → Type 0
-AnswersBytes seat before bytes text after =
-    (x : Exchange) → x.read ≡ bytes → WasRead x → Sent x text → Deals seat before x after
+-- what is sent to nobody, or says that memory ran out, leaves all
+pub deal_memory : (seat : ℕ) (history : HistoryView) (x : Exchange)
+    → Sent x memory_text
+    → Deals seat history x history
+deal_memory seat history x s =
+    let same : history.faults ≤ history.faults = le_refl history.faults in
+    made_none [] 0 memory_text tt (λ _. refl) (no_memory refl) s (record {
+      opening = refl;
+      calls = sym (append-nil history.calls);
+      room = refl;
+      faults = same;
+    }) same
 
 -- an answer to what was read of bytes deals so in every exchange that read them whole and was sent
 -- it
 abbrev pub AnswersRead : ℕ → HistoryView → Result Asked WebRefusal → List ℕ → HistoryView → Type 0
 AnswersRead seat before request text after =
     (x : Exchange) → ReadsAs x.read request → WasRead x → Sent x text → Deals seat before x after
-
--- a door with its last exchange changed
-pub record Changes (change : Exchange → Exchange) (door door' : DoorView) : Type 0 where
-  pub exchanges : door'.exchanges ≡ option_map (to_last change) door.exchanges
-  pub under_way : door'.under_way ≡ door.under_way
-  pub closed : door'.closed ≡ door.closed
-  pub accepts : door'.accepts ≡ door.accepts
-
--- what passed in an exchange up to its hanging up
-pub record Talks (seat : ℕ) (before : HistoryView) (door : DoorView) (after : HistoryView)
-    (door' : DoorView) : Type 0 where
-  pub change : Exchange → Exchange
-  pub changes : Changes change door door'
-  pub deals : Deals seat before (hung (change fresh)) after

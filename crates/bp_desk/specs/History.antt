@@ -7,7 +7,6 @@ use Rattle.bp_web.specs.declared.replies.Answer.{Answer}
 use Rattle.bp_web.specs.declared.replies.Answer.TheVariants as answers
 use Rattle.bp_web.specs.declared.requests.Asked.{Asked}
 use Rattle.bp_desk.specs.Calls.{answer_to, matter_with, run_calls}
-use Rattle.bp_desk.specs.Shown.{BookView}
 use Rattle.bp_desk.specs.declared.history.Made.{Made}
 
 -- a call as it was asked for
@@ -46,24 +45,13 @@ AreOthers seat (made ∷ more) = ((made.seat == seat) ≡ false) × AreOthers se
 
 -- ---- what is known of it
 
--- The matter that it began with; the calls made since: all of them at the book of one desk, those
--- that it has seen at a seat of a shared one; how many may be made; and how often the keeper failed
--- at the calls of who shows this.
+-- The matter that it began with; the calls made since that who shows this has seen; how many may be
+-- made; and how often the keeper failed at the calls of who shows this.
 pub record HistoryView : Type 0 where
   pub opening : Matter
   pub calls : List Made
   pub room : ℕ
   pub faults : ℕ
-
--- the history of a book
-abbrev pub history_of : BookView → HistoryView
-history_of book =
-    record {
-      opening = book.opening;
-      calls = book.journal;
-      room = book.room;
-      faults = book.keeper.faults;
-    }
 
 -- the matter after it
 abbrev pub matter_of : HistoryView → Matter

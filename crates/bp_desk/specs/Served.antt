@@ -1,32 +1,31 @@
 -- What serving a door comes to: its exchanges, in order, use up the calls of its seat, in order.
-use Rattle.std.specs.Prelude.{◌≡◌, ◌⊎◌, ℕ, ◌+◌, Bool, true, List, [], ◌∷◌, ◌++◌, Ok, Err}
+use Rattle.std.specs.Prelude.{◌≡◌, ℕ, ◌+◌, Bool, true, false, List, [], ◌∷◌, ◌++◌, Ok, Err}
 use Rattle.bp_outside.specs.declared.exchange.Exchange.{Exchange}
+use Rattle.bp_web.specs.Heads.{NeverBegins, start_of}
 use Rattle.bp_web.specs.Replies.{reply_text}
-use Rattle.bp_web.specs.Requests.{HttpReads, ReadAlike}
+use Rattle.bp_web.specs.Requests.{HttpReads, IsWhole, ReadAlike}
 use Rattle.bp_web.specs.declared.refusals.WebRefusal.{WebRefusal}
 use Rattle.bp_web.specs.declared.replies.Answer.TheVariants as answers
 use Rattle.bp_web.specs.declared.requests.Asked.{Asked}
+use Rattle.bp_doors.specs.Exchanges.{Sent, WasRead as WasReadBy, memory_text}
 use Rattle.bp_desk.specs.History.{Turn}
 
 -- whatever bytes follow these, they are read as the same request
 abbrev pub IsEnough : List ℕ → Type 0
 IsEnough bytes = (more : List ℕ) → ReadAlike (bytes ++ more) bytes
 
+-- what is told of bytes: no more are needed; or no whole request is there, and one can come
+abbrev pub TellsRequest : List ℕ → Bool → Type 0
+TellsRequest bytes true = IsEnough bytes
+TellsRequest bytes false = ¬ (IsWhole bytes) × ¬ (NeverBegins (start_of bytes))
+
 -- reading stopped because the bytes were enough, or at the end of input
 abbrev pub WasRead : Exchange → Type 0
-WasRead x = IsEnough x.read ⊎ (x.ended ≡ true)
+WasRead x = WasReadBy TellsRequest x
 
 -- the bytes read ask for this
 abbrev pub Asks : Exchange → Asked → Type 0
 Asks x asked = HttpReads x.read (Ok asked)
-
--- the text for want of memory
-abbrev pub memory_text : List ℕ
-memory_text = reply_text answers.OutOfMemory
-
--- a read or a write was refused
-abbrev pub WasRefused : Exchange → Type 0
-WasRefused x = (x.failed ≡ true) ⊎ (x.lacked ≡ true)
 
 -- what may be sent in an exchange that made this call: the reply, or that memory ran out for it
 pub data TextOfCall (turn : Turn) (x : Exchange) (text : List ℕ) : Type 0 where
@@ -46,11 +45,6 @@ pub data TextOfNone (full : Bool) (room : ℕ) (left : List Turn) (x : Exchange)
   fault : (asked : Asked) → Asks x asked → WasRead x
       → text ≡ reply_text answers.KeeperFault → TextOfNone full room left x text 1
   no_memory : text ≡ memory_text → TextOfNone full room left x text 0
-
--- all of the text was written; or a read or a write was refused, and some prefix of it was
-pub data Sent (x : Exchange) (text : List ℕ) : Type 0 where
-  whole : x.written ≡ text → Sent x text
-  cut : WasRefused x → (rest : List ℕ) → x.written ++ rest ≡ text → Sent x text
 
 -- The exchanges of a door, in order, use up the calls of its seat, in order, and none is left over.
 -- Each was hung up. So many were answered that the keeper failed. The history is full or not, and

@@ -1,23 +1,16 @@
 -- Serving a door, accept by accept: what it comes to for who serves it, a book or a seat.
-use Rattle.std.specs.Prelude.{◌≡◌, ◌≢◌, ◌⊎◌, ℕ, zero, suc, ◌<◌, ◌≤◌, true, false, List, [], ◌++◌, slice_get, Some}
+use Rattle.std.specs.Prelude.{◌≡◌, ◌≢◌, ℕ, true, false, List, [], ◌++◌, slice_get, Some}
 use Rattle.std.specs.Option.{option_map}
-use Rattle.bp_core.specs.Counts.{Rose, risen}
+use Rattle.bp_core.specs.Counts.{Rose}
 use Rattle.bp_outside.specs.Door.{DoorView}
 use Rattle.bp_outside.specs.declared.exchange.Exchange.{Exchange}
 use Rattle.bp_web.specs.Replies.{reply_text}
 use Rattle.bp_web.specs.declared.requests.Asked.{Asked}
 use Rattle.bp_desk.specs.History.{Grew, HistoryView, Turn, is_full, matter_of, turns_of}
-use Rattle.bp_desk.specs.Served.{Asks, Served, WasRead, memory_text}
+use Rattle.bp_doors.specs.Exchanges.{memory_text}
+pub use Rattle.bp_doors.specs.Serving.{Returned, RoseBy, raised}
+use Rattle.bp_desk.specs.Served.{Asks, Served, WasRead}
 use Rattle.bp_desk.specs.declared.history.Made.{Made}
-
--- a count after so many more
-abbrev pub raised : ℕ → ℕ → ℕ
-raised zero count = count
-raised (suc more) count = raised more (risen count)
-
--- a count rose by so many at least between two moments. At the greatest u64 this asks nothing
-abbrev pub RoseBy : ℕ → ℕ → ℕ → Type 0
-RoseBy more before now = raised more before ≤ now
 
 -- So many accepts were tried: the door has these new exchanges, the history these new calls, and
 -- the exchanges use up those of the seat. The keeper failed at least as often as was answered. A
@@ -50,12 +43,6 @@ abbrev pub AreAnswered : List Turn → List Exchange → Type 0
 AreAnswered turns exchanges =
     (k : ℕ) (x : Exchange) (asked : Asked) → slice_get exchanges k ≡ Some x → Asks x asked
     → x.failed ≡ false → x.lacked ≡ false → x.written ≢ memory_text → IsAnswered turns x
-
--- so many accepts were tried; or fewer, and the last of them found the door closed
-abbrev pub Returned : ℕ → ℕ → DoorView → Type 0
-Returned connections tried door =
-    (tried ≡ connections)
-    ⊎ ((0 < tried) × (tried ≤ connections) × (door.closed ≡ true))
 
 -- A door was served for so many connections. Where the history isn't full and the keeper's count
 -- didn't rise, each exchange that was not cut or out of memory was answered.

@@ -5,9 +5,6 @@ use bp_matter::Call;
 /// The most calls that a history has room for.
 pub const MOST_CALLS: u64 = 1_048_576;
 
-/// The seat of a door that is served by a book alone.
-pub const DOOR_SEAT: u32 = 1;
-
 /// A call that was made: at which seat, from 1, and with the SHA-256 of which key.
 #[derive(Debug, Drop)]
 pub struct Made {

@@ -6,6 +6,7 @@ use Rattle.bp_core.specs.declared.review.Basis.{Basis}
 use Rattle.bp_core.specs.declared.review.Basis.TheVariants.{Ac, Wp, Pi}
 use Rattle.bp_core.specs.declared.review.Treatment.{Treatment}
 use Rattle.bp_core.specs.declared.review.Treatment.TheVariants.{Produce, Redact, Withhold}
+use Rattle.bp_core.specs.declared.stamps.Ink.TheVariants.{Lettered}
 use Rattle.bp_core.specs.declared.rules.Rule.{Rule}
 use Rattle.bp_core.specs.declared.rules.RuleKind.TheVariants as kinds
 use Rattle.bp_matter.specs.Matter.{Matter}
@@ -343,6 +344,7 @@ other_item = record {
 
 abbrev other : Production
 other = record {
+  ink = Lettered;
   request = with_prefix (codes "X") 4 (asked (codes "X") (codes "X") 1 1);
   items = other_item ∷ [];
   span = record { first = 1; last = 1 };
@@ -386,6 +388,7 @@ plain n parent from to = item n parent Produce [] [] None from to
 
 abbrev ten : Production
 ten = record {
+  ink = Lettered;
   request = record {
     id = codes "R-1";
     volume = codes "VOL001";

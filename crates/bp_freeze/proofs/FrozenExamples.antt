@@ -5,6 +5,7 @@ use Rattle.std.specs.Prelude.{codes}
 use Rattle.bp_core.specs.declared.review.Basis.TheVariants.{Ac}
 use Rattle.bp_core.specs.declared.review.Role.TheVariants.{Lead, Second}
 use Rattle.bp_core.specs.declared.review.Treatment.TheVariants.{Produce, Withhold}
+use Rattle.bp_core.specs.declared.stamps.Ink.TheVariants.{Lettered}
 use Rattle.bp_core.specs.Sorted.{ascends}
 use Rattle.bp_rows.specs.Image.{white_image}
 use Rattle.bp_rows.specs.declared.resolution.Unit.TheVariants.{Inch}
@@ -90,6 +91,7 @@ shown n parent first last = record {
 
 abbrev first : Production
 first = record {
+  ink = Lettered;
   request = asked (codes "R") (codes "V1") 1 2;
   items = shown 1 1 1 2
       ∷ record (shown 2 1 3 3) { treatment = Withhold Ac; entry = Some (record { date = []; author = []; recipients = []; description = [] }) } ∷ [];
@@ -97,7 +99,7 @@ first = record {
 }
 
 abbrev second : Production
-second = record { request = asked (codes "S") (codes "V2") 1 3; items = shown 3 3 4 4 ∷ []; span = record { first = 4; last = 4 } }
+second = record { ink = Lettered; request = asked (codes "S") (codes "V2") 1 3; items = shown 3 3 4 4 ∷ []; span = record { first = 4; last = 4 } }
 
 first_frozen : freeze_of usual (asked (codes "R") (codes "V1") 1 2) ≡ Ok first
 unfolding freeze_of lib.Utf8.encode
@@ -121,7 +123,7 @@ usual_valid = record {
   staff = record { numbered = refl; few = refl; lead_first = refl; digests_differ = refl; fit = refl; written = refl };
   fields = record { numbered = refl; few = refl; names_differ = refl; fit = refl; written = refl };
   docs = record { numbered = refl; few = refl; families = refl; fit = refl; written = refl };
-  pages = record { ascend = refl; paged = refl; few = refl; pixels_few = refl; fit = refl; written = refl };
+  pages = record { ascend = refl; paged = refl; few = refl; pixels_few = refl; strips_few = refl; fit = refl; written = refl };
   calls = record { ascend = refl; fit = refl; written = refl };
   boxes = record { ascend = refl; fit = refl; written = refl };
   held = record { ascend = refl; fit = refl; written = refl };

@@ -7,6 +7,7 @@ use Rattle.std.specs.Str.{bytes_eq}
 use Rattle.bp_core.specs.Rules.{bare_rule}
 use Rattle.bp_core.specs.declared.rules.Rule.{Rule}
 use Rattle.bp_core.specs.declared.rules.RuleKind.TheVariants.{RequestDiffers}
+use Rattle.bp_core.specs.declared.stamps.Ink.TheVariants.{Lettered}
 use Rattle.bp_matter.specs.LookUps.{of_row}
 use Rattle.bp_matter.specs.Matter.{Matter}
 use Rattle.bp_matter.specs.declared.rows.Item.{Item}
@@ -17,9 +18,11 @@ use Rattle.bp_freeze.specs.Refusals.{first_refusal, next_number, prefix_row}
 use Rattle.bp_freeze.specs.Seeing.{Decisions, Seen, decisions_of, seen_of}
 use Rattle.bp_freeze.specs.Selecting.{first_number, items_from, last_number, selected}
 
--- a production of these items: from the first number of the first to the last number of the last
+-- a production of these items: from the first number of the first to the last number of the last,
+-- its boxes lettered
 abbrev pub production_of : Request → List Item → Production
 production_of q items = record {
+  ink = Lettered;
   request = q;
   items = items;
   span = record { first = first_number items; last = last_number items };

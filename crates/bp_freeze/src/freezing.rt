@@ -16,7 +16,7 @@ use crate::items::take_items;
 use crate::marks::produced_marks;
 use crate::requests::{request_refusal, rule_with, same_request};
 use bp_bates::{Span, largest};
-use bp_core::{ListOf, OutOfMemory, Refusal, Rule, RuleKind, Text};
+use bp_core::{Ink, ListOf, OutOfMemory, Refusal, Rule, RuleKind, Text};
 use bp_matter::{Item, MAX_PRODUCTIONS, Production, Request, Tables};
 use std::alloc::Global;
 
@@ -190,7 +190,7 @@ fn taking_refusal(documents: usize, last: u64, width: u8, productions: usize) ->
     None
 }
 
-// The production of these items, which have these numbers.
+// The production of these items, which have these numbers. Its boxes are lettered.
 fn production_of(
     alloc: Global,
     request: &Request,
@@ -202,6 +202,7 @@ fn production_of(
     ensures { IfOk result (λ f. f ≡ production_of request.now items.items) }
 {
     Ok(Production {
+        ink: Ink::Lettered,
         request: request.copy(alloc)?,
         items: ListOf::from_vec(items),
         span,

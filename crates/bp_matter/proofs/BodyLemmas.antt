@@ -4,6 +4,8 @@ use Rattle.std.specs.Prelude.{IsTrue, not}
 use Rattle.std.proofs.lemmas.Bool.{and_parts, and_from, eqb-true, eq-eqb}
 use Rattle.std.proofs.lemmas.Option.{some_pair_parts}
 use Rattle.bp_core.specs.declared.rectangle.Rect.{Rect}
+use Rattle.bp_core.specs.declared.stamps.Ink.{Ink}
+use Rattle.bp_core.specs.declared.stamps.Ink.TheVariants.{Black, Lettered}
 use Rattle.bp_core.specs.declared.review.Basis.{Basis}
 use Rattle.bp_core.specs.declared.review.Basis.TheVariants.{Ac, Wp, Pi, Ts}
 use Rattle.bp_core.specs.declared.review.Role.{Role}
@@ -12,10 +14,10 @@ use Rattle.bp_core.specs.declared.review.Treatment.{Treatment}
 use Rattle.bp_core.specs.declared.review.Treatment.TheVariants.{Produce, Redact, Withhold}
 use Rattle.bp_bates.specs.declared.prefixes.Prefix.{Prefix}
 use Rattle.bp_bates.specs.declared.spans.Span.{Span}
-use Rattle.bp_matter.specs.Fields.{byte, flag, flag_number, is_there, value_if, optional, treatment, treatment_number, state, state_number, editor_of, confirmer_of, role_number, basis, basis_number, rect, span, prefix}
+use Rattle.bp_matter.specs.Fields.{byte, flag, flag_number, is_there, value_if, optional, treatment, treatment_number, state, state_number, editor_of, confirmer_of, role_number, basis, basis_number, ink_number, rect, span, prefix}
 use Rattle.bp_matter.specs.Written.{image_written, is_word, is_long, is_short, are_few, if_there, treatment_written, state_written, is_called, rect_written, span_written, entry_fields_written, box_row_written, held_row_written, word_written, item_written, request_written, span_of, same_span, staff_written, field_written, doc_written, page_written, call_written, box_written, held_written, entry_written, prefix_written, production_written, batch_written, words_written}
 use Rattle.bp_matter.specs.Bodies.{entry_part, box_rest, box_part, held_part, word_part, item_part, request_part, staff_body, field_body, doc_body, page_body, call_body, box_body, held_body, entry_body, prefix_body, production_body, batch_body, words_body, image_part}
-use Rattle.bp_matter.specs.Reading.{Read, ◌>>=◌, value_of, one_of, flag_of, treatment_of, state_of, state_at, role_of, basis_of, rect_at, span_at, prefix_at, entry_fields_at, box_rest_at, box_part_at, held_part_at, word_part_at, item_at, request_at, value_there, optional_at, image_at, unit_of, staff_at, field_at, doc_at, page_at, call_at, box_at, held_at, entry_at, prefix_row_at, production_at, batch_at, words_at}
+use Rattle.bp_matter.specs.Reading.{Read, ◌>>=◌, value_of, one_of, flag_of, treatment_of, state_of, state_at, role_of, basis_of, ink_of, rect_at, span_at, prefix_at, entry_fields_at, box_rest_at, box_part_at, held_part_at, word_part_at, item_at, request_at, value_there, optional_at, image_at, unit_of, staff_at, field_at, doc_at, page_at, call_at, box_at, held_at, entry_at, prefix_row_at, production_at, batch_at, words_at}
 use Rattle.bp_matter.specs.declared.rows.State.{State}
 use Rattle.bp_matter.specs.declared.rows.State.TheVariants.{Uncalled, First, Confirmed}
 use Rattle.bp_matter.specs.declared.rows.StaffRow.{StaffRow}
@@ -180,6 +182,15 @@ basis_codec =
           (entry basis_number b 2 Pi r _ refl
           (entry basis_number b 3 Ts r None refl (none_left basis_number b r)))) e,
     ))
+
+writes_ink : (v : Ink) → Unit {0} → ink_of (ink_number v) ≡ Some v
+writes_ink Black p = refl
+writes_ink Lettered p = refl
+
+pub ink_codec : Codec (λ (v : Ink). Unit {0}) (λ v. byte (ink_number v)) (value_of ink_of)
+ink_codec =
+    value_codec (λ v. Unit {0}) ink_number ink_of writes_ink
+    (λ b v e. (tt, entry ink_number b 1 Black v _ refl (entry ink_number b 2 Lettered v None refl (none_left ink_number b v)) e))
 
 pub record RectParts (v : Rect) : Type 0 where
   pub left : IsTrue (is_word v.left)
@@ -656,7 +667,7 @@ span_is s t h =
 span_same : (s : Span) → same_span s s ≡ true
 span_same s = and_from (eqb s.first s.first) (eqb s.last s.last) (eq-eqb s.first s.first refl) (eq-eqb s.last s.last refl)
 
-production_made : (v : ProductionRow) (s : Span) → v.production.span ≡ s → record { num = v.num; production = record { request = v.production.request; items = v.production.items; span = s } } ≡ v
+production_made : (v : ProductionRow) (s : Span) → v.production.span ≡ s → record { num = v.num; production = record { ink = v.production.ink; request = v.production.request; items = v.production.items; span = s } } ≡ v
 production_made v s e = rw (← e) refl
 
 abbrev pub ProductionOf : ℕ → ProductionRow → Type 0
@@ -665,12 +676,12 @@ ProductionOf num v = IsTrue (production_written v) × (v.num ≡ num)
 pub production_codec : (num : ℕ) → IsTrue (is_word num) → Codec (ProductionOf num) production_body (production_at num)
 unfolding production_at
 production_codec num w =
-    field version_codec (λ v. tt) (λ v p. tt) (λ version _.
+    field ink_codec (λ v. v.production.ink) (λ v p. tt) (λ ink _.
     field request_codec (λ v. v.production.request) (λ v p. (production_written-parts v p.0.0).request) (λ request q.
-    last (few_codec item_codec) (λ v. v.production.items) (λ items. record { num = num; production = record { request = request; items = items; span = span_of items } })
+    last (few_codec item_codec) (λ v. v.production.items) (λ items. record { num = num; production = record { ink = ink; request = request; items = items; span = span_of items } })
     (λ v p.
     let parts = production_written-parts v p.0.0.0 in
-    (parts.items, rw (← p.0.0.1, ← p.1) (production_made v (span_of v.production.items) (span_is v.production.span (span_of v.production.items) parts.numbers))))
+    (parts.items, rw (← p.0.0.1, ← p.0.1, ← p.1) (production_made v (span_of v.production.items) (span_is v.production.span (span_of v.production.items) parts.numbers))))
     (λ items r. ((((all_of w (all_of q (all_of r (span_same (span_of items)))), refl), refl), refl), refl))))
 
 -- ---- a page, whose strip is the rest

@@ -1,9 +1,10 @@
 -- Worked examples of the definitions in specs/, each run by the check: a small matter that is valid, what breaks each of its
 -- facts, and its kept rows, written out from their format.
-use Rattle.std.proofs.Common.{◌≡◌, ℕ, true, false, [], ◌∷◌, ◌++◌, Some, None, refl, replicate, ◌+◌, ◌*◌}
+use Rattle.std.proofs.Common.{◌≡◌, ℕ, true, false, List, [], ◌∷◌, ◌++◌, Some, None, refl, replicate, ◌+◌, ◌*◌}
 use Rattle.std.specs.Prelude.{codes}
 use Rattle.bp_core.specs.declared.review.Basis.TheVariants.{Ac, Pi}
 use Rattle.bp_core.specs.declared.review.Role.TheVariants.{Reviewer, Second, Lead}
+use Rattle.bp_core.specs.declared.stamps.Ink.TheVariants.{Black, Lettered}
 use Rattle.bp_core.specs.declared.review.Treatment.TheVariants.{Produce, Redact, Withhold}
 use Rattle.bp_core.specs.declared.rules.RuleKind.TheVariants.{SamePerson, NothingRedacted, EntryMissing}
 use Rattle.bp_core.specs.Sorted.{ascends}
@@ -14,14 +15,14 @@ use Rattle.bp_bates.specs.declared.prefixes.Prefix.{Prefix}
 use Rattle.bp_text.specs.declared.words.Word.{Word}
 use Rattle.bp_matter.specs.Batches.{BatchShown, IsBatch, parents_stand, batch_doc_fits, batch_page_fits}
 use Rattle.bp_matter.specs.LookUps.{production_with, state_of_doc}
-use Rattle.bp_matter.specs.Reading.{held_at}
+use Rattle.bp_matter.specs.Reading.{held_at, ink_of, production_at}
 use Rattle.bp_matter.specs.ReadTables.{least_bad, bad_rule, kept_row_bad}
 use Rattle.bp_matter.specs.declared.batches.BatchDoc.{BatchDoc}
 use Rattle.bp_matter.specs.declared.batches.BatchPage.{BatchPage}
 use Rattle.bp_matter.specs.Texts.{is_text, is_designation, is_volume, is_id, is_value, is_field_name, is_id_of_doc, is_word_text}
 use Rattle.bp_matter.specs.Images.{strip}
 use Rattle.bp_matter.specs.Fields.{word, long}
-use Rattle.bp_matter.specs.Bodies.{staff_body, doc_body, page_body, call_body, box_body, held_body, prefix_body, words_body}
+use Rattle.bp_matter.specs.Bodies.{staff_body, doc_body, page_body, call_body, box_body, held_body, prefix_body, production_body, words_body}
 use Rattle.bp_matter.specs.Matter.{Matter, staff_key, doc_key, page_key, words_key, call_key}
 use Rattle.bp_matter.specs.Valid.{IsValid}
 use Rattle.bp_core.specs.Differing.{all_differ}
@@ -29,7 +30,7 @@ use Rattle.bp_matter.specs.ValidRows.{is_numbered}
 use Rattle.bp_matter.specs.ValidStaff.{begins_with_lead, staff_digest, staff_fits}
 use Rattle.bp_matter.specs.ValidFields.{field_name, field_fits}
 use Rattle.bp_matter.specs.ValidDocs.{are_families, doc_fits}
-use Rattle.bp_matter.specs.ValidPages.{are_paged, pixels_of, page_fits}
+use Rattle.bp_matter.specs.ValidPages.{are_paged, pixels_of, page_fits, strip_bytes_of}
 use Rattle.bp_matter.specs.ValidWords.{words_fit}
 use Rattle.bp_matter.specs.ValidCalls.{call_fits}
 use Rattle.bp_matter.specs.ValidMarks.{doc_box_fits, doc_held_fits}
@@ -101,7 +102,7 @@ abbrev pub asked : Request
 asked = record { id = 82 ∷ []; volume = 86 ∷ []; prefix = under; from = record { 0 = 1 }; to = record { 0 = 2 }; fields = [] }
 
 abbrev pub frozen : ProductionRow
-frozen = record { num = 1; production = record { request = asked; items = shown ∷ redacted ∷ []; span = record { first = 1; last = 3 } } }
+frozen = record { num = 1; production = record { ink = Lettered; request = asked; items = shown ∷ redacted ∷ []; span = record { first = 1; last = 3 } } }
 
 abbrev pub called : CallRow
 called = record { doc = record { 0 = 2 }; state = First (record { 0 = 1 }); responsive = true; treatment = Redact; designation = [] }
@@ -140,7 +141,7 @@ sample-valid = record {
   staff = record { numbered = refl; few = refl; lead_first = refl; digests_differ = refl; fit = refl; written = refl };
   fields = record { numbered = refl; few = refl; names_differ = refl; fit = refl; written = refl };
   docs = record { numbered = refl; few = refl; families = refl; fit = refl; written = refl };
-  pages = record { ascend = refl; paged = refl; few = refl; pixels_few = refl; fit = refl; written = refl };
+  pages = record { ascend = refl; paged = refl; few = refl; pixels_few = refl; strips_few = refl; fit = refl; written = refl };
   calls = record { ascend = refl; fit = refl; written = refl };
   boxes = record { ascend = refl; fit = refl; written = refl };
   held = record { ascend = refl; fit = refl; written = refl };
@@ -221,6 +222,11 @@ high_page = refl
 
 all_pixels : pixels_of (page_of 1 1 ∷ page_of 1 2 ∷ []) ≡ 16
 all_pixels = refl
+
+-- four bytes of a strip each
+all_strip_bytes : strip_bytes_of (page_of 1 1 ∷ page_of 1 2 ∷ []) ≡ 8
+unfolding mode_codes
+all_strip_bytes = refl
 
 no_words : are_paged words_key (second ∷ []) [] ≡ false
 no_words = refl
@@ -423,6 +429,43 @@ held_bytes = refl
 prefix_bytes : prefix_body kept ≡ 1 ∷ 4 ∷ 4 ∷ 0 ∷ 0 ∷ 0 ∷ 0 ∷ 0 ∷ 0 ∷ 0 ∷ 3 ∷ 0 ∷ 0 ∷ 0 ∷ 65 ∷ 66 ∷ 45 ∷ []
 unfolding word long lib.Utf8.encode
 prefix_bytes = refl
+
+-- a production after its version
+abbrev frozen_bytes : List ℕ
+frozen_bytes =
+    1 ∷ 0 ∷ 0 ∷ 0 ∷ 82 ∷ 1 ∷ 0 ∷ 0 ∷ 0 ∷ 86 ∷ 3 ∷ 0 ∷ 0 ∷ 0 ∷ 65 ∷ 66 ∷ 45 ∷ 4 ∷ 1 ∷ 0 ∷ 0 ∷ 0 ∷ 2 ∷ 0 ∷ 0
+    ∷ 0 ∷ 0 ∷ 0 ∷ 0 ∷ 0 ∷ 2 ∷ 0 ∷ 0 ∷ 0 ∷ 1 ∷ 0 ∷ 0 ∷ 0 ∷ 1 ∷ 0 ∷ 0 ∷ 0 ∷ 0 ∷ 0 ∷ 0 ∷ 0 ∷ 0 ∷ 0 ∷ 0 ∷ 0 ∷ 0
+    ∷ 0 ∷ 0 ∷ 0 ∷ 0 ∷ 0 ∷ 1 ∷ 0 ∷ 0 ∷ 0 ∷ 0 ∷ 0 ∷ 0 ∷ 0 ∷ 2 ∷ 0 ∷ 0 ∷ 0 ∷ 0 ∷ 0 ∷ 0 ∷ 0 ∷ 2 ∷ 0 ∷ 0 ∷ 0 ∷ 1
+    ∷ 0 ∷ 0 ∷ 0 ∷ 1 ∷ 1 ∷ 0 ∷ 0 ∷ 0 ∷ 1 ∷ 0 ∷ 0 ∷ 0 ∷ 1 ∷ 0 ∷ 0 ∷ 0 ∷ 0 ∷ 0 ∷ 0 ∷ 0 ∷ 0 ∷ 0 ∷ 0 ∷ 0 ∷ 8 ∷ 0
+    ∷ 0 ∷ 0 ∷ 1 ∷ 0 ∷ 0 ∷ 0 ∷ 0 ∷ 0 ∷ 0 ∷ 0 ∷ 0 ∷ 1 ∷ 0 ∷ 0 ∷ 0 ∷ 0 ∷ 0 ∷ 0 ∷ 0 ∷ 0 ∷ 0 ∷ 0 ∷ 0 ∷ 0 ∷ 0 ∷ 0
+    ∷ 0 ∷ 0 ∷ 0 ∷ 0 ∷ 0 ∷ 0 ∷ 3 ∷ 0 ∷ 0 ∷ 0 ∷ 0 ∷ 0 ∷ 0 ∷ 0 ∷ 3 ∷ 0 ∷ 0 ∷ 0 ∷ 0 ∷ 0 ∷ 0 ∷ 0 ∷ []
+
+lettered_bytes : production_body frozen ≡ 2 ∷ frozen_bytes
+unfolding word long lib.Utf8.encode
+lettered_bytes = refl
+
+-- one in black ink, as all were before there were letters, has version 1 and nothing else changed
+abbrev frozen_black : ProductionRow
+frozen_black = record frozen { production = record (frozen.production) { ink = Black } }
+
+black_bytes : production_body frozen_black ≡ 1 ∷ frozen_bytes
+unfolding word long lib.Utf8.encode
+black_bytes = refl
+
+-- the versions of a production, and none beside them
+version_1 : ink_of 1 ≡ Some Black
+version_1 = refl
+
+version_2 : ink_of 2 ≡ Some Lettered
+version_2 = refl
+
+version_0 : production_at 1 (0 ∷ frozen_bytes) ≡ None
+unfolding production_at
+version_0 = refl
+
+version_3 : production_at 1 (3 ∷ frozen_bytes) ≡ None
+unfolding production_at
+version_3 = refl
 
 words_bytes : words_body (words_of 1 1) ≡ 1 ∷ 0 ∷ 0 ∷ 0 ∷ 0 ∷ []
 unfolding word

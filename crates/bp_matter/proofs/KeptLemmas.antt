@@ -18,10 +18,22 @@ use Rattle.bp_t6.specs.Strips.{SaysFault, page_of}
 use Rattle.bp_t6.specs.Written.{strip_of, white_line}
 use Rattle.bp_t6.proofs.StripLemmas.{lines_to-read}
 use Rattle.bp_matter.specs.declared.kept_page.Frame.{Frame}
-use Rattle.bp_matter.specs.Images.{strip, is_grid, lines_of, in_frame, image_kept, IsKept, CodesOf, CodingAgain}
+use Rattle.bp_matter.specs.Images.{strip, is_grid, lines_of, in_frame, image_kept, IsKept, CodesOf}
 use Rattle.bp_matter.proofs.ImageLemmas.{StripLaw, its_strip, lines_again, lines_taken, no_lines, other_strip, page_lines, plain_page}
 
 -- ---- read and coded again
+
+-- what is known after so many rows: they were read from the bytes, and added
+pub record CodingAgain (width : ℕ) (bytes : List ℕ) (row : ℕ) (reader : ReadSoFar)
+    (writer : AddedSoFar) : Type 0 where
+  pub lines : List (List Bool)
+  pub count : length lines ≡ row
+  pub bits : reader.bits ≡ bits_of High bytes
+  pub wide : reader.width ≡ width
+  pub fault : reader.fault ≡ None
+  pub read : HasRead reader lines
+  pub same : writer.width ≡ width
+  pub added : HasAdded writer lines
 
 -- no row yet
 pub coding_none : (width : ℕ) (bytes : List ℕ) (reader : ReadSoFar) (writer : AddedSoFar)

@@ -5,7 +5,7 @@ use Rattle.std.proofs.lemmas.Bool.{cases_Bool, leb-true, leb-false}
 use Rattle.bp_core.specs.Sorted.{row_key}
 use Rattle.bp_core.specs.declared.kept.Row.{Row}
 use Rattle.bp_matter.specs.ReadRows.{is_formed}
-use Rattle.bp_matter.specs.ReadTables.{FindsLeastBad, IsLeastBad, least_bad, lesser}
+use Rattle.bp_matter.specs.ReadTables.{FindsLeastBad, least_bad, lesser}
 
 -- a row with a bad body has this key
 record HasBad (rows : List Row) (key : ℕ) : Type 0 where

@@ -6,6 +6,7 @@ pub mod FieldLemmas
 pub mod FormLemmas
 pub mod ImageLemmas
 pub mod KeepLemmas
+mod KeptExamples
 pub mod KeptLemmas
 pub mod LeastBadLemmas
 pub mod MarkLemmas

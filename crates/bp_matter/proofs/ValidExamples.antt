@@ -11,7 +11,7 @@ use Rattle.bp_matter.specs.Written.{staff_written, field_written, doc_written, p
 use Rattle.bp_matter.specs.ValidRows.{is_numbered, names}
 use Rattle.bp_matter.specs.ValidStaff.{staff_fits}
 use Rattle.bp_matter.specs.ValidDocs.{are_families, doc_fits}
-use Rattle.bp_matter.specs.ValidPages.{page_fits}
+use Rattle.bp_matter.specs.ValidPages.{page_fits, strips_fit}
 use Rattle.bp_matter.specs.ValidCalls.{call_fits}
 use Rattle.bp_matter.specs.ValidMarks.{doc_box_fits, doc_held_fits}
 use Rattle.bp_matter.specs.ValidEntries.{entry_fits, doc_entry_fits}
@@ -22,7 +22,7 @@ use Rattle.bp_matter.specs.ValidWords.{words_fit}
 use Rattle.bp_matter.specs.ValidBatches.{batch_fits}
 use Rattle.bp_matter.specs.Confirming.{may_hold}
 use Rattle.bp_matter.specs.declared.rows.State.TheVariants.{Uncalled, Confirmed}
-use Rattle.bp_matter.specs.declared.limits.TheConstants.{MAX_STAFF, MAX_FIELDS, MAX_DOCUMENTS, MAX_PAGES, MAX_PIXELS, MAX_BATCHES, MAX_PRODUCTIONS, MAX_BOX, MAX_NAME, MAX_DESCRIPTION, MAX_DESIGNATION, MAX_ID}
+use Rattle.bp_matter.specs.declared.limits.TheConstants.{MAX_STAFF, MAX_FIELDS, MAX_DOCUMENTS, MAX_PAGES, MAX_PIXELS, MAX_FREE_PIXELS, MAX_STRIP_BYTES, MAX_BATCHES, MAX_PRODUCTIONS, MAX_BOX, MAX_NAME, MAX_DESCRIPTION, MAX_DESIGNATION, MAX_ID}
 
 -- ---- limits
 
@@ -42,8 +42,24 @@ most_documents = refl
 most_pages : is_most MAX_PAGES 20000 ≡ true
 most_pages = refl
 
-most_pixels : is_most MAX_PIXELS 4000000000 ≡ true
+most_pixels : is_most MAX_PIXELS 200000000000 ≡ true
 most_pixels = refl
+
+most_free_pixels : is_most MAX_FREE_PIXELS 4000000000 ≡ true
+most_free_pixels = refl
+
+most_strip_bytes : is_most MAX_STRIP_BYTES 2000000000 ≡ true
+most_strip_bytes = refl
+
+-- 2,000,000,000 bytes of strips, and one more: of more than 4,000,000,000 pixels alone it is too many
+strips_of_many_pixels : strips_fit 4000000001 2000000000 ≡ true
+strips_of_many_pixels = refl
+
+one_byte_too_many : strips_fit 4000000001 2000000001 ≡ false
+one_byte_too_many = refl
+
+strips_of_free_pixels : strips_fit 4000000000 2000000001 ≡ true
+strips_of_free_pixels = refl
 
 most_batches : is_most MAX_BATCHES 1000 ≡ true
 most_batches = refl

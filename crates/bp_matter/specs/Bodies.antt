@@ -1,5 +1,5 @@
 -- The bodies of kept rows: how each row of the tables is written. Each begins with the version,
--- which is 1.
+-- which is 1; that of a production tells its ink.
 use Rattle.std.specs.Prelude.{ℕ, List, ◌++◌}
 use Rattle.bp_matter.specs.declared.rows.StaffRow.{StaffRow}
 use Rattle.bp_matter.specs.declared.rows.FieldRow.{FieldRow}
@@ -21,7 +21,7 @@ use Rattle.bp_matter.specs.declared.rows.ProductionRow.{ProductionRow}
 use Rattle.bp_matter.specs.declared.rows.BatchRow.{BatchRow}
 use Rattle.bp_text.specs.declared.words.Word.{Word}
 use Rattle.bp_matter.specs.declared.rows.PageWords.{PageWords}
-use Rattle.bp_matter.specs.Fields.{byte, word, long, text, list, flag, optional, role_number, basis, treatment, state, rect, span, prefix}
+use Rattle.bp_matter.specs.Fields.{byte, word, long, text, list, flag, optional, role_number, basis, ink_number, treatment, state, rect, span, prefix}
 
 -- parts that several bodies share
 abbrev pub entry_part : Entry → List ℕ
@@ -105,7 +105,8 @@ prefix_body row = byte 1 ++ (byte row.prefix.width ++ (long row.next ++ text row
 -- the body of a production
 abbrev pub production_body : ProductionRow → List ℕ
 production_body row =
-    byte 1 ++ (request_part row.production.request ++ list item_part row.production.items)
+    byte (ink_number row.production.ink)
+    ++ (request_part row.production.request ++ list item_part row.production.items)
 
 -- the body of a batch
 abbrev pub batch_body : BatchRow → List ℕ

@@ -3,6 +3,8 @@ use Rattle.std.specs.Prelude.{ℕ, Bool, true, false, List, [], ◌∷◌, ◌++
 use Rattle.std.specs.Int.{w32, w64, to_le_bytes}
 use Rattle.std.specs.List.{flat_map}
 use Rattle.bp_core.specs.declared.rectangle.Rect.{Rect}
+use Rattle.bp_core.specs.declared.stamps.Ink.{Ink}
+use Rattle.bp_core.specs.declared.stamps.Ink.TheVariants.{Black, Lettered}
 use Rattle.bp_core.specs.declared.review.Basis.{Basis}
 use Rattle.bp_core.specs.declared.review.Basis.TheVariants.{Ac, Wp, Pi, Ts}
 use Rattle.bp_core.specs.declared.review.Role.{Role}
@@ -85,6 +87,11 @@ basis_number Ts = 3
 -- by RFC 3629 for the bytes of a text
 abbrev pub basis : Basis → List ℕ
 basis held_for = byte (basis_number held_for)
+
+-- the number of an ink, which is the version of the body of its production
+abbrev pub ink_number : Ink → ℕ
+ink_number Black = 1
+ink_number Lettered = 2
 
 -- PI and TS have none: no whole document is withheld on them
 -- by RFC 3629 for the bytes of a text

@@ -9,7 +9,6 @@ use Rattle.bp_rows.specs.Limits.{sides_are_allowed}
 use Rattle.bp_rows.specs.declared.resolution.Unit.{Unit as LengthUnit}
 use Rattle.bp_rows.specs.declared.resolution.Unit.TheVariants as units
 use Rattle.bp_t6.specs.Read.{StripReads}
-use Rattle.bp_t6.specs.SoFar.{AddedSoFar, HasAdded, HasRead, ReadSoFar}
 use Rattle.bp_t6.specs.Strips.{page_of as plain_image}
 use Rattle.bp_t6.specs.Written.{strip_of}
 use Rattle.bp_matter.specs.declared.kept_page.Frame.{Frame}
@@ -98,15 +97,3 @@ abbrev pub CodedAgain : ℕ → ℕ → List ℕ → Option (List ℕ) → Type 
 CodedAgain width height bytes None =
     (lines : List (List Bool)) → StripReads (bits_of High bytes) width height lines → ⊥
 CodedAgain width height bytes (Some written) = CodesOf width height bytes written
-
--- what is known after so many rows: they were read from the bytes, and added
-pub record CodingAgain (width : ℕ) (bytes : List ℕ) (row : ℕ) (reader : ReadSoFar)
-    (writer : AddedSoFar) : Type 0 where
-  pub lines : List (List Bool)
-  pub count : length lines ≡ row
-  pub bits : reader.bits ≡ bits_of High bytes
-  pub wide : reader.width ≡ width
-  pub fault : reader.fault ≡ None
-  pub read : HasRead reader lines
-  pub same : writer.width ≡ width
-  pub added : HasAdded writer lines

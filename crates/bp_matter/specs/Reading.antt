@@ -10,6 +10,8 @@ use Rattle.bp_core.specs.declared.review.Role.TheVariants.{Reviewer, Second, Lea
 use Rattle.bp_core.specs.declared.review.Treatment.{Treatment}
 use Rattle.bp_core.specs.declared.review.Treatment.TheVariants.{Produce, Redact, Withhold}
 use Rattle.bp_core.specs.declared.rectangle.Rect.{Rect}
+use Rattle.bp_core.specs.declared.stamps.Ink.{Ink}
+use Rattle.bp_core.specs.declared.stamps.Ink.TheVariants.{Black, Lettered}
 use Rattle.bp_bates.specs.declared.prefixes.Prefix.{Prefix}
 use Rattle.bp_bates.specs.declared.spans.Span.{Span}
 use Rattle.bp_rows.specs.Image.{Image}
@@ -122,6 +124,10 @@ abbrev pub role_of : ℕ → Option Role
 role_of n =
     if n == 0 then Some Reviewer else (if n == 1 then Some Second else (if n == 2 then Some Lead
     else (if n == 3 then Some Clerk else (if n == 4 then Some Receiver else None))))
+
+-- the ink of a byte
+abbrev pub ink_of : ℕ → Option Ink
+ink_of n = if n == 1 then Some Black else (if n == 2 then Some Lettered else None)
 
 -- the unit of a byte
 abbrev pub unit_of : ℕ → Option LengthUnit
@@ -440,16 +446,17 @@ prefix_row_at num bytes = do
     text.1,
   )
 
--- a production by number and body
+-- a production by number and body, whose version is its ink
 unfoldable pub production_at : ℕ → List ℕ → Read ProductionRow
 production_at num bytes = do
-  version ← value_of one_of bytes
-  request ← request_at version.1
+  ink ← value_of ink_of bytes
+  request ← request_at ink.1
   items ← list_at item_at request.1
   Some (
     record {
       num = num;
       production = record {
+        ink = ink.0;
         request = request.0;
         items = items.0;
         span = span_of items.0;

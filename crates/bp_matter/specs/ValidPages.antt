@@ -1,15 +1,17 @@
 -- The pages of a valid matter.
 use Rattle.std.specs.List.{list_all}
-use Rattle.std.specs.Prelude.{Bool, IsTrue, List, None, Option, Some, [], drop, false, length, nat_le, suc, true, zero, ℕ, ◌&&◌, ◌*◌, ◌+◌, ◌==◌, ◌∷◌}
+use Rattle.std.specs.Prelude.{Bool, IsTrue, List, None, Option, Some, [], drop, false, length, nat_le, suc, true, zero, ℕ, ◌&&◌, ◌||◌, ◌*◌, ◌+◌, ◌==◌, ◌∷◌}
 use Rattle.bp_core.specs.Rectangle.{lies_inside}
 use Rattle.bp_core.specs.Sorted.{ascends, find_key, two_keys}
+use Rattle.bp_rows.specs.Image.{Image}
 use Rattle.bp_rows.specs.Limits.{sides_are_imported}
 use Rattle.bp_core.specs.declared.rectangle.Rect.{Rect}
+use Rattle.bp_t6.specs.Written.{strip_of}
 use Rattle.bp_matter.specs.Written.{page_written}
 use Rattle.bp_matter.specs.Matter.{page_key}
 use Rattle.bp_matter.specs.declared.rows.DocRow.{DocRow}
 use Rattle.bp_matter.specs.declared.rows.PageRow.{PageRow}
-use Rattle.bp_matter.specs.declared.limits.TheConstants.{MAX_PAGES, MAX_PIXELS}
+use Rattle.bp_matter.specs.declared.limits.TheConstants.{MAX_FREE_PIXELS, MAX_PAGES, MAX_PIXELS, MAX_STRIP_BYTES}
 
 -- the next n rows have the keys from k on
 abbrev pub has_rows : {T : Type 0} → (T → ℕ) → ℕ → ℕ → List T → Bool
@@ -27,6 +29,19 @@ are_paged key (doc ∷ docs) rows =
 abbrev pub pixels_of : List PageRow → ℕ
 pixels_of [] = 0
 pixels_of (row ∷ rows) = row.image.width * row.image.height + pixels_of rows
+
+-- how many bytes the strip of a page has
+abbrev pub strip_size : Image → ℕ
+strip_size p = length (strip_of p)
+
+-- the bytes of the strips of all pages
+abbrev pub strip_bytes_of : List PageRow → ℕ
+strip_bytes_of [] = 0
+strip_bytes_of (row ∷ rows) = strip_size row.image + strip_bytes_of rows
+
+-- so many pixels may have strips of so many bytes
+abbrev pub strips_fit : ℕ → ℕ → Bool
+strips_fit pixels bytes = nat_le pixels MAX_FREE_PIXELS || nat_le bytes MAX_STRIP_BYTES
 
 -- the sides of a page that comes in
 abbrev pub page_fits : PageRow → Bool
@@ -47,5 +62,6 @@ pub record PageFacts (docs : List DocRow) (pages : List PageRow) : Type 0 where
   pub paged : IsTrue (are_paged page_key docs pages)
   pub few : IsTrue (nat_le (length pages) MAX_PAGES)
   pub pixels_few : IsTrue (nat_le (pixels_of pages) MAX_PIXELS)
+  pub strips_few : IsTrue (strips_fit (pixels_of pages) (strip_bytes_of pages))
   pub fit : IsTrue (list_all page_fits pages)
   pub written : IsTrue (list_all page_written pages)

@@ -1,7 +1,7 @@
 // What members of the staff ask for, and what is replied.
+use crate::kept_page::KeptPage;
 use crate::rows::{BoxList, Entry, HeldList, Production, Request, State};
 use bp_core::{Basis, DocNo, PageNo, Rect, Role, StaffNo, Text, Treatment};
-use bp_rows::Page;
 use bp_text::WordList;
 
 /// A call of a member of the staff.
@@ -107,7 +107,7 @@ pub enum Reply {
     /// The member of the staff who was added, or was there.
     Staff(StaffNo),
     Doc(DocView),
-    Image(Page),
+    Image(KeptPage),
     Words(WordList),
     Done,
     Produced(Production),

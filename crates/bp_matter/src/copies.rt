@@ -13,6 +13,7 @@ impl Production {
         ensures { IfOk result (λ production. production ≡ self.now) }
     {
         Ok(Production {
+            ink: self.ink,
             request: self.request.copy(alloc)?,
             items: copy_items(alloc, &self.items)?,
             span: self.span,

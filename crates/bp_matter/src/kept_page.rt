@@ -148,7 +148,9 @@ fn framed_strip(alloc: Global, page: &Page) -> Result<FramedStrip, OutOfMemory>
     ensures { IfOk result (λ kept. kept ≡ page.now) }
 {
     strip_law();
-    let strip = code_page(alloc, page)?;
+    let coded = code_page(alloc, page)?;
+    // Behind the coder's bytes there is room; what is kept has none to spare.
+    let strip = Bytes::from_vec(Vec::from_slice(alloc, coded.as_slice())?);
     let frame = Frame {
         width: page.width(),
         height: page.height(),

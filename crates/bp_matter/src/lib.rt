@@ -39,8 +39,9 @@ pub use kept_page::{Frame, KeptPage};
 pub use kept_tables::read_tables;
 pub use kinds::Kind;
 pub use limits::{
-    MAX_BATCHES, MAX_BOX, MAX_DESCRIPTION, MAX_DESIGNATION, MAX_DOCUMENTS, MAX_FIELDS, MAX_ID,
-    MAX_NAME, MAX_PAGES, MAX_PIXELS, MAX_PRODUCTIONS, MAX_STAFF,
+    MAX_BATCHES, MAX_BOX, MAX_DESCRIPTION, MAX_DESIGNATION, MAX_DOCUMENTS, MAX_FIELDS,
+    MAX_FREE_PIXELS, MAX_ID, MAX_NAME, MAX_PAGES, MAX_PIXELS, MAX_PRODUCTIONS, MAX_STAFF,
+    MAX_STRIP_BYTES,
 };
 pub use rows::{
     BatchList, BatchRow, BoxList, BoxRow, CallRow, CallShelves, DocBox, DocBoxShelves, DocEntry,

@@ -13,7 +13,13 @@ pub const MAX_DOCUMENTS: usize = 10_000;
 pub const MAX_PAGES: usize = 20_000;
 
 /// The most pixels of all pages.
-pub const MAX_PIXELS: u128 = 4_000_000_000;
+pub const MAX_PIXELS: u128 = 200_000_000_000;
+
+/// The most pixels of all pages for which their strips may have any length.
+pub const MAX_FREE_PIXELS: u128 = 4_000_000_000;
+
+/// The most bytes of the strips of all pages that have more pixels than that.
+pub const MAX_STRIP_BYTES: u128 = 2_000_000_000;
 
 /// The most batches.
 pub const MAX_BATCHES: usize = 1_000;

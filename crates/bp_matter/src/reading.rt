@@ -1,7 +1,7 @@
 // Reading the bodies of kept rows.
 ghost use Rattle.std.specs.Prelude.{◌≡◌, ◌<◌, ◌≤◌, ◌^◌, length};
 ghost use Rattle.bp_matter.specs.Written.{span_of, first_number, last_number};
-ghost use Rattle.bp_matter.specs.Reading.{Gives, u8_at, u32_at, u64_at, text_at, characters_at, value_of, one_of, flag_of, basis_of, treatment_of, state_at, state_of, role_of, bytes_at, many_at, list_at, value_there, optional_at, rect_at, span_at, prefix_at, entry_fields_at, box_rest_at, box_part_at, held_part_at, word_part_at, item_at, request_at, unit_of, image_at, staff_at, field_at, doc_at, page_at, call_at, box_at, held_at, entry_at, prefix_row_at, production_at, batch_at, words_at};
+ghost use Rattle.bp_matter.specs.Reading.{Gives, u8_at, u32_at, u64_at, text_at, characters_at, value_of, one_of, flag_of, basis_of, ink_of, treatment_of, state_at, state_of, role_of, bytes_at, many_at, list_at, value_there, optional_at, rect_at, span_at, prefix_at, entry_fields_at, box_rest_at, box_part_at, held_part_at, word_part_at, item_at, request_at, unit_of, image_at, staff_at, field_at, doc_at, page_at, call_at, box_at, held_at, entry_at, prefix_row_at, production_at, batch_at, words_at};
 
 use crate::kept_page::{Frame, KeptPage};
 use crate::parts::Part;
@@ -11,7 +11,9 @@ use crate::rows::{
     PageRow, PageWords, PrefixRow, Production, ProductionRow, Request, StaffRow, State,
 };
 use bp_bates::{Prefix, Span};
-use bp_core::{Basis, DocNo, ListOf, OutOfMemory, PageNo, Rect, Role, StaffNo, Text, Treatment};
+use bp_core::{
+    Basis, DocNo, Ink, ListOf, OutOfMemory, PageNo, Rect, Role, StaffNo, Text, Treatment,
+};
 use bp_rows::{Res, Unit};
 use bp_text::Word;
 use std::alloc::{AllocError, Global};
@@ -342,6 +344,17 @@ fn take_basis(bytes: &[u8]) -> Result<(Basis, &[u8]), ReadFault>
     }
 }
 
+fn take_ink(bytes: &[u8]) -> Result<(Ink, &[u8]), ReadFault>
+    ensures { Gives (λ x. (x.0, x.1.now)) result (value_of ink_of bytes.now) }
+{
+    let (byte, rest) = take_u8(bytes)?;
+    match byte {
+        1 => Ok((Ink::Black, rest)),
+        2 => Ok((Ink::Lettered, rest)),
+        _ => Err(ReadFault::Malformed),
+    }
+}
+
 fn take_digest(bytes: &[u8]) -> Result<([u8; 32], &[u8]), ReadFault>
     ensures { Gives (λ x. (x.0, x.1.now)) result (bytes_at 32 bytes.now) }
 {
@@ -576,11 +589,12 @@ pub(crate) fn take_production(
 ) -> Result<(ProductionRow, &[u8]), ReadFault>
     ensures { Gives (λ x. (x.0, x.1.now)) result (production_at num bytes.now) }
 {
-    let (_version, rest) = take_version(bytes)?;
+    let (ink, rest) = take_ink(bytes)?;
     let (request, rest) = take_request(alloc, rest)?;
     let (items, rest) = take_list(alloc, rest)?;
     let span = span_of(items.as_slice());
     let production = Production {
+        ink,
         request,
         items,
         span,

@@ -2,7 +2,8 @@
 use crate::kept_page::KeptPage;
 use bp_bates::{Prefix, Span};
 use bp_core::{
-    Basis, DocNo, Keyed, ListOf, PageNo, Rect, Role, StaffNo, Text, TextList, Treatment, two_keys,
+    Basis, DocNo, Ink, Keyed, ListOf, PageNo, Rect, Role, StaffNo, Text, TextList, Treatment,
+    two_keys,
 };
 use bp_shelves::{Shelved, Shelves};
 use bp_text::WordList;
@@ -177,8 +178,10 @@ pub struct Item {
     pub span: Span,
 }
 
+/// What a request gave when it was frozen: how its boxes are drawn, and its items with their numbers.
 #[derive(Debug, PartialEq, Eq, Drop)]
 pub struct Production {
+    pub ink: Ink,
     pub request: Request,
     pub items: ItemList,
     pub span: Span,

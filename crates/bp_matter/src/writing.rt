@@ -3,7 +3,7 @@ ghost use Rattle.std.specs.Prelude.{◌≡◌, ◌<◌, ◌^◌, ◌++◌, ◌&&
 ghost use Rattle.std.specs.Str.{all_scalars};
 ghost use Rattle.std.specs.List.{list_all, flat_map};
 ghost use Rattle.bp_matter.specs.Images.{strip, unit_number};
-ghost use Rattle.bp_matter.specs.Fields.{byte, word, long, text, list, flag, state, treatment, basis, rect, span, prefix, optional, role_number};
+ghost use Rattle.bp_matter.specs.Fields.{byte, word, long, text, list, flag, state, treatment, basis, rect, span, prefix, optional, ink_number, role_number};
 ghost use Rattle.bp_matter.specs.Written.{is_word, is_short, are_few, if_there, treatment_written, entry_fields_written, word_written, item_written, request_written, span_written, staff_written, field_written, doc_written, call_written, entry_written, prefix_written, production_written, batch_written, words_written};
 ghost use Rattle.bp_matter.specs.Bodies.{entry_part, box_rest, box_part, held_part, word_part, item_part, request_part, staff_body, field_body, doc_body, page_body, call_body, box_body, held_body, entry_body, prefix_body, production_body, batch_body, words_body, image_part};
 
@@ -14,7 +14,7 @@ use crate::rows::{
     PageRow, PageWords, PrefixRow, ProductionRow, Request, StaffRow, State,
 };
 use bp_bates::{Prefix, Span};
-use bp_core::{Basis, OutOfMemory, Rect, Role, Text, Treatment};
+use bp_core::{Basis, Ink, OutOfMemory, Rect, Role, Text, Treatment};
 use bp_rows::Unit;
 use bp_text::Word;
 
@@ -350,12 +350,22 @@ pub(crate) fn put_prefix_body(out: &mut Vec<u8>, row: &PrefixRow) -> Result<(), 
     put_text(out, &row.prefix.text)
 }
 
+// The version of the body of a production, which tells its ink.
+fn ink_number(of: Ink) -> u8
+    ensures { result ≡ ink_number of }
+{
+    match of {
+        Ink::Black => 1,
+        Ink::Lettered => 2,
+    }
+}
+
 // Adds the body of a production.
 pub(crate) fn put_production_body(out: &mut Vec<u8>, row: &ProductionRow) -> Result<(), OutOfMemory>
     requires { IsTrue (production_written row.now) }
     ensures { OnOk result (out.new.items ≡ out.old.items ++ production_body row.now) }
 {
-    put_u8(out, 1)?;
+    put_u8(out, ink_number(row.production.ink))?;
     put_request(out, &row.production.request)?;
     put_list(out, row.production.items.as_slice())
 }

@@ -1,12 +1,15 @@
 -- Worked examples of the definitions in specs/, each run by the check.
-use Rattle.std.proofs.Common.{◌≡◌, ℕ, zero, suc, ◌<◌, ◌||◌, ◌==◌, true, false, List, [], ◌∷◌, ◌++◌, map, replicate, Some, None, Result, Ok, Err, get_or, refl, sym, ap, subst, ◌∙◌, arith, if◌then◌else◌}
-use Rattle.std.specs.Prelude.{codes, encode_utf8_all, ◌≤◌, length, take, unwrap_or}
+use Rattle.std.proofs.Common.{◌≡◌, ℕ, zero, suc, ◌<◌, ◌||◌, ◌==◌, Bool, true, false, List, [], ◌∷◌, ◌++◌, map, replicate, Some, None, Result, Ok, Err, get_or, refl, sym, ap, subst, ◌∙◌, arith, if◌then◌else◌}
+use Rattle.std.specs.Prelude.{codes, encode_utf8_all, ◌≤◌, length, not, take, unwrap_or}
+use Rattle.std.specs.List.{range_with_len}
 use Rattle.std.specs.Fmt.{digits}
 use Rattle.bp_core.specs.declared.rectangle.Rect.{Rect}
 use Rattle.bp_core.specs.declared.review.Basis.TheVariants.{Ac, Wp, Pi}
 use Rattle.bp_core.specs.declared.review.Role.TheVariants.{Lead, Second}
 use Rattle.bp_core.specs.declared.review.Treatment.{Treatment}
 use Rattle.bp_core.specs.declared.review.Treatment.TheVariants.{Produce, Redact, Withhold}
+use Rattle.bp_core.specs.declared.stamps.Ink.{Ink}
+use Rattle.bp_core.specs.declared.stamps.Ink.TheVariants.{Black, Lettered}
 use Rattle.bp_core.specs.declared.rules.Rule.{Rule}
 use Rattle.bp_codes.specs.Glyphs.{glyph_rows}
 use Rattle.bp_rows.specs.Burned.{burned}
@@ -166,7 +169,7 @@ smith_valid = record {
   staff = record { numbered = refl; few = refl; lead_first = refl; digests_differ = refl; fit = refl; written = refl };
   fields = record { numbered = refl; few = refl; names_differ = refl; fit = refl; written = refl };
   docs = record { numbered = refl; few = refl; families = refl; fit = refl; written = refl };
-  pages = record { ascend = refl; paged = refl; few = refl; pixels_few = refl; fit = refl; written = refl };
+  pages = record { ascend = refl; paged = refl; few = refl; pixels_few = refl; strips_few = refl; fit = refl; written = refl };
   calls = record { ascend = refl; fit = refl; written = refl };
   boxes = record { ascend = refl; fit = refl; written = refl };
   held = record { ascend = refl; fit = refl; written = refl };
@@ -184,7 +187,7 @@ jones_valid = record {
   staff = smith_valid.staff;
   fields = smith_valid.fields;
   docs = record { numbered = refl; few = refl; families = refl; fit = refl; written = refl };
-  pages = record { ascend = refl; paged = refl; few = refl; pixels_few = refl; fit = refl; written = refl };
+  pages = record { ascend = refl; paged = refl; few = refl; pixels_few = refl; strips_few = refl; fit = refl; written = refl };
   calls = smith_valid.calls;
   boxes = record { ascend = refl; fit = refl; written = refl };
   held = smith_valid.held;
@@ -303,6 +306,7 @@ withheld = record {
 
 abbrev frozen : Production
 frozen = record {
+  ink = Lettered;
   request = asked;
   items = redacted ∷ withheld ∷ [];
   span = record { first = 1; last = 2 };
@@ -317,7 +321,7 @@ unfolding freeze_of lib.Utf8.encode
 frozen_in_jones = refl
 
 -- the page with its band
-page_sides : ((produced_page asked smith redacted 1).width ∷ (produced_page asked smith redacted 1).height ∷ []) ≡ (64 ∷ 64 ∷ [])
+page_sides : ((produced_page frozen smith redacted 1).width ∷ (produced_page frozen smith redacted 1).height ∷ []) ≡ (64 ∷ 64 ∷ [])
 unfolding produced_page
 page_sides = refl
 
@@ -326,14 +330,46 @@ unfolding slip_sheet
 sheet_sides = refl
 
 -- the box is black, and what is left of it isn't
-box_is_black : (pixel (produced_page asked smith redacted 1) 8 7 ∷ pixel (produced_page asked smith redacted 1) 8 8 ∷ pixel (produced_page asked smith redacted 1) 15 23 ∷ []) ≡ (false ∷ true ∷ true ∷ [])
+box_is_black : (pixel (produced_page frozen smith redacted 1) 8 7 ∷ pixel (produced_page frozen smith redacted 1) 8 8 ∷ pixel (produced_page frozen smith redacted 1) 15 23 ∷ []) ≡ (false ∷ true ∷ true ∷ [])
 unfolding produced_page
 box_is_black = refl
 
 -- the label ends in 1, whose glyph has one bit in its first row, where that of 0 and of 2 has three
-label_is_drawn : (pixel (produced_page asked smith redacted 1) 37 36 ∷ pixel (produced_page asked smith redacted 1) 37 39 ∷ pixel (produced_page asked smith redacted 1) 37 42 ∷ []) ≡ (false ∷ true ∷ false ∷ [])
+label_is_drawn : (pixel (produced_page frozen smith redacted 1) 37 36 ∷ pixel (produced_page frozen smith redacted 1) 37 39 ∷ pixel (produced_page frozen smith redacted 1) 37 42 ∷ []) ≡ (false ∷ true ∷ false ∷ [])
 unfolding produced_page glyph_rows
 label_is_drawn = refl
+
+-- ---- a box with room for the code of its ground, frozen before boxes were lettered and after: row 7
+-- of its page, the first of the letters
+
+abbrev page_shown : Matter
+page_shown = record empty {
+  docs = doc 1 1 1 [] ∷ [];
+  pages = scan 1 1 (white_image 64 40 (record { num = 200; den = 1 }) (record { num = 200; den = 1 }) Inch) ∷ [];
+}
+
+abbrev large_box : Item
+large_box = record redacted {
+  boxes = record { num = 1; page = record { 0 = 1 }; rect = record { left = 4; top = 4; width = 39; height = 27 }; basis = Ac } ∷ [];
+  held = [];
+}
+
+abbrev row_seven : Ink → List Bool
+row_seven ink =
+    let f : Production = record frozen { ink = ink; items = large_box ∷ [] } in
+    map (pixel (produced_page f page_shown large_box 1) 7) (range_with_len 0 64)
+
+abbrev runs : Bool → List ℕ → List Bool
+runs colour [] = []
+runs colour (n ∷ ns) = replicate n colour ++ runs (not colour) ns
+
+frozen_before : row_seven Black ≡ runs false (4 ∷ 39 ∷ 21 ∷ [])
+unfolding produced_page
+frozen_before = refl
+
+frozen_after : row_seven Lettered ≡ runs false (4 ∷ 6 ∷ 9 ∷ 9 ∷ 9 ∷ 6 ∷ 21 ∷ [])
+unfolding produced_page glyph_rows
+frozen_after = refl
 
 page_agrees : PageAgrees smith jones redacted 1
 page_agrees = record {

@@ -1,24 +1,21 @@
 -- The file of a path among the files of a volume.
-use Rattle.std.proofs.Common.{◌≡◌, ℕ, ◌+◌, ◌<◌, ◌≤◌, Bool, true, false, cond, List, [], ◌∷◌, ◌++◌, length, Option, Some, None, Result, refl, sym, ap, ◌∙◌, subst, inl, inr}
+use Rattle.std.proofs.Common.{◌≡◌, ℕ, ◌+◌, ◌<◌, ◌≤◌, Bool, true, false, cond, List, [], ◌∷◌, ◌++◌, append-nil, drop, get_or, length, map, Option, Some, None, Result, refl, sym, ap, ◌∙◌, subst, inl, inr}
 use Rattle.std.specs.List.{find}
 use Rattle.std.specs.Prelude.{IfOk}
 use Rattle.std.specs.Str.{bytes_eq}
 use Rattle.std.proofs.lemmas.Bool.{cases_Bool}
+use Rattle.std.proofs.lemmas.List.{at_drop_all, at_drop_more}
 use Rattle.bp_outside.specs.Folder.{file}
 use Rattle.bp_outside.specs.declared.files.FileRow.{FileRow}
 use Rattle.bp_matter.specs.LookUps.{of_row}
 use Rattle.bp_matter.specs.Matter.{Matter}
-use Rattle.bp_matter.specs.declared.rows.Item.{Item}
 use Rattle.bp_matter.specs.declared.rows.Production.{Production}
-use Rattle.bp_matter.specs.declared.rows.Request.{Request}
-use Rattle.bp_freeze.specs.Seeing.{page_count}
-use Rattle.bp_press.specs.Contents.{part_of}
-use Rattle.bp_press.specs.Files.{item_files}
-use Rattle.bp_press.specs.Manifest.{manifest_of}
+use Rattle.bp_press.specs.Manifest.{manifest_line, manifest_of}
 use Rattle.bp_press.specs.Paths.{manifest_path}
-use Rattle.bp_press.specs.Pressing.{CanAllBePlaced, files_from, image_at, images_after, placed_at}
 use Rattle.bp_press.specs.Volume.{file_at, files_before, files_of, placed_items, volume_of}
-use Rattle.bp_press.proofs.ItemLemmas.{images_more, images_none}
+use Rattle.bp_press.specs.VolumeFiles.{IsListed, row_of}
+use Rattle.bp_press.specs.declared.volume_files.VolumeFile.{VolumeFile}
+use Rattle.bp_press.proofs.GatherLemmas.{onto}
 
 -- ---- among two lists
 
@@ -59,45 +56,49 @@ pub hit : (path own bytes : List ℕ) (row : FileRow) → own ≡ row.path → b
 hit path own bytes row is here made =
     ap Some made ∙ sym (ap (λ (b : Bool). of_row (λ (row : FileRow). row.bytes) (cond b (Some row) None)) (sym (ap (λ p. bytes_eq p path) is) ∙ here))
 
--- ---- the images of an item
+-- ---- the files of a list
 
-pub image_next : (path : List ℕ) (q : Request) (m : Matter) (item : Item) (place page : ℕ) (all : Option (List ℕ)) → page < page_count m item.doc.0 → None ≡ file_at path (image_at q m item place page ∷ [])
-    → file_at path (images_after q m item place page) ≡ all → file_at path (images_after q m item place (page + 1)) ≡ all
-image_next path q m item place page all l none so_far =
-    later path (image_at q m item place page ∷ []) (images_after q m item place (page + 1)) none ∙ ap (file_at path) (sym (images_more q m item place page l)) ∙ so_far
+-- what is found from one of them on is what is found among all
+pub record AreSought {T : Type 0} (path : List ℕ) (row : T → FileRow) (all : List T) (k : ℕ) : Type 0 where
+  pub so_far : file_at path (map row (drop k all)) ≡ file_at path (map row all)
 
-pub image_here : (path : List ℕ) (q : Request) (m : Matter) (item : Item) (place page : ℕ) (all : Option (List ℕ)) (bytes : List ℕ) → page < page_count m item.doc.0
-    → Some bytes ≡ file_at path (image_at q m item place page ∷ []) → file_at path (images_after q m item place page) ≡ all → Some bytes ≡ all
-image_here path q m item place page all bytes l found so_far =
-    earlier path (image_at q m item place page ∷ []) (images_after q m item place (page + 1)) bytes found ∙ ap (file_at path) (sym (images_more q m item place page l)) ∙ so_far
+pub sought_begin : {T : Type 0} (path : List ℕ) (row : T → FileRow) (all : List T) → AreSought path row all 0
+sought_begin path row all = record { so_far = refl }
 
-pub image_end : (path : List ℕ) (q : Request) (m : Matter) (item : Item) (place page : ℕ) (all : Option (List ℕ)) → page_count m item.doc.0 ≤ page
-    → file_at path (images_after q m item place page) ≡ all → None ≡ all
-image_end path q m item place page all l so_far = ap (file_at path) (sym (images_none q m item place page l)) ∙ so_far
+pub sought_next : {T : Type 0} (path : List ℕ) (row : T → FileRow) (all : List T) (k : ℕ) (d : T) (o : Option (List ℕ)) → k < length all
+    → o ≡ None → o ≡ file_at path (row (get_or all k d) ∷ []) → AreSought path row all k → AreSought path row all (k + 1)
+sought_next path row all k d o less is found h = record {
+  so_far = later path (row (get_or all k d) ∷ []) (map row (drop (k + 1) all)) (sym is ∙ found) ∙ sym (ap (file_at path) (at_drop_more (map row) all k d less)) ∙ h.so_far;
+}
 
--- ---- the items
+pub sought_here : {T : Type 0} (path : List ℕ) (row : T → FileRow) (all : List T) (k : ℕ) (d : T) (o : Option (List ℕ)) (bytes : List ℕ) → k < length all
+    → o ≡ Some bytes → o ≡ file_at path (row (get_or all k d) ∷ []) → AreSought path row all k → Some bytes ≡ file_at path (map row all)
+sought_here path row all k d o bytes less is found h =
+    earlier path (row (get_or all k d) ∷ []) (map row (drop (k + 1) all)) bytes (sym is ∙ found) ∙ sym (ap (file_at path) (at_drop_more (map row) all k d less)) ∙ h.so_far
 
--- what is found among the items that are left is what is found among all
-pub record AreSought (path : List ℕ) (q : Request) (m : Matter) (all : List Item) (place : ℕ) (rest : List Item) : Type 0 where
-  pub so_far : file_at path (files_from q m place rest) ≡ file_at path (files_from q m 0 all)
-  pub fit : CanAllBePlaced q m place rest
+pub sought_end : {T : Type 0} (path : List ℕ) (row : T → FileRow) (all : List T) (k : ℕ) → length all ≤ k → AreSought path row all k → None ≡ file_at path (map row all)
+sought_end path row all k past h = sym (ap (file_at path) (at_drop_all (map row) all k past)) ∙ h.so_far
 
-pub sought_next : (path : List ℕ) (q : Request) (m : Matter) (all : List Item) (place next : ℕ) (rest : List Item) (item : Item) (others : List Item) (o : Option (List ℕ)) → rest ≡ item ∷ others
-    → next ≡ place + length (part_of q m item).content.images → o ≡ None → o ≡ file_at path (item_files q (placed_at q m item place)) → AreSought path q m all place rest → AreSought path q m all next others
-sought_next path q m all place next rest item others o e n is found h =
-    let none = sym is ∙ found in
-    let here = subst (λ (r : List Item). AreSought path q m all place r) e h in
-    subst (λ k. AreSought path q m all k others) (sym n)
-    (record {
-      so_far = later path (item_files q (placed_at q m item place)) (files_from q m (place + length (part_of q m item).content.images) others) none ∙ here.so_far;
-      fit = here.fit.1.1;
-    })
+-- ---- the lines of the manifest
 
-pub sought_here : (path : List ℕ) (q : Request) (m : Matter) (all : List Item) (place : ℕ) (rest : List Item) (item : Item) (others : List Item) (o : Option (List ℕ)) (bytes : List ℕ) → rest ≡ item ∷ others
-    → o ≡ Some bytes → o ≡ file_at path (item_files q (placed_at q m item place)) → AreSought path q m all place rest → Some bytes ≡ file_at path (files_from q m 0 all)
-sought_here path q m all place rest item others o bytes e is found h =
-    let here = subst (λ (r : List Item). AreSought path q m all place r) e h in
-    earlier path (item_files q (placed_at q m item place)) (files_from q m (place + length (part_of q m item).content.images) others) bytes (sym is ∙ found) ∙ here.so_far
+-- the lines so far, with those of the files that are left, are all
+pub record AreLinesFrom {T : Type 0} (row : T → FileRow) (all : List T) (k : ℕ) (lines : List ℕ) : Type 0 where
+  pub so_far : lines ++ manifest_of (map row (drop k all)) ≡ manifest_of (map row all)
+
+pub lines_begin : {T : Type 0} (row : T → FileRow) (all : List T) (lines : List ℕ) → lines ≡ [] → AreLinesFrom row all 0 lines
+lines_begin row all lines none = record { so_far = ap (λ l. l ++ manifest_of (map row all)) none }
+
+pub lines_turn : {T : Type 0} (row : T → FileRow) (all : List T) (k : ℕ) (d : T) (lines more : List ℕ) → k < length all
+    → AreLinesFrom row all k lines → more ≡ lines ++ manifest_line (row (get_or all k d)) → AreLinesFrom row all (k + 1) more
+lines_turn row all k d lines more less h grown = record {
+  so_far =
+      onto lines more (manifest_line (row (get_or all k d))) (manifest_of (map row (drop (k + 1) all))) (manifest_of (map row all)) grown
+      (sym (ap (λ (rest : List FileRow). lines ++ manifest_of rest) (at_drop_more (map row) all k d less)) ∙ h.so_far);
+}
+
+pub lines_end : {T : Type 0} (row : T → FileRow) (all : List T) (k : ℕ) (lines : List ℕ) → length all ≤ k → AreLinesFrom row all k lines → lines ≡ manifest_of (map row all)
+lines_end row all k lines past h =
+    sym (append-nil lines) ∙ sym (ap (λ (rest : List FileRow). lines ++ manifest_of rest) (at_drop_all (map row) all k past)) ∙ h.so_far
 
 -- ---- the whole volume
 
@@ -105,11 +106,17 @@ whole : (f : Production) (m : Matter) → files_before f (placed_items f m) ++ f
 unfolding volume_of files_of
 whole f m = refl
 
-pub volume_here : (path : List ℕ) (f : Production) (m : Matter) (bytes : List ℕ) → Some bytes ≡ file_at path (files_before f (placed_items f m)) → Some bytes ≡ file_at path (volume_of f m)
-volume_here path f m bytes found =
-    earlier path (files_before f (placed_items f m)) (file (manifest_path f.request) (manifest_of (files_before f (placed_items f m))) ∷ []) bytes found ∙ ap (file_at path) (whole f m)
+pub listed_here : (path : List ℕ) (f : Production) (m : Matter) (list lent : List VolumeFile) (bytes : List ℕ) → lent ≡ list → IsListed f m list (files_before f (placed_items f m))
+    → Some bytes ≡ file_at path (map (row_of f m) lent) → Some bytes ≡ file_at path (volume_of f m)
+listed_here path f m list lent bytes same h found =
+    earlier path (files_before f (placed_items f m)) (file (manifest_path f.request) (manifest_of (files_before f (placed_items f m))) ∷ []) bytes
+    (found ∙ ap (file_at path) (ap (map (row_of f m)) same ∙ h.files)) ∙ ap (file_at path) (whole f m)
 
-pub volume_later : (path : List ℕ) (f : Production) (m : Matter) (found : Option (List ℕ)) → None ≡ file_at path (files_before f (placed_items f m))
-    → found ≡ file_at path (file (manifest_path f.request) (manifest_of (files_before f (placed_items f m))) ∷ []) → found ≡ file_at path (volume_of f m)
-volume_later path f m found none is =
-    is ∙ later path (files_before f (placed_items f m)) (file (manifest_path f.request) (manifest_of (files_before f (placed_items f m))) ∷ []) none ∙ ap (file_at path) (whole f m)
+pub listed_later : (path : List ℕ) (f : Production) (m : Matter) (list lent again : List VolumeFile) → lent ≡ list → again ≡ list → IsListed f m list (files_before f (placed_items f m))
+    → None ≡ file_at path (map (row_of f m) lent)
+    → file_at path (file (manifest_path f.request) (manifest_of (map (row_of f m) again)) ∷ []) ≡ file_at path (volume_of f m)
+listed_later path f m list lent again same twice h none =
+    let rows = files_before f (placed_items f m) in
+    ap (λ (files : List FileRow). file_at path (file (manifest_path f.request) (manifest_of files) ∷ [])) (ap (map (row_of f m)) twice ∙ h.files)
+    ∙ later path rows (file (manifest_path f.request) (manifest_of rows) ∷ []) (none ∙ ap (file_at path) (ap (map (row_of f m)) same ∙ h.files))
+    ∙ ap (file_at path) (whole f m)

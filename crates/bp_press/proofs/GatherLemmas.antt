@@ -5,7 +5,6 @@ use Rattle.bp_load.specs.declared.opt.OptLine.{OptLine}
 use Rattle.bp_matter.specs.Matter.{Matter}
 use Rattle.bp_matter.specs.declared.rows.Item.{Item}
 use Rattle.bp_matter.specs.declared.rows.Production.{Production}
-use Rattle.bp_matter.specs.declared.rows.Request.{Request}
 use Rattle.bp_press.specs.Contents.{part_of}
 use Rattle.bp_press.specs.Files.{placed}
 use Rattle.bp_press.specs.LoadFiles.{dat_row, opt_lines}
@@ -27,50 +26,50 @@ line_step line page count before after all x l is grown so_far =
     (ap (λ y. before ++ y ∷ map line (range_with_len (page + 1) (count - (page + 1)))) is ∙ sym (ap (λ n. before ++ map line (range_with_len page n)) many) ∙ so_far)
 
 -- an item has as many labels as images
-pub labels_counted : (q : Request) (m : Matter) (i : Item) (count : ℕ) → CanBePlaced q m i → count ≡ length (part_of q m i).content.images → AreLabels q i.span.first count
-labels_counted q m i count fit is = subst (AreLabels q i.span.first) (sym (is ∙ image_count-part q m i)) fit.labels
+pub labels_counted : (f : Production) (m : Matter) (i : Item) (count : ℕ) → CanBePlaced f.request m i → count ≡ length (part_of f m i).content.images → AreLabels f.request i.span.first count
+labels_counted f m i count fit is = subst (AreLabels f.request i.span.first) (sym (is ∙ image_count-part f m i)) fit.labels
 
 -- ---- the lines of the OPT
 
 -- the lines of items from a place on
-abbrev pub lines_from : Request → Matter → ℕ → List Item → List OptLine
-lines_from q m place items = flat_map (opt_lines q) (placed place (map (part_of q m) items))
+abbrev pub lines_from : Production → Matter → ℕ → List Item → List OptLine
+lines_from f m place items = flat_map (opt_lines f.request) (placed place (map (part_of f m) items))
 
 -- what holds where the items of rest are still to come
-pub record AreLinesAfter (q : Request) (m : Matter) (all : List Item) (place : ℕ) (rest : List Item) (lines : List OptLine) : Type 0 where
-  pub so_far : lines ++ lines_from q m place rest ≡ lines_from q m 0 all
-  pub fit : CanAllBePlaced q m place rest
+pub record AreLinesAfter (f : Production) (m : Matter) (all : List Item) (place : ℕ) (rest : List Item) (lines : List OptLine) : Type 0 where
+  pub so_far : lines ++ lines_from f m place rest ≡ lines_from f m 0 all
+  pub fit : CanAllBePlaced f m place rest
 
-pub lines_turn : (q : Request) (m : Matter) (all : List Item) (place next : ℕ) (rest : List Item) (item : Item) (others : List Item) (lines more : List OptLine)
-    → rest ≡ item ∷ others → next ≡ place + length (part_of q m item).content.images → AreLinesAfter q m all place rest lines → more ≡ lines ++ opt_lines q (placed_at q m item place)
-    → AreLinesAfter q m all next others more
-lines_turn q m all place next rest item others lines more e n h grown =
-    let here = subst (λ (r : List Item). AreLinesAfter q m all place r lines) e h in
-    subst (λ k. AreLinesAfter q m all k others more) (sym n)
+pub lines_turn : (f : Production) (m : Matter) (all : List Item) (place next : ℕ) (rest : List Item) (item : Item) (others : List Item) (lines more : List OptLine)
+    → rest ≡ item ∷ others → next ≡ place + length (part_of f m item).content.images → AreLinesAfter f m all place rest lines → more ≡ lines ++ opt_lines f.request (placed_at f m item place)
+    → AreLinesAfter f m all next others more
+lines_turn f m all place next rest item others lines more e n h grown =
+    let here = subst (λ (r : List Item). AreLinesAfter f m all place r lines) e h in
+    subst (λ k. AreLinesAfter f m all k others more) (sym n)
     (record {
-      so_far = onto lines more (opt_lines q (placed_at q m item place)) (lines_from q m (place + length (part_of q m item).content.images) others) (lines_from q m 0 all) grown here.so_far;
+      so_far = onto lines more (opt_lines f.request (placed_at f m item place)) (lines_from f m (place + length (part_of f m item).content.images) others) (lines_from f m 0 all) grown here.so_far;
       fit = here.fit.1.1;
     })
 
 -- ---- the rows of the DAT
 
 abbrev pub rows_from : Production → Matter → ℕ → List Item → List (List (List ℕ))
-rows_from f m place items = map (dat_row f) (placed place (map (part_of f.request m) items))
+rows_from f m place items = map (dat_row f) (placed place (map (part_of f m) items))
 
 pub record AreRowsAfter (f : Production) (m : Matter) (place : ℕ) (rest : List Item) (rows : List (List (List ℕ))) : Type 0 where
   pub so_far : rows ++ rows_from f m place rest ≡ rows_from f m 0 f.items
-  pub fit : CanAllBePlaced f.request m place rest
+  pub fit : CanAllBePlaced f m place rest
   pub listed : All (CanBeListed f) rest
   pub families : All (IsInFamily (length m.docs)) rest
 
 pub rows_turn : (f : Production) (m : Matter) (place next : ℕ) (rest : List Item) (item : Item) (others : List Item) (rows more : List (List (List ℕ)))
-    → rest ≡ item ∷ others → next ≡ place + length (part_of f.request m item).content.images → AreRowsAfter f m place rest rows → more ≡ rows ++ dat_row f (placed_at f.request m item place) ∷ []
+    → rest ≡ item ∷ others → next ≡ place + length (part_of f m item).content.images → AreRowsAfter f m place rest rows → more ≡ rows ++ dat_row f (placed_at f m item place) ∷ []
     → AreRowsAfter f m next others more
 rows_turn f m place next rest item others rows more e n h grown =
     let here = subst (λ (r : List Item). AreRowsAfter f m place r rows) e h in
     subst (λ k. AreRowsAfter f m k others more) (sym n)
     (record {
-      so_far = onto rows more (dat_row f (placed_at f.request m item place) ∷ []) (rows_from f m (place + length (part_of f.request m item).content.images) others) (rows_from f m 0 f.items) grown here.so_far;
+      so_far = onto rows more (dat_row f (placed_at f m item place) ∷ []) (rows_from f m (place + length (part_of f m item).content.images) others) (rows_from f m 0 f.items) grown here.so_far;
       fit = here.fit.1.1;
       listed = all-others (CanBeListed f) rest others item e h.listed;
       families = all-others (IsInFamily (length m.docs)) rest others item e h.families;

@@ -132,9 +132,9 @@ blank_cells : (names : List (List ℕ)) → list_all is_cell (map (λ name. []) 
 blank_cells [] = refl
 blank_cells (name ∷ names) = blank_cells names
 
-pub content_cells : (q : Request) (m : Matter) (i : Item) → ItemStands m i → (ground : Option Basis) → list_all is_cell (content_by q m i ground).values ≡ true
-content_cells q m i stands None = shown_cells m i stands q.fields
-content_cells q m i stands (Some basis) = blank_cells q.fields
+pub content_cells : (f : Production) (m : Matter) (i : Item) → ItemStands m i → (ground : Option Basis) → list_all is_cell (content_by f m i ground).values ≡ true
+content_cells f m i stands None = shown_cells m i stands f.request.fields
+content_cells f m i stands (Some basis) = blank_cells f.request.fields
 
 -- ---- the DAT
 

@@ -36,35 +36,35 @@ use Rattle.bp_press.proofs.PlacedLemmas.{CountFits, count_fits, image_count-part
 few_labels : (m : Matter) (i : Item) → CountFits m i → label_count i < 2 ^ 64
 few_labels m i fits = omega (arith, fits.span, fits.few)
 
-row_cells : (f : Production) → KeptNumbers f → RequestWrites f.request → (m : Matter) (i : Item) (place : ℕ) → ItemStands m i → CountFits m i → list_all is_cell (dat_row f (placed_at f.request m i place)) ≡ true
+row_cells : (f : Production) → KeptNumbers f → RequestWrites f.request → (m : Matter) (i : Item) (place : ℕ) → ItemStands m i → CountFits m i → list_all is_cell (dat_row f (placed_at f m i place)) ≡ true
 row_cells f numbers writes m i place stands fits =
-    all-append is_cell (own_values f (placed_at f.request m i place)) (part_of f.request m i).content.values
-    (own_cells f numbers writes m (placed_at f.request m i place) stands (few_labels m i fits)) (content_cells f.request m i stands (ground_of i.treatment))
+    all-append is_cell (own_values f (placed_at f m i place)) (part_of f m i).content.values
+    (own_cells f numbers writes m (placed_at f m i place) stands (few_labels m i fits)) (content_cells f m i stands (ground_of i.treatment))
 
 rows_cells : (f : Production) → KeptNumbers f → RequestWrites f.request → (m : Matter) (place : ℕ) (items : List Item) → All (ItemStands m) items → All (CountFits m) items
-    → list_all (list_all is_cell) (map (dat_row f) (placed place (map (part_of f.request m) items))) ≡ true
+    → list_all (list_all is_cell) (map (dat_row f) (placed place (map (part_of f m) items))) ≡ true
 rows_cells f numbers writes m place [] stand fit = refl
 rows_cells f numbers writes m place (i ∷ items) stand fit =
     and_from _ _ (row_cells f numbers writes m i place (stand 0 i (omega arith)) (fit 0 i (omega arith)))
-    (rows_cells f numbers writes m (place + length (part_of f.request m i).content.images) items (λ k d l. stand (suc k) d (omega arith)) (λ k d l. fit (suc k) d (omega arith)))
+    (rows_cells f numbers writes m (place + length (part_of f m i).content.images) items (λ k d l. stand (suc k) d (omega arith)) (λ k d l. fit (suc k) d (omega arith)))
 
 counted_map : (f : List ℕ → List ℕ) (xs : List (List ℕ)) → length (map f xs) ≡ length xs
 counted_map f [] = refl
 counted_map f (x ∷ xs) = ap suc (counted_map f xs)
 
 -- as many values as chosen fields
-values_counted : (q : Request) (m : Matter) (i : Item) (ground : Option Basis) → length (content_by q m i ground).values ≡ length q.fields
-values_counted q m i None = counted_map (value_shown m i) q.fields
-values_counted q m i (Some basis) = counted_map (λ name. []) q.fields
+values_counted : (f : Production) (m : Matter) (i : Item) (ground : Option Basis) → length (content_by f m i ground).values ≡ length f.request.fields
+values_counted f m i None = counted_map (value_shown m i) f.request.fields
+values_counted f m i (Some basis) = counted_map (λ name. []) f.request.fields
 
-row_even : (f : Production) (m : Matter) (i : Item) (place : ℕ) → eqb (length (dat_row f (placed_at f.request m i place))) (length (columns ++ f.request.fields)) ≡ true
+row_even : (f : Production) (m : Matter) (i : Item) (place : ℕ) → eqb (length (dat_row f (placed_at f m i place))) (length (columns ++ f.request.fields)) ≡ true
 row_even f m i place =
-    eq-eqb (length (dat_row f (placed_at f.request m i place))) (length (columns ++ f.request.fields))
-    (length-append (own_values f (placed_at f.request m i place)) (part_of f.request m i).content.values ∙ ap (λ n. 8 + n) (values_counted f.request m i (ground_of i.treatment)) ∙ sym (length-append columns f.request.fields))
+    eq-eqb (length (dat_row f (placed_at f m i place))) (length (columns ++ f.request.fields))
+    (length-append (own_values f (placed_at f m i place)) (part_of f m i).content.values ∙ ap (λ n. 8 + n) (values_counted f m i (ground_of i.treatment)) ∙ sym (length-append columns f.request.fields))
 
-rows_even : (f : Production) (m : Matter) (place : ℕ) (items : List Item) → list_all (λ row. eqb (length row) (length (columns ++ f.request.fields))) (map (dat_row f) (placed place (map (part_of f.request m) items))) ≡ true
+rows_even : (f : Production) (m : Matter) (place : ℕ) (items : List Item) → list_all (λ row. eqb (length row) (length (columns ++ f.request.fields))) (map (dat_row f) (placed place (map (part_of f m) items))) ≡ true
 rows_even f m place [] = refl
-rows_even f m place (i ∷ items) = and_from _ _ (row_even f m i place) (rows_even f m (place + length (part_of f.request m i).content.images) items)
+rows_even f m place (i ∷ items) = and_from _ _ (row_even f m i place) (rows_even f m (place + length (part_of f m i).content.images) items)
 
 pub dat-even : (f : Production) (m : Matter) → is_even (dat_table f (placed_items f m)) ≡ true
 dat-even f m = rows_even f m 0 f.items
@@ -137,13 +137,13 @@ lines_written f numbers writes p few from zero = refl
 lines_written f numbers writes p few from (suc n) = and_from _ _ (line_written f numbers writes p few from) (lines_written f numbers writes p few (from + 1) n)
 
 all_written : (f : Production) → KeptNumbers f → RequestWrites f.request → (m : Matter) (place : ℕ) (items : List Item) → All (CountFits m) items
-    → are_opt_lines (flat_map (opt_lines f.request) (placed place (map (part_of f.request m) items))) ≡ true
+    → are_opt_lines (flat_map (opt_lines f.request) (placed place (map (part_of f m) items))) ≡ true
 all_written f numbers writes m place [] fit = refl
 all_written f numbers writes m place (i ∷ items) fit =
-    let p : Placed = placed_at f.request m i place in
+    let p : Placed = placed_at f m i place in
     let one = fit 0 i (omega arith) in
     all-append is_opt_line (opt_lines f.request p) _
-    (lines_written f numbers writes p (omega (arith, one.few, image_count-part f.request m i)) 0 (length p.content.images))
+    (lines_written f numbers writes p (omega (arith, one.few, image_count-part f m i)) 0 (length p.content.images))
     (all_written f numbers writes m (place + length p.content.images) items (λ k d l. fit (suc k) d (omega arith)))
 
 pub opt-writable : (m : Matter) → IsValid m → (f : Production) → Keeps m f → are_opt_lines (flat_map (opt_lines f.request) (placed_items f m)) ≡ true

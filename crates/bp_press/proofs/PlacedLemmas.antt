@@ -18,7 +18,6 @@ use Rattle.bp_matter.specs.Treatments.{is_redact}
 use Rattle.bp_matter.specs.ValidItems.{has_marks, is_logged, item_texts_fit, numbers_due, optional_fits}
 use Rattle.bp_matter.specs.declared.rows.Item.{Item}
 use Rattle.bp_matter.specs.declared.rows.Production.{Production}
-use Rattle.bp_matter.specs.declared.rows.Request.{Request}
 use Rattle.bp_freeze.specs.Keeping.{Keeps}
 use Rattle.bp_freeze.specs.Log.{CanBeLogged, entry_stands, label_in, span_fits}
 use Rattle.bp_freeze.specs.Seeing.{page_count}
@@ -92,30 +91,30 @@ can_be_placed m valid f numbers i lies stands sound =
 
 -- ---- all items
 
-images_counted : (q : Request) (m : Matter) (i : Item) (ground : Option Basis) → length (content_by q m i ground).images ≡ count_by m i ground
-images_counted q m i None = length-map-range_with_len (produced_page q m i) 1 (page_count m i.doc.0)
-images_counted q m i (Some basis) = refl
+images_counted : (f : Production) (m : Matter) (i : Item) (ground : Option Basis) → length (content_by f m i ground).images ≡ count_by m i ground
+images_counted f m i None = length-map-range_with_len (produced_page f m i) 1 (page_count m i.doc.0)
+images_counted f m i (Some basis) = refl
 
-pub image_count-part : (q : Request) (m : Matter) (i : Item) → length (part_of q m i).content.images ≡ count_by m i (ground_of i.treatment)
-image_count-part q m i = images_counted q m i (ground_of i.treatment)
+pub image_count-part : (f : Production) (m : Matter) (i : Item) → length (part_of f m i).content.images ≡ count_by m i (ground_of i.treatment)
+image_count-part f m i = images_counted f m i (ground_of i.treatment)
 
-all_placed : (q : Request) (m : Matter) (place : ℕ) (items : List Item) → All (CanBePlaced q m) items → All (CountFits m) items → place + 20000 * length items ≤ 20000 * 10000 → CanAllBePlaced q m place items
-all_placed q m place [] placed fit few = tt
-all_placed q m place (i ∷ items) placed fit few =
+all_placed : (f : Production) (m : Matter) (place : ℕ) (items : List Item) → All (CanBePlaced f.request m) items → All (CountFits m) items → place + 20000 * length items ≤ 20000 * 10000 → CanAllBePlaced f m place items
+all_placed f m place [] placed fit few = tt
+all_placed f m place (i ∷ items) placed fit few =
     let one = fit 0 i (omega arith) in (
       placed 0 i (omega arith),
       (
         omega arith,
-        all_placed q m (place + length (part_of q m i).content.images) items (λ k d l. placed (suc k) d (omega arith)) (λ k d l. fit (suc k) d (omega arith))
-            (omega (arith, one.few, image_count-part q m i)),
+        all_placed f m (place + length (part_of f m i).content.images) items (λ k d l. placed (suc k) d (omega arith)) (λ k d l. fit (suc k) d (omega arith))
+            (omega (arith, one.few, image_count-part f m i)),
       ),
     )
 
-pub kept-placed : (m : Matter) → IsValid m → (f : Production) → Keeps m f → CanAllBePlaced f.request m 0 f.items
+pub kept-placed : (m : Matter) → IsValid m → (f : Production) → Keeps m f → CanAllBePlaced f m 0 f.items
 kept-placed m valid f kept =
     let numbers = kept-numbers m valid f kept in
     let stand = items-stand m valid f kept in
-    all_placed f.request m 0 f.items
+    all_placed f m 0 f.items
     (λ k d l. can_be_placed m valid f numbers (get_or f.items k d) (numbers.lie k d l) (stand k d l) (pages-there m valid f kept k d l))
     (λ k d l. count_fits m valid (get_or f.items k d) (stand k d l))
     (omega (arith, items-few m valid f kept, leb-true (length m.docs) 10000 valid.docs.few))

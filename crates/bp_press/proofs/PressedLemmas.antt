@@ -7,7 +7,6 @@ use Rattle.bp_matter.specs.Matter.{Matter}
 use Rattle.bp_matter.specs.Valid.{IsValid}
 use Rattle.bp_matter.specs.declared.rows.Item.{Item}
 use Rattle.bp_matter.specs.declared.rows.Production.{Production}
-use Rattle.bp_matter.specs.declared.rows.Request.{Request}
 use Rattle.bp_freeze.specs.Keeping.{Keeps}
 use Rattle.bp_press.specs.Needs.{CanBeListed, CanBePressed, IsLabelled}
 use Rattle.bp_press.specs.Pressing.{image_total}
@@ -34,9 +33,9 @@ listed f numbers k d l =
     }
 
 -- the images of so many items
-images_few : (q : Request) (m : Matter) (items : List Item) → All (CountFits m) items → image_total q m items ≤ 20000 * length items
-images_few q m [] fit = omega arith
-images_few q m (i ∷ items) fit = omega (arith, (fit 0 i (omega arith)).few, image_count-part q m i, images_few q m items (λ k d l. fit (suc k) d (omega arith)))
+images_few : (f : Production) (m : Matter) (items : List Item) → All (CountFits m) items → image_total f m items ≤ 20000 * length items
+images_few f m [] fit = omega arith
+images_few f m (i ∷ items) fit = omega (arith, (fit 0 i (omega arith)).few, image_count-part f m i, images_few f m items (λ k d l. fit (suc k) d (omega arith)))
 
 pub kept-pressed : (m : Matter) → IsValid m → (f : Production) → Keeps m f → CanBePressed f m
 kept-pressed m valid f kept =
@@ -53,5 +52,5 @@ kept-pressed m valid f kept =
       lines = opt-writable m valid f kept;
       logged = kept-logged m valid f kept;
       documents = omega (arith, docs);
-      files = omega (arith, few, docs, images_few f.request m f.items (λ k d l. count_fits m valid (get_or f.items k d) (stand k d l)));
+      files = omega (arith, few, docs, images_few f m f.items (λ k d l. count_fits m valid (get_or f.items k d) (stand k d l)));
     }

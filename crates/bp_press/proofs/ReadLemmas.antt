@@ -3,7 +3,7 @@ use Rattle.std.proofs.Common.{◌≡◌, ℕ, zero, suc, ◌+◌, ◌-◌, ◌�
 use Rattle.std.specs.Prelude.{◌↔◌, IsTrue}
 use Rattle.std.specs.List.{range_with_len}
 use Rattle.bp_core.specs.Characters.{solidus}
-use Rattle.bp_core.specs.declared.stamps.Ink.TheVariants.{Black}
+use Rattle.bp_core.specs.declared.stamps.Ink.{Ink}
 use Rattle.bp_core.specs.declared.stamps.Stamp.{Stamp}
 use Rattle.bp_core.specs.declared.review.Basis.{Basis}
 use Rattle.bp_rows.specs.Image.{FitsRes, Image, IsPage, pixel, white_image}
@@ -16,11 +16,14 @@ use Rattle.bp_rows.specs.Limits.{sides_are_allowed}
 use Rattle.bp_rows.specs.declared.resolution.Unit.TheVariants.{Inch}
 use Rattle.bp_burn.proofs.BandLemmas.{band_fits}
 use Rattle.bp_tiff.specs.Read.{TiffReads}
-use Rattle.bp_tiff.specs.Tiff.{tiff_of}
+use Rattle.bp_tiff.specs.Tiff.{fields_of, tiff_of}
+use Rattle.bp_tiff.specs.declared.fields.Fields.{Fields}
 use Rattle.bp_tiff.specs.declared.form.Form.{Form}
 use Rattle.bp_tiff.specs.declared.form.Form.TheVariants.{G4}
 use Rattle.bp_outside.specs.Folder.{file}
 use Rattle.bp_outside.specs.declared.files.FileRow.{FileRow}
+use Rattle.bp_matter.specs.Images.{in_frame}
+use Rattle.bp_matter.specs.declared.kept_page.Frame.{Frame}
 use Rattle.bp_matter.specs.Matter.{Matter}
 use Rattle.bp_matter.specs.Valid.{IsValid}
 use Rattle.bp_matter.specs.declared.rows.Item.{Item}
@@ -58,18 +61,26 @@ banded_is_page p label designation sides xres yres = record {
   grid = grid_of_is_grid p.width (p.height + 32) (λ r c. band_texts p.width p.height label designation r c || pixel p r c);
 }
 
-produced_is_page : (p : Image) (stamps : List Stamp) (label designation : List ℕ) → IsScan p → IsPage (produced_of Black p stamps label designation)
-produced_is_page p stamps label designation scan = banded_is_page (covered Black p stamps) label designation (band_fits p.width p.height scan.sides) scan.page.xres scan.page.yres
+pub produced_is_page : (ink : Ink) (p : Image) (stamps : List Stamp) (label designation : List ℕ) → IsScan p → IsPage (produced_of ink p stamps label designation)
+produced_is_page ink p stamps label designation scan = banded_is_page (covered ink p stamps) label designation (band_fits p.width p.height scan.sides) scan.page.xres scan.page.yres
+
+-- what its file says beside the pixels, from the frame of the page
+pub banded_fields : (ink : Ink) (p : Image) (frame : Frame) (stamps : List Stamp) (label designation : List ℕ) → p ≡ in_frame frame p.rows
+    → fields_of (produced_of ink p stamps label designation)
+    ≡ record { width = frame.width; height = frame.height + 32; xres = frame.xres; yres = frame.yres; unit = frame.unit }
+banded_fields ink p frame stamps label designation is =
+    let below : Image → Fields = λ q. record { width = q.width; height = q.height + 32; xres = q.xres; yres = q.yres; unit = q.unit } in
+    ap below is
 
 slip_is_page : (basis : Basis) (label designation : List ℕ) → IsPage (slip_of basis label designation)
 slip_is_page basis label designation =
     banded_is_page (inked paper (is_drawn (slip_text basis) 1000 200 0)) label designation refl (record { num = omega arith; den = omega arith }) (record { num = omega arith; den = omega arith })
 
-page_is_read : ReadLaw → (q : Request) (m : Matter) (i : Item) (page : ℕ) → IsScan (image_in m i.doc.0 page) → CanBeRead (produced_page q m i page)
+page_is_read : ReadLaw → (f : Production) (m : Matter) (i : Item) (page : ℕ) → IsScan (image_in m i.doc.0 page) → CanBeRead (produced_page f m i page)
 unfolding produced_page
-page_is_read law q m i page scan p =
-    law G4 (produced_page q m i page) p
-    (produced_is_page (image_in m i.doc.0 page) (stamps_on i.boxes page) (label_in q.prefix (i.span.first + page - 1)) i.designation scan)
+page_is_read law f m i page scan p =
+    law G4 (produced_page f m i page) p
+    (produced_is_page f.ink (image_in m i.doc.0 page) (stamps_on i.boxes page) (label_in f.request.prefix (i.span.first + page - 1)) i.designation scan)
 
 slip_is_read : ReadLaw → (q : Request) (i : Item) (basis : Basis) → CanBeRead (slip_sheet q i basis)
 unfolding slip_sheet
@@ -138,39 +149,39 @@ abbrev placed_at : ℕ → Item → Content → Placed
 placed_at place i content = record { place = place; item = i; content = content }
 
 -- each page of the item can be read
-abbrev PagesRead : Request → Matter → Item → Type 0
-PagesRead q m i = (page : ℕ) → 1 ≤ page → page ≤ page_count m i.doc.0 → CanBeRead (produced_page q m i page)
+abbrev PagesRead : Production → Matter → Item → Type 0
+PagesRead f m i = (page : ℕ) → 1 ≤ page → page ≤ page_count m i.doc.0 → CanBeRead (produced_page f m i page)
 
-holds_images : ReadLaw → (q : Request) (m : Matter) (i : Item) (place : ℕ) (ground : Option Basis) → PagesRead q m i
-    → HoldsImages (item_files q (placed_at place i (content_by q m i ground))) q m (placed_at place i (content_by q m i ground)) ground
-holds_images law q m i place (Some basis) read =
-    holds_first (image_path solidus q place i.span.first) (slip_sheet q i basis) (text_file q (placed_at place i (content_by q m i (Some basis))) ∷ []) (slip_is_read law q i basis)
-holds_images law q m i place None read = λ page low high.
-    let f : ℕ → Image = produced_page q m i in
+holds_images : ReadLaw → (f : Production) (m : Matter) (i : Item) (place : ℕ) (ground : Option Basis) → PagesRead f m i
+    → HoldsImages (item_files f.request (placed_at place i (content_by f m i ground))) f m (placed_at place i (content_by f m i ground)) ground
+holds_images law f m i place (Some basis) read =
+    holds_first (image_path solidus f.request place i.span.first) (slip_sheet f.request i basis) (text_file f.request (placed_at place i (content_by f m i (Some basis))) ∷ []) (slip_is_read law f.request i basis)
+holds_images law f m i place None read = λ page low high.
+    let page_at : ℕ → Image = produced_page f m i in
     let at : 1 + (page - 1) ≡ page = omega arith in
     let there : place + (page - 1) ≡ place + page - 1 = omega arith in
     let said : i.span.first + (page - 1) ≡ i.span.first + page - 1 = omega arith in
-    let files : List FileRow = image_files q place i.span.first (map f (pages_of m i.doc.0)) in
-    let held = holds_page q f (page_count m i.doc.0) 1 (page - 1) place i.span.first (omega arith) (subst (λ j. CanBeRead (f j)) (sym at) (read page low high)) in
-    let one : HoldsPage files (image_path solidus q (place + (page - 1)) (i.span.first + (page - 1))) (f page) = subst (λ j. HoldsPage files (image_path solidus q (place + (page - 1)) (i.span.first + (page - 1))) (f j)) at held in
-    let two : HoldsPage files (image_path solidus q (place + page - 1) (i.span.first + (page - 1))) (f page) = subst (λ j. HoldsPage files (image_path solidus q j (i.span.first + (page - 1))) (f page)) there one in
-    holds_left files (text_file q (placed_at place i (content_by q m i None)) ∷ []) (image_path solidus q (place + page - 1) (i.span.first + page - 1)) (f page)
-    (subst (λ j. HoldsPage files (image_path solidus q (place + page - 1) j) (f page)) said two)
+    let files : List FileRow = image_files f.request place i.span.first (map page_at (pages_of m i.doc.0)) in
+    let held = holds_page f.request page_at (page_count m i.doc.0) 1 (page - 1) place i.span.first (omega arith) (subst (λ j. CanBeRead (page_at j)) (sym at) (read page low high)) in
+    let one : HoldsPage files (image_path solidus f.request (place + (page - 1)) (i.span.first + (page - 1))) (page_at page) = subst (λ j. HoldsPage files (image_path solidus f.request (place + (page - 1)) (i.span.first + (page - 1))) (page_at j)) at held in
+    let two : HoldsPage files (image_path solidus f.request (place + page - 1) (i.span.first + (page - 1))) (page_at page) = subst (λ j. HoldsPage files (image_path solidus f.request j (i.span.first + (page - 1))) (page_at page)) there one in
+    holds_left files (text_file f.request (placed_at place i (content_by f m i None)) ∷ []) (image_path solidus f.request (place + page - 1) (i.span.first + page - 1)) (page_at page)
+    (subst (λ j. HoldsPage files (image_path solidus f.request (place + page - 1) j) (page_at page)) said two)
 
 -- ---- the items
 
-holds_items : ReadLaw → (q : Request) (m : Matter) (items : List Item) (start : ℕ) → All (PagesRead q m) items
-    → All (λ p. HoldsItem (item_files q p) q m p) (placed start (map (part_of q m) items))
-holds_items law q m [] start read k d l = absurd (omega arith)
-holds_items law q m (i ∷ items) start read zero d l = holds_images law q m i start (ground_of i.treatment) (read 0 i (omega arith))
-holds_items law q m (i ∷ items) start read (suc k) d l =
-    holds_items law q m items (start + length (content_by q m i (ground_of i.treatment)).images) (λ j e s. read (suc j) e (omega arith)) k d (omega arith)
+holds_items : ReadLaw → (f : Production) (m : Matter) (items : List Item) (start : ℕ) → All (PagesRead f m) items
+    → All (λ p. HoldsItem (item_files f.request p) f m p) (placed start (map (part_of f m) items))
+holds_items law f m [] start read k d l = absurd (omega arith)
+holds_items law f m (i ∷ items) start read zero d l = holds_images law f m i start (ground_of i.treatment) (read 0 i (omega arith))
+holds_items law f m (i ∷ items) start read (suc k) d l =
+    holds_items law f m items (start + length (content_by f m i (ground_of i.treatment)).images) (λ j e s. read (suc j) e (omega arith)) k d (omega arith)
 
 -- what some files hold, more files hold
-wider : (q : Request) (m : Matter) (p : Placed) (some all : List FileRow) (ground : Option Basis) → ((path : List ℕ) (page : Image) → HoldsPage some path page → HoldsPage all path page)
-    → HoldsImages some q m p ground → HoldsImages all q m p ground
-wider q m p some all (Some basis) wide h = wide (image_path solidus q p.place p.item.span.first) (slip_sheet q p.item basis) h
-wider q m p some all None wide h = λ page low high. wide (image_path solidus q (p.place + page - 1) (p.item.span.first + page - 1)) (produced_page q m p.item page) (h page low high)
+wider : (f : Production) (m : Matter) (p : Placed) (some all : List FileRow) (ground : Option Basis) → ((path : List ℕ) (page : Image) → HoldsPage some path page → HoldsPage all path page)
+    → HoldsImages some f m p ground → HoldsImages all f m p ground
+wider f m p some all (Some basis) wide h = wide (image_path solidus f.request p.place p.item.span.first) (slip_sheet f.request p.item basis) h
+wider f m p some all None wide h = λ page low high. wide (image_path solidus f.request (p.place + page - 1) (p.item.span.first + page - 1)) (produced_page f m p.item page) (h page low high)
 
 in_volume : (f : Production) (m : Matter) (path : List ℕ) (page : Image) → HoldsPage (flat_map (item_files f.request) (placed_items f m)) path page → HoldsPage (volume_of f m) path page
 unfolding volume_of files_of
@@ -182,6 +193,6 @@ pub read-back : ReadLaw → (f : Production) (m : Matter) → IsValid m → Keep
 read-back law f m valid kept k d l =
     let q : Request = f.request in
     let p : Placed = get_or (placed_items f m) k d in
-    wider q m p (item_files q p) (volume_of f m) (ground_of p.item.treatment)
+    wider f m p (item_files q p) (volume_of f m) (ground_of p.item.treatment)
     (λ path page h. in_volume f m path page (holds_among (item_files q) (placed_items f m) k d path page l h))
-    (holds_items law q m f.items 0 (λ j e s page low high. page_is_read law q m (get_or f.items j e) page (pages-there m valid f kept j e s page low high)) k d l)
+    (holds_items law f m f.items 0 (λ j e s page low high. page_is_read law f m (get_or f.items j e) page (pages-there m valid f kept j e s page low high)) k d l)

@@ -94,23 +94,5 @@ pub pair_second : (before one : FolderView) (xs ys : List FileRow) (r : FolderRe
 pair_second before one xs ys r after e h =
     come_cut before (xs ++ ys) one ys [] r after (subst (λ (rest : List FileRow). ToCome before (xs ++ ys) one rest) (sym (append-nil ys)) (one_done before one xs ys e)) h
 
--- memory ran out before the first of the later files
-pub pair_stop : (before one : FolderView) (xs : List FileRow) (next : FileRow) (rest : List FileRow) (r : FolderRefusal) → r ≡ OutOfMemory → AddsAll before xs one → LeavesCut before (xs ++ next ∷ rest) r one
-pair_stop before one xs next rest r m e = pair_second before one xs (next ∷ rest) r one e (cut_none one next rest r m)
-
 pub pair_end : (before one after : FolderView) (xs ys : List FileRow) → AddsAll before xs one → AddsAll one ys after → AddsAll before (xs ++ ys) after
 pair_end before one after xs ys e h = record { there = h.there ∙ ap (λ view. with_files view ys) e.there ∙ sym (with_files-append before xs ys) }
-
--- ---- three files, one after the other
-
-pub three_end : (before one two after : FolderView) (x y z : FileRow) → AddsAll before (x ∷ []) one → AddsAll one (y ∷ []) two → AddsAll two (z ∷ []) after → AddsAll before (x ∷ y ∷ z ∷ []) after
-three_end before one two after x y z a b c = pair_end before one after (x ∷ []) (y ∷ z ∷ []) a (pair_end one two after (y ∷ []) (z ∷ []) b c)
-
-pub three_first : (before : FolderView) (x y z : FileRow) (r : FolderRefusal) (after : FolderView) → LeavesCut before (x ∷ []) r after → LeavesCut before (x ∷ y ∷ z ∷ []) r after
-three_first before x y z r after h = pair_first before (x ∷ []) (y ∷ z ∷ []) r after h
-
-pub three_second : (before one : FolderView) (x y z : FileRow) (r : FolderRefusal) (after : FolderView) → AddsAll before (x ∷ []) one → LeavesCut one (y ∷ []) r after → LeavesCut before (x ∷ y ∷ z ∷ []) r after
-three_second before one x y z r after a h = pair_second before one (x ∷ []) (y ∷ z ∷ []) r after a (pair_first one (y ∷ []) (z ∷ []) r after h)
-
-pub three_third : (before one two : FolderView) (x y z : FileRow) (r : FolderRefusal) (after : FolderView) → AddsAll before (x ∷ []) one → AddsAll one (y ∷ []) two → LeavesCut two (z ∷ []) r after → LeavesCut before (x ∷ y ∷ z ∷ []) r after
-three_third before one two x y z r after a b h = pair_second before one (x ∷ []) (y ∷ z ∷ []) r after a (pair_second one two (y ∷ []) (z ∷ []) r after b h)

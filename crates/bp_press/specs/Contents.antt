@@ -4,7 +4,6 @@ use Rattle.std.specs.Prelude.{ℕ, ◌+◌, ◌-◌, ◌==◌, filter, List, [],
 use Rattle.std.specs.List.{flat_map, range_with_len}
 use Rattle.bp_core.specs.Characters.{form_feed, line_end}
 use Rattle.bp_core.specs.Review.{basis_code}
-use Rattle.bp_core.specs.declared.stamps.Ink.TheVariants.{Black}
 use Rattle.bp_core.specs.declared.stamps.Stamp.{Stamp}
 use Rattle.bp_core.specs.declared.review.Basis.{Basis}
 use Rattle.bp_core.specs.declared.review.Treatment.{Treatment}
@@ -18,6 +17,7 @@ use Rattle.bp_matter.specs.Matter.{Matter}
 use Rattle.bp_matter.specs.declared.rows.BoxRow.{BoxRow}
 use Rattle.bp_matter.specs.declared.rows.HeldRow.{HeldRow}
 use Rattle.bp_matter.specs.declared.rows.Item.{Item}
+use Rattle.bp_matter.specs.declared.rows.Production.{Production}
 use Rattle.bp_matter.specs.declared.rows.Request.{Request}
 use Rattle.bp_freeze.specs.Agree.{field_number, held_for, kept_words, rects_on, value_in}
 use Rattle.bp_freeze.specs.Log.{label_in}
@@ -68,12 +68,12 @@ stamp_of box = record { rect = box.rect; basis = box.basis }
 abbrev pub stamps_on : List BoxRow → ℕ → List Stamp
 stamps_on boxes page = map stamp_of (filter (λ box. box.page.0 == page) boxes)
 
--- its page of that number, its boxes black, with its label and its designation
+-- its page of that number, its boxes in the ink of its production, with its label and its designation
 -- by FRCP 26(b)(5)(A)
-unfoldable pub produced_page : Request → Matter → Item → ℕ → Image
-produced_page q m i page =
-    produced_of Black (image_in m i.doc.0 page) (stamps_on i.boxes page)
-    (label_in q.prefix (i.span.first + page - 1)) i.designation
+unfoldable pub produced_page : Production → Matter → Item → ℕ → Image
+produced_page f m i page =
+    produced_of f.ink (image_in m i.doc.0 page) (stamps_on i.boxes page)
+    (label_in f.request.prefix (i.span.first + page - 1)) i.designation
 
 -- the words of that page which no box touches
 -- by FRCP 26(b)(5)(A)
@@ -110,11 +110,11 @@ pages_of m doc = range_with_len 1 (page_count m doc)
 
 -- the images, text and values of an item that is produced
 -- by FRCP 26(b)(5)(A)
-abbrev pub produced_content : Request → Matter → Item → Content
-produced_content q m i = record {
-  images = map (produced_page q m i) (pages_of m i.doc.0);
+abbrev pub produced_content : Production → Matter → Item → Content
+produced_content f m i = record {
+  images = map (produced_page f m i) (pages_of m i.doc.0);
   text = flat_map (kept_text m i) (pages_of m i.doc.0);
-  values = map (value_shown m i) q.fields;
+  values = map (value_shown m i) f.request.fields;
 }
 
 -- ---- of each
@@ -127,9 +127,9 @@ ground_of _ = None
 
 -- the content of an item, by whether it is withheld
 -- by FRCP 26(b)(5)(A)
-abbrev pub content_by : Request → Matter → Item → Option Basis → Content
-content_by q m i (Some basis) = withheld_content q i basis
-content_by q m i None = produced_content q m i
+abbrev pub content_by : Production → Matter → Item → Option Basis → Content
+content_by f m i (Some basis) = withheld_content f.request i basis
+content_by f m i None = produced_content f m i
 
 -- the value in the column of a chosen field: of a withheld item it is empty
 -- by FRCP 26(b)(5)(A)
@@ -145,5 +145,5 @@ pub record Part : Type 0 where
 
 -- an item and its content
 -- by FRCP 26(b)(5)(A)
-abbrev pub part_of : Request → Matter → Item → Part
-part_of q m i = record { item = i; content = content_by q m i (ground_of i.treatment) }
+abbrev pub part_of : Production → Matter → Item → Part
+part_of f m i = record { item = i; content = content_by f m i (ground_of i.treatment) }

@@ -1,13 +1,14 @@
 pub mod Answering
 pub mod Contents
 pub mod Files
+pub mod Jobs
 pub mod LoadFiles
 pub mod Manifest
 pub mod Needs
-pub mod Nowhere
 pub mod Paths
 pub mod Pressed
 pub mod Pressing
 pub mod ReadBack
 pub mod Volume
+pub mod VolumeFiles
 pub mod Writing

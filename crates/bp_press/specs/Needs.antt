@@ -41,7 +41,7 @@ pub record AreFamilyNumbers (f : Production) (documents : ℕ) (firsts lasts : L
 
 -- what the files of a volume need
 pub record CanBePressed (f : Production) (m : Matter) : Type 0 where
-  pub placed : CanAllBePlaced f.request m 0 f.items
+  pub placed : CanAllBePlaced f m 0 f.items
   pub listed : All (CanBeListed f) f.items
   pub families : All (IsInFamily (length m.docs)) f.items
   pub even : IsTrue (is_even (dat_table f (placed_items f m)))
@@ -49,4 +49,4 @@ pub record CanBePressed (f : Production) (m : Matter) : Type 0 where
   pub lines : IsTrue (are_opt_lines (flat_map (opt_lines f.request) (placed_items f m)))
   pub logged : CanBeLogged f
   pub documents : length m.docs < 2 ^ 32
-  pub files : image_total f.request m f.items + length f.items + 4 < 2 ^ 32
+  pub files : image_total f m f.items + length f.items + 4 < 2 ^ 32

@@ -13,6 +13,7 @@ use Rattle.bp_outside.specs.Folder.{file}
 use Rattle.bp_outside.specs.declared.files.FileRow.{FileRow}
 use Rattle.bp_matter.specs.Matter.{Matter}
 use Rattle.bp_matter.specs.declared.rows.Item.{Item}
+use Rattle.bp_matter.specs.declared.rows.Production.{Production}
 use Rattle.bp_matter.specs.declared.rows.Request.{Request}
 use Rattle.bp_freeze.specs.Log.{label_in}
 use Rattle.bp_freeze.specs.Seeing.{page_count}
@@ -21,21 +22,21 @@ use Rattle.bp_press.specs.Files.{Placed, image_files, item_files, placed}
 use Rattle.bp_press.specs.Paths.{image_path}
 
 -- the file of an image of an item that isn't withheld, counted from 0
-abbrev pub image_at : Request → Matter → Item → ℕ → ℕ → FileRow
-image_at q m i place k =
-    file (image_path solidus q (place + k) (i.span.first + k))
-    (tiff_of G4 (produced_page q m i (k + 1)))
+abbrev pub image_at : Production → Matter → Item → ℕ → ℕ → FileRow
+image_at f m i place k =
+    file (image_path solidus f.request (place + k) (i.span.first + k))
+    (tiff_of G4 (produced_page f m i (k + 1)))
 
 -- the files of its images but the first so many
-abbrev pub images_after : Request → Matter → Item → ℕ → ℕ → List FileRow
-images_after q m i place k =
-    image_files q (place + k) (i.span.first + k)
-    (map (produced_page q m i) (range_with_len (k + 1) (page_count m i.doc.0 - k)))
+abbrev pub images_after : Production → Matter → Item → ℕ → ℕ → List FileRow
+images_after f m i place k =
+    image_files f.request (place + k) (i.span.first + k)
+    (map (produced_page f m i) (range_with_len (k + 1) (page_count m i.doc.0 - k)))
 
 -- an item at a place of the volume, with what a matter shows of it
-abbrev pub placed_at : Request → Matter → Item → ℕ → Placed
-placed_at q m i place =
-    let part = part_of q m i in
+abbrev pub placed_at : Production → Matter → Item → ℕ → Placed
+placed_at f m i place =
+    let part = part_of f m i in
     record { place = place; item = part.item; content = part.content }
 
 -- so many labels from a number on are of the width, and drawn with the glyphs that there are
@@ -70,17 +71,17 @@ abbrev pub images_in : Request → Placed → List FileRow
 images_in q p = image_files q p.place p.item.span.first p.content.images
 
 -- what the files of items need that follow one another from a place on
-abbrev pub CanAllBePlaced : Request → Matter → ℕ → List Item → Type 0
-CanAllBePlaced q m place [] = Unit {0}
-CanAllBePlaced q m place (i ∷ items) =
-    CanBePlaced q m i × ((place + 2 ^ 32 < 2 ^ 64)
-    × CanAllBePlaced q m (place + length (part_of q m i).content.images) items)
+abbrev pub CanAllBePlaced : Production → Matter → ℕ → List Item → Type 0
+CanAllBePlaced f m place [] = Unit {0}
+CanAllBePlaced f m place (i ∷ items) =
+    CanBePlaced f.request m i × ((place + 2 ^ 32 < 2 ^ 64)
+    × CanAllBePlaced f m (place + length (part_of f m i).content.images) items)
 
 -- the files of items that follow one another from a place on
-abbrev pub files_from : Request → Matter → ℕ → List Item → List FileRow
-files_from q m place items = flat_map (item_files q) (placed place (map (part_of q m) items))
+abbrev pub files_from : Production → Matter → ℕ → List Item → List FileRow
+files_from f m place items = flat_map (item_files f.request) (placed place (map (part_of f m) items))
 
 -- how many images items have
-abbrev pub image_total : Request → Matter → List Item → ℕ
-image_total q m [] = 0
-image_total q m (i ∷ items) = length (part_of q m i).content.images + image_total q m items
+abbrev pub image_total : Production → Matter → List Item → ℕ
+image_total f m [] = 0
+image_total f m (i ∷ items) = length (part_of f m i).content.images + image_total f m items

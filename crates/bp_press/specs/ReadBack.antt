@@ -8,7 +8,6 @@ use Rattle.bp_outside.specs.Folder.{file}
 use Rattle.bp_outside.specs.declared.files.FileRow.{FileRow}
 use Rattle.bp_matter.specs.Matter.{Matter}
 use Rattle.bp_matter.specs.declared.rows.Production.{Production}
-use Rattle.bp_matter.specs.declared.rows.Request.{Request}
 use Rattle.bp_freeze.specs.Seeing.{page_count}
 use Rattle.bp_press.specs.Contents.{ground_of, produced_page, slip_sheet}
 use Rattle.bp_press.specs.Files.{Placed}
@@ -27,21 +26,21 @@ pub record HoldsPage (files : List FileRow) (path : List ℕ) (page : Image) : T
 -- among the files are those of the images of an item: the sheet of one that is withheld on a
 -- ground, or each page of one that isn't
 -- by TIFF 6.0
-abbrev pub HoldsImages : List FileRow → Request → Matter → Placed → Option Basis → Type 0
-HoldsImages files q m p (Some basis) =
-    HoldsPage files (image_path solidus q p.place p.item.span.first) (slip_sheet q p.item basis)
-HoldsImages files q m p None =
+abbrev pub HoldsImages : List FileRow → Production → Matter → Placed → Option Basis → Type 0
+HoldsImages files f m p (Some basis) =
+    HoldsPage files (image_path solidus f.request p.place p.item.span.first) (slip_sheet f.request p.item basis)
+HoldsImages files f m p None =
     (page : ℕ) → 1 ≤ page → page ≤ page_count m p.item.doc.0
     → HoldsPage files
-    (image_path solidus q (p.place + page - 1) (p.item.span.first + page - 1))
-    (produced_page q m p.item page)
+    (image_path solidus f.request (p.place + page - 1) (p.item.span.first + page - 1))
+    (produced_page f m p.item page)
 
 -- the images of an item are read back as what they were made of
 -- by TIFF 6.0
-abbrev pub HoldsItem : List FileRow → Request → Matter → Placed → Type 0
-HoldsItem files q m p = HoldsImages files q m p (ground_of p.item.treatment)
+abbrev pub HoldsItem : List FileRow → Production → Matter → Placed → Type 0
+HoldsItem files f m p = HoldsImages files f m p (ground_of p.item.treatment)
 
 -- the images of a volume are read as the pages and the sheets that they were made of
 -- by TIFF 6.0
 abbrev pub IsReadBack : Production → Matter → Type 0
-IsReadBack f m = All (HoldsItem (volume_of f m) f.request m) (placed_items f m)
+IsReadBack f m = All (HoldsItem (volume_of f m) f m) (placed_items f m)

@@ -46,7 +46,7 @@ files_of f parts = with_manifest f.request (files_before f (placed 0 parts))
 
 -- what a matter shows of the items of a production
 abbrev pub parts_of : Production → Matter → List Part
-parts_of f m = map (part_of f.request m) f.items
+parts_of f m = map (part_of f m) f.items
 
 -- the same, each part at its place in the volume
 abbrev pub placed_items : Production → Matter → List Placed

@@ -11,7 +11,7 @@ ghost use Rattle.bp_press.specs.Contents.{ground_of, held_text, kept_text, pages
 use crate::names::add;
 use crate::pages::rects_on;
 use bp_core::{Basis, Bytes, DocNo, ListOf, OutOfMemory, PageNo, Text, Treatment};
-use bp_matter::{HeldList, HeldRow, Item, Request, Tables};
+use bp_matter::{HeldList, HeldRow, Item, Production, Tables};
 use bp_text::{kept, page_text};
 use std::alloc::Global;
 
@@ -173,15 +173,15 @@ fn sheet_bytes(alloc: Global, basis: Basis) -> Result<Bytes, OutOfMemory>
 pub(crate) fn text_bytes(
     alloc: Global,
     tables: &Tables,
-    request: &Request,
+    production: &Production,
     item: &Item,
     pages: u32,
 ) -> Result<Bytes, OutOfMemory>
     requires { pages ≡ page_count tables.now.matter item.now.doc.0 }
-    ensures { let part = part_of request.now tables.now.matter item.now in
+    ensures { let part = part_of production.now tables.now.matter item.now in
         IfOk result (λ bytes. bytes ≡ encode_utf8_all part.content.text) }
 {
-    let _request = request;
+    let _production = production;
     match item.treatment {
         Treatment::Produce => pages_text(alloc, tables, item, pages),
         Treatment::Redact => pages_text(alloc, tables, item, pages),

@@ -7,21 +7,25 @@
 
 mod adding;
 mod contents;
-mod data_files;
 mod families;
+mod file_rows;
 mod finding;
-mod items;
+mod gate;
+mod jobs;
 mod laws;
 mod load_files;
 mod load_rows;
 mod manifest;
 mod names;
-mod nowhere;
 mod pages;
 pub mod paths;
 mod pressing;
-mod volumes;
+mod strips;
+mod volume_files;
 
 pub use finding::file_of;
+pub use gate::{Gate, OpenGate};
+pub use jobs::{Job, JobList, StripList};
 pub use laws::{images_are_read, same_product, same_volume, volume_stays};
 pub use pressing::{PressRefusal, Pressed, press};
+pub use strips::strips_of;

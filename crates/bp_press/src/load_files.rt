@@ -13,7 +13,7 @@ ghost use Rattle.bp_press.specs.Volume.{placed_items};
 
 use crate::families::{first_numbers, last_numbers};
 use crate::load_rows::{add_opt_lines, dat_row};
-use crate::volumes::image_count;
+use crate::volume_files::image_count;
 use bp_bates::Span;
 use bp_core::{Bytes, ListOf, OutOfMemory, Text, TextList};
 use bp_load::{Dat, OptLine, OptList, TextTable, write_dat, write_opt};
@@ -26,37 +26,36 @@ use std::alloc::Global;
 fn add_item_lines(
     alloc: Global,
     tables: &Tables,
-    request: &Request,
+    production: &Production,
     item: &Item,
     others: &[Item],
     place: u64,
     lines: &mut Vec<OptLine>,
 ) -> Result<u32, OutOfMemory>
-    requires { CanAllBePlaced request.now tables.now.matter place (item.now ∷ others.now) }
-    ensures lines { let p = placed_at request.now tables.now.matter item.now place in
-        OnOk result (lines.new.items ≡ lines.old.items ++ opt_lines request.now p) }
+    requires { CanAllBePlaced production.now tables.now.matter place (item.now ∷ others.now) }
+    ensures lines { let p = placed_at production.now tables.now.matter item.now place in
+        OnOk result (lines.new.items ≡ lines.old.items ++ opt_lines production.now.request p) }
     ensures count { IfOk result (λ count.
-        count ≡ length (part_of request.now tables.now.matter item.now).content.images) }
+        count ≡ length (part_of production.now tables.now.matter item.now).content.images) }
 {
     let _others = others;
-    let count = image_count(tables, request, item);
-    add_opt_lines(alloc, tables, request, item, place, count, lines)?;
+    let count = image_count(tables, production, item);
+    add_opt_lines(alloc, tables, production, item, place, count, lines)?;
     Ok(count)
 }
 
 // The lines of all items.
 fn opt_list(alloc: Global, tables: &Tables, production: &Production) -> Result<OptList, OutOfMemory>
-    requires { CanAllBePlaced production.now.request tables.now.matter 0 production.now.items }
+    requires { CanAllBePlaced production.now tables.now.matter 0 production.now.items }
     ensures { let f = production.now in
         IfOk result (λ lines.
         lines ≡ flat_map (opt_lines f.request) (placed_items f tables.now.matter)) }
 {
-    let request = &production.request;
     let mut lines = Vec::new(alloc);
     let mut rest = production.items.as_slice();
     let mut place = 0;
     while let Some((item, others)) = rest.split_first() {
-        let count = add_item_lines(alloc, tables, request, item, others, place, &mut lines)?;
+        let count = add_item_lines(alloc, tables, production, item, others, place, &mut lines)?;
         place += u64::from(count);
         rest = others;
     }
@@ -151,19 +150,19 @@ fn add_item_row(
     rows: &mut Vec<TextList>,
 ) -> Result<u32, OutOfMemory>
     requires placed { let items = item.now ∷ others.now in
-        CanAllBePlaced production.now.request tables.now.matter place items }
+        CanAllBePlaced production.now tables.now.matter place items }
     requires listed { CanBeListed production.now item.now }
     requires first { family.first ≡ first_number (family_of production.now item.now) }
     requires last { family.last ≡ last_number (family_of production.now item.now) }
     ensures rows { let f = production.now in
-        let p = placed_at f.request tables.now.matter item.now place in
+        let p = placed_at f tables.now.matter item.now place in
         OnOk result (rows.new.items ≡ rows.old.items ++ dat_row f p ∷ []) }
-    ensures count { let part = part_of production.now.request tables.now.matter item.now in
+    ensures count { let part = part_of production.now tables.now.matter item.now in
         IfOk result (λ count. count ≡ length part.content.images) }
 {
     let _others = others;
     rows.push(dat_row(alloc, tables, production, item, place, family)?)?;
-    Ok(image_count(tables, &production.request, item))
+    Ok(image_count(tables, production, item))
 }
 
 // The rows of all items, with the first and the last number of each family.

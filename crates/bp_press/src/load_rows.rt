@@ -41,7 +41,7 @@ fn count_text(alloc: Global, count: u32, page: u32) -> Result<Text, OutOfMemory>
 pub(crate) fn opt_line(
     alloc: Global,
     tables: &Tables,
-    request: &Request,
+    production: &Production,
     item: &Item,
     place: u64,
     count: u32,
@@ -49,18 +49,24 @@ pub(crate) fn opt_line(
 ) -> Result<OptLine, OutOfMemory>
     requires places { place + 2 ^ 32 < 2 ^ 64 }
     requires count { count ≡
-        length (part_of request.now tables.now.matter item.now).content.images }
+        length (part_of production.now tables.now.matter item.now).content.images }
     requires page { page < count }
-    requires labels { AreLabels request.now item.now.span.first count }
-    ensures { let p = placed_at request.now tables.now.matter item.now place in
-        IfOk result (λ line. line ≡ opt_line request.now p page) }
+    requires labels { AreLabels production.now.request item.now.span.first count }
+    ensures { let p = placed_at production.now tables.now.matter item.now place in
+        IfOk result (λ line. line ≡ opt_line production.now.request p page) }
 {
     let _tables = tables;
     let number = item.span.first + u64::from(page);
     Ok(OptLine {
-        image: label_text(alloc, &request.prefix, number)?,
-        volume: request.volume.clone()?,
-        path: image_path(alloc, '\\', request, place + u64::from(page), number)?,
+        image: label_text(alloc, &production.request.prefix, number)?,
+        volume: production.request.volume.clone()?,
+        path: image_path(
+            alloc,
+            '\\',
+            &production.request,
+            place + u64::from(page),
+            number,
+        )?,
         doc_break: page == 0,
         folder_break: false,
         box_break: false,
@@ -72,7 +78,7 @@ pub(crate) fn opt_line(
 pub(crate) fn add_opt_lines(
     alloc: Global,
     tables: &Tables,
-    request: &Request,
+    production: &Production,
     item: &Item,
     place: u64,
     count: u32,
@@ -80,14 +86,14 @@ pub(crate) fn add_opt_lines(
 ) -> Result<(), OutOfMemory>
     requires places { place + 2 ^ 32 < 2 ^ 64 }
     requires count { count ≡
-        length (part_of request.now tables.now.matter item.now).content.images }
-    requires labels { AreLabels request.now item.now.span.first count }
-    ensures { let p = placed_at request.now tables.now.matter item.now place in
-        OnOk result (lines.new.items ≡ lines.old.items ++ opt_lines request.now p) }
+        length (part_of production.now tables.now.matter item.now).content.images }
+    requires labels { AreLabels production.now.request item.now.span.first count }
+    ensures { let p = placed_at production.now tables.now.matter item.now place in
+        OnOk result (lines.new.items ≡ lines.old.items ++ opt_lines production.now.request p) }
 {
     let mut page = 0;
     while page < count {
-        lines.push(opt_line(alloc, tables, request, item, place, count, page)?)?;
+        lines.push(opt_line(alloc, tables, production, item, place, count, page)?)?;
         page += 1;
     }
     Ok(())
@@ -193,14 +199,14 @@ fn value_in_column(
 fn add_values(
     alloc: Global,
     tables: &Tables,
-    request: &Request,
+    production: &Production,
     item: &Item,
     row: &mut Vec<Text>,
 ) -> Result<(), OutOfMemory>
-    ensures { let part = part_of request.now tables.now.matter item.now in
+    ensures { let part = part_of production.now tables.now.matter item.now in
         OnOk result (row.new.items ≡ row.old.items ++ part.content.values) }
 {
-    let mut rest = request.fields.as_slice();
+    let mut rest = production.request.fields.as_slice();
     while let Some((name, others)) = rest.split_first() {
         row.push(value_in_column(alloc, tables, item, name)?)?;
         rest = others;
@@ -224,13 +230,13 @@ pub(crate) fn dat_row(
     requires family_first { family.first ≡ first_number (family_of production.now item.now) }
     requires family_last { family.last ≡ last_number (family_of production.now item.now) }
     ensures { let f = production.now in
-        let p = placed_at f.request tables.now.matter item.now place in
+        let p = placed_at f tables.now.matter item.now place in
         IfOk result (λ row. row ≡ dat_row f p) }
 {
     let request = &production.request;
     let mut row = Vec::new(alloc);
     add_labels(alloc, &request.prefix, item.span, family, &mut row)?;
     add_facts(alloc, request, item, place, &mut row)?;
-    add_values(alloc, tables, request, item, &mut row)?;
+    add_values(alloc, tables, production, item, &mut row)?;
     Ok(ListOf::from_vec(row))
 }

@@ -1,22 +1,25 @@
 // The volume of a production, written to a folder.
-ghost use Rattle.std.specs.Prelude.{◌≡◌, ◌+◌, ◌<◌, ◌^◌, IfOk, length};
+ghost use Rattle.std.specs.Prelude.{◌≡◌, ◌+◌, ◌<◌, ◌^◌, ◌∷◌, [], All, IfOk, length, map};
 ghost use Rattle.std.specs.Result.{OnOk, IfErr};
 ghost use Rattle.bp_matter.specs.Matter.{Matter};
+ghost use Rattle.bp_outside.specs.Folder.{after_refusal, file};
 ghost use Rattle.bp_freeze.specs.Agree.{Agree};
 ghost use Rattle.bp_freeze.specs.Keeping.{Keeps};
 ghost use Rattle.bp_press.specs.Needs.{CanBePressed};
+ghost use Rattle.bp_press.specs.Paths.{manifest_path};
 ghost use Rattle.bp_press.specs.Pressed.{folder_refusal_of, pressed_of};
-ghost use Rattle.bp_press.specs.Pressing.{image_total};
 ghost use Rattle.bp_press.specs.ReadBack.{IsReadBack};
 ghost use Rattle.bp_press.specs.Volume.{volume_of};
-ghost use Rattle.bp_press.specs.Writing.{AddsAll, AddsPart, LeavesCut, with_files};
-ghost use Rattle.bp_outside.specs.Folder.{after_refusal};
+ghost use Rattle.bp_press.specs.VolumeFiles.{CanBeMade, row_of};
+ghost use Rattle.bp_press.specs.Writing.{Adds, AddsAll, AddsPart, LeavesCut, with_files};
 
-use crate::data_files::{add_data, add_manifest};
+use crate::adding::add_file;
+use crate::file_rows::file_row;
 use crate::manifest::digest_of;
-use crate::volumes::add_items;
-use bp_matter::{Production, Tables};
-use bp_outside::{Folder, FolderRefusal};
+use crate::names::manifest_path;
+use crate::volume_files::{VolumeFile, list_files};
+use bp_matter::{Production, Request, Tables};
+use bp_outside::{Folder, FolderRefusal, put_file};
 use bp_tiff::written_is_read;
 use std::alloc::Global;
 use thiserror::Error;
@@ -49,13 +52,51 @@ fn press_refusal(refusal: FolderRefusal) -> PressRefusal
     }
 }
 
-// How many files the volume of a production has whose items have so many images: a text for each
-// item, and DAT, OPT, log and manifest.
-fn file_count(production: &Production, images: u64) -> u32
-    requires { images + length production.now.items + 4 < 2 ^ 32 }
-    ensures { result ≡ images + length production.now.items + 4 }
+// The number of files of a volume, of which these stand before the manifest.
+fn file_count(list: &[VolumeFile]) -> u32
+    requires { length list.now + 1 < 2 ^ 32 }
+    ensures { result ≡ length list.now + 1 }
 {
-    images as u32 + production.items.len() as u32 + 4
+    list.len() as u32 + 1
+}
+
+// Adds these files of the volume in order, each with its line of the manifest.
+fn add_listed<F: Folder>(
+    alloc: Global,
+    tables: &Tables,
+    production: &Production,
+    list: &[VolumeFile],
+    folder: &mut F,
+    manifest: &mut Vec<u8>,
+) -> Result<(), FolderRefusal>
+    requires { All (CanBeMade production.now tables.now.matter) list.now }
+    ensures { let rows = map (row_of production.now tables.now.matter) list.now in
+        Adds rows (F.shows folder.old) manifest.old.items result
+        (F.shows folder.new) manifest.new.items }
+{
+    for file in list {
+        let row = file_row(alloc, tables, production, file)?;
+        add_file(alloc, &row, folder, manifest)?;
+    }
+    Ok(())
+}
+
+#[tactic(auto, using(crate::proofs::WritingLemmas::puts_ok, crate::proofs::WritingLemmas::puts_cut, crate::proofs::WritingLemmas::cut_none))]
+// Adds the manifest of these bytes.
+fn add_manifest<F: Folder>(
+    alloc: Global,
+    request: &Request,
+    folder: &mut F,
+    manifest: &[u8],
+) -> Result<(), FolderRefusal>
+    ensures files { let row = file (manifest_path request.now) manifest.now in
+        OnOk result (AddsAll (F.shows folder.old) (row ∷ []) (F.shows folder.new)) }
+    ensures cut { let row = file (manifest_path request.now) manifest.now in
+        IfErr result (λ refusal.
+        LeavesCut (F.shows folder.old) (row ∷ []) refusal (F.shows folder.new)) }
+{
+    let path = manifest_path(alloc, request)?;
+    put_file(alloc, folder, path.as_str(), manifest)
 }
 
 // Writes the volume of a production whose files can be written.
@@ -74,12 +115,19 @@ fn add_volume<F: Folder>(
         IfErr result (λ refusal.
         LeavesCut (F.shows folder.old) files refusal (F.shows folder.new)) }
 {
+    let list = list_files(alloc, tables, production)?;
     let mut manifest = Vec::new(alloc);
-    let images = add_items(alloc, tables, production, folder, &mut manifest)?;
-    add_data(alloc, tables, production, folder, &mut manifest)?;
+    add_listed(
+        alloc,
+        tables,
+        production,
+        list.as_slice(),
+        folder,
+        &mut manifest,
+    )?;
     add_manifest(alloc, &production.request, folder, manifest.as_slice())?;
     Ok(Pressed {
-        files: file_count(production, images),
+        files: file_count(list.as_slice()),
         manifest: digest_of(manifest.as_slice()),
     })
 }

@@ -165,6 +165,13 @@ parents-low k p most (doc ∷ docs) h le low few =
     (and_from (leb 1 doc.parent) (leb doc.parent most) (le-leb 1 doc.parent one.0) (le-leb doc.parent most (omega (arith, one.1))))
     (parents-low (k + 1) doc.parent most docs parts.1 (omega (arith, one.1)) one.0 (omega arith))
 
+-- the parents of documents that are lent, counted from the same number on
+pub parents-lent : (before number : ℕ) (docs lent : List BatchDoc) → before ≡ number → lent ≡ docs → list_all (λ (doc : BatchDoc). leb (number + doc.parent) 10000) docs ≡ true
+    → list_all (λ (doc : BatchDoc). leb (before + doc.parent) 10000) lent ≡ true
+parents-lent before number docs lent counted same low =
+    ap (λ (l : List BatchDoc). list_all (λ (doc : BatchDoc). leb (before + doc.parent) 10000) l) same
+    ∙ ap (λ k. list_all (λ (doc : BatchDoc). leb (k + doc.parent) 10000) docs) counted ∙ low
+
 -- a test of batch documents gives one of the rows
 pub doc-all : (p : DocRow → Bool) (q : BatchDoc → Bool) (before batch : ℕ) (places : List (Option ℕ)) (n : ℕ) (docs : List BatchDoc)
     → ((i : ℕ) (doc : BatchDoc) → i < n + length docs → length doc.pages ≤ pages_in docs → q doc ≡ true → p (doc_row before batch places i doc) ≡ true) → list_all q docs ≡ true → list_all p (doc_rows before batch places n docs) ≡ true

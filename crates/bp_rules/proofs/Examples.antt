@@ -15,7 +15,7 @@ use Rattle.bp_rules.specs.Beginning.{begun}
 use Rattle.bp_rules.specs.Changes.{after}
 use Rattle.bp_rules.specs.ImportRows.{doc_rows, field_rows, import_rows, lacking, of_docs, page_row, places_of}
 use Rattle.bp_rules.specs.Importing.{import_of}
-use Rattle.bp_rules.specs.Limits.{full_rule, limit_passed}
+use Rattle.bp_rules.specs.Limits.{first_passed, full_rule, limit_passed}
 use Rattle.bp_rules.specs.declared.changes.Edit.TheVariants.{Import, Nothing}
 
 -- ---- the rows of a batch
@@ -87,12 +87,42 @@ other_content = refl
 
 -- ---- limits
 
--- 21 pages of the largest size
-too_many_pixels : limit_passed new_matter (record empty_batch { docs = record letter { pages = replicate 21 (page 20000 10000) } ∷ [] }) ≡ Some (full_rule 3 4200000000)
+-- 1,001 pages of the largest size
+too_many_pixels : limit_passed new_matter (record empty_batch { docs = record letter { pages = replicate 1001 (page 20000 10000) } ∷ [] }) ≡ Some (full_rule 3 200200000000)
 too_many_pixels = refl
 
-most_pixels : limit_passed new_matter (record empty_batch { docs = record letter { pages = replicate 20 (page 20000 10000) } ∷ [] }) ≡ None
-most_pixels = refl
+-- 20 of them have as many pixels as may have strips of any length
+most_free_pixels : limit_passed new_matter (record empty_batch { docs = record letter { pages = replicate 20 (page 20000 10000) } ∷ [] }) ≡ None
+most_free_pixels = refl
+
+most_of_all : first_passed 10000 20000 200000000000 2000000000 64 1000 ≡ None
+most_of_all = refl
+
+-- the bytes of strips are counted of more than 4,000,000,000 pixels alone
+too_many_strip_bytes : first_passed 1 21 4200000000 2000000001 0 1 ≡ Some (full_rule 8 2000000001)
+too_many_strip_bytes = refl
+
+strips_of_free_pixels : first_passed 1 20 4000000000 2000000001 0 1 ≡ None
+strips_of_free_pixels = refl
+
+-- where several limits are passed: documents, pages, pixels, bytes of strips, fields, batches
+documents_first : first_passed 10001 20001 200000000001 2000000001 65 1001 ≡ Some (full_rule 1 10001)
+documents_first = refl
+
+then_pages : first_passed 10000 20001 200000000001 2000000001 65 1001 ≡ Some (full_rule 2 20001)
+then_pages = refl
+
+then_pixels : first_passed 10000 20000 200000000001 2000000001 65 1001 ≡ Some (full_rule 3 200000000001)
+then_pixels = refl
+
+then_strip_bytes : first_passed 10000 20000 200000000000 2000000001 65 1001 ≡ Some (full_rule 8 2000000001)
+then_strip_bytes = refl
+
+then_fields : first_passed 10000 20000 200000000000 2000000000 65 1001 ≡ Some (full_rule 4 65)
+then_fields = refl
+
+then_batches : first_passed 10000 20000 200000000000 2000000000 64 1001 ≡ Some (full_rule 6 1001)
+then_batches = refl
 
 too_many_documents : limit_passed (record new_matter { docs = replicate 10000 (record { doc = record { 0 = 1 }; parent = record { 0 = 1 }; pages = 1; batch = 1; id = []; values = [] }) }) batch ≡ Some (full_rule 1 10002)
 too_many_documents = refl

@@ -7,6 +7,7 @@ use Rattle.bp_core.specs.declared.review.Role.{Role}
 use Rattle.bp_core.specs.declared.review.Role.TheVariants.{Clerk, Lead, Reviewer, Second}
 use Rattle.bp_core.specs.declared.review.Treatment.{Treatment}
 use Rattle.bp_core.specs.declared.review.Treatment.TheVariants.{Produce, Withhold}
+use Rattle.bp_core.specs.declared.stamps.Ink.TheVariants.{Black, Lettered}
 use Rattle.bp_core.specs.declared.rules.RuleKind.TheVariants as kinds
 use Rattle.bp_matter.specs.Batches.{BatchShown}
 use Rattle.bp_matter.specs.Matter.{Matter}
@@ -101,6 +102,7 @@ item n parent treatment entry first last = record {
 -- one number a page, and one for the document that is withheld
 abbrev produced : Production
 produced = record {
+  ink = Lettered;
   request = family;
   items = item 1 1 Produce None 1 2 ∷ item 2 1 (Withhold Ac) (Some advice) 3 3 ∷ item 3 1 Produce None 4 6 ∷ [];
   span = record { first = 1; last = 6 };
@@ -135,6 +137,17 @@ again : step_of frozen (key 1) (Freeze family) ≡ told frozen (replies.Produced
 unfolding step_of freeze_of
 again = refl
 
+-- one that was frozen in black stays so: the same request is answered with it as it is kept
+abbrev black : Production
+black = record produced { ink = Black }
+
+abbrev frozen_before : Matter
+frozen_before = record frozen { productions = record { num = 1; production = black } ∷ [] }
+
+still_black : step_of frozen_before (key 1) (Freeze family) ≡ told frozen_before (replies.Produced black)
+unfolding step_of freeze_of
+still_black = refl
+
 another_range : step_of frozen (key 1) (Freeze (request (codes "R-7") (codes "V1") 1 4)) ≡ Err (bare_rule kinds.RequestDiffers)
 unfolding step_of freeze_of
 another_range = refl
@@ -155,6 +168,7 @@ not_there = refl
 
 abbrev next : Production
 next = record {
+  ink = Lettered;
   request = request (codes "R-8") (codes "V2") 1 4;
   items = item 4 4 Produce None 7 7 ∷ [];
   span = record { first = 7; last = 7 };

@@ -1,5 +1,5 @@
 -- A matter stays valid where a batch is imported that passes no limit.
-use Rattle.std.proofs.Common.{◌≡◌, ℕ, ◌+◌, ◌*◌, ◌≤◌, ◌<◌, ◌^◌, true, cond, eqb, leb, ltb, ◌&&◌, ◌||◌, List, [], ◌∷◌, ◌++◌, length, Option, Some, None, refl, sym, ap, ◌∙◌, inl, inr, arith, subst}
+use Rattle.std.proofs.Common.{◌≡◌, ℕ, ◌+◌, ◌*◌, ◌≤◌, ◌<◌, ◌^◌, Bool, true, false, not, cond, eqb, leb, ltb, ◌&&◌, ◌||◌, List, [], ◌∷◌, ◌++◌, length, Option, Some, None, refl, sym, ap, ◌∙◌, inl, inr, arith, subst}
 use Rattle.std.specs.List.{list_all}
 use Rattle.std.specs.Str.{bytes_eq}
 use Rattle.std.specs.Prelude.{encode_utf8_all}
@@ -15,6 +15,7 @@ use Rattle.bp_core.specs.declared.rules.Rule.{Rule}
 use Rattle.bp_matter.specs.Batches.{BatchShown, IsBatch, batch_page_fits, batch_word_fits, pages_in, parents_stand}
 use Rattle.bp_matter.specs.Matter.{Matter, doc_key}
 use Rattle.bp_matter.specs.ValidDocs.{DocFacts, are_families}
+use Rattle.bp_matter.specs.ValidPages.{strips_fit}
 use Rattle.bp_matter.specs.ValidRows.{is_numbered}
 use Rattle.bp_matter.specs.Valid.{IsValid}
 use Rattle.bp_matter.specs.Written.{batch_written, doc_written, field_written, is_short, is_word, page_written, words_written}
@@ -28,7 +29,7 @@ use Rattle.bp_rules.specs.declared.changes.Edit.TheVariants.{Import}
 use Rattle.bp_rules.proofs.PutLemmas.{import-puts}
 use Rattle.bp_rules.specs.ImportRows.{batch_row, doc_rows, import_rows, lacking, new_fields, of_docs, page_row, places_of}
 use Rattle.bp_rules.specs.Importing.{batch_with}
-use Rattle.bp_rules.specs.Limits.{batches_after, documents_after, fields_after, limit_passed, WithinLimits, pages_after, pixels_after, pixels_in, pixels_on}
+use Rattle.bp_rules.specs.Limits.{batches_after, documents_after, fields_after, limit_passed, WithinLimits, pages_after, pixels_after, pixels_in, pixels_on, strip_bytes_after}
 use Rattle.bp_rules.specs.Written.{RowsWritten}
 use Rattle.bp_rules.proofs.ListLemmas.{assoc3, all-behind, all-weaker, find-none}
 use Rattle.bp_rules.proofs.DocLemmas.{batch-facts, doc-all, doc-facts, field-count, field-facts, parents-low}
@@ -43,14 +44,20 @@ passed limit reached rule rest h =
       | inr within ↦ (ltb-false limit reached within, rw within at h)
     ]
 
+-- the same of a test that has to hold
+held : (fits : Bool) (rule : Rule) (rest : Option Rule) → cond (not fits) (Some rule) rest ≡ None → (fits ≡ true) × (rest ≡ None)
+held true rule rest h = (refl, h)
+held false rule rest h = absurd cc
+
 pub within-limits : (m : Matter) (b : BatchShown) → limit_passed m b ≡ None → WithinLimits m b
 within-limits m b h =
     let p1 = passed 10000 (documents_after m b) _ _ h in
     let p2 = passed 20000 (pages_after m b) _ _ p1.1 in
-    let p3 = passed 4000000000 (pixels_after m b) _ _ p2.1 in
-    let p4 = passed 64 (fields_after m b) _ _ p3.1 in
+    let p3 = passed 200000000000 (pixels_after m b) _ _ p2.1 in
+    let p8 = held (strips_fit (pixels_after m b) (strip_bytes_after m b)) _ _ p3.1 in
+    let p4 = passed 64 (fields_after m b) _ _ p8.1 in
     let p5 = passed 1000 (batches_after m) _ _ p4.1 in
-    record { documents = p1.0; pages = p2.0; pixels = p3.0; fields = p4.0; batches = p5.0 }
+    record { documents = p1.0; pages = p2.0; pixels = p3.0; strips = p8.0; fields = p4.0; batches = p5.0 }
 
 -- the parents of the documents that were there, and of those that come
 old-parents : (docs : List DocRow) → is_numbered doc_key 1 docs ≡ true → are_families 1 docs ≡ true → list_all (λ (d : DocRow). leb d.parent.0 (length docs)) docs ≡ true
@@ -79,7 +86,7 @@ import-valid m b v is h apart short none =
     let more_docs : length m.docs ≤ length (m.docs ++ docs) = omega (arith, length-append m.docs docs) in
     let batches : length (m.batches ++ batch_row batch b ∷ []) ≡ batch = length-append m.batches (batch_row batch b ∷ []) in
     let new_docs = doc-facts (length m.fields) (length m.batches) (length (m.fields ++ fields)) m.docs places b v.docs is more_fields count (omega (arith, l.fields)) (omega (arith, l.batches)) (omega (arith, l.documents)) (omega (arith, l.pages)) none in
-    let new_pages = page-facts m.docs docs m.pages b batch places v.pages is refl new_docs.numbered new_docs.written (omega (arith, l.documents)) (omega (arith, l.pages)) (omega (arith, l.pixels)) in
+    let new_pages = page-facts m.docs docs m.pages b batch places v.pages is refl new_docs.numbered new_docs.written (omega (arith, l.documents)) (omega (arith, l.pages)) (omega (arith, l.pixels)) l.strips in
     let low = old-parents m.docs v.docs.numbered v.docs.families in
     let above : list_all (λ (d : DocRow). leb (before + 1) d.parent.0) docs ≡ true = new-parents before batch places b.docs is.families in
     record {

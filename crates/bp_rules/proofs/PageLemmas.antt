@@ -12,7 +12,7 @@ use Rattle.bp_rows.specs.Limits.{sides_are_imported}
 use Rattle.bp_matter.specs.Batches.{BatchShown, IsBatch, batch_doc_fits, batch_doc_written, batch_page_fits, batch_page_written, batch_word_fits, pages_in}
 use Rattle.bp_matter.specs.Matter.{doc_key, page_key, words_key}
 use Rattle.bp_matter.specs.Texts.{is_id_of_doc, is_value}
-use Rattle.bp_matter.specs.ValidPages.{PageFacts, are_paged, has_rows, page_fits, pixels_of}
+use Rattle.bp_matter.specs.ValidPages.{PageFacts, are_paged, has_rows, page_fits, pixels_of, strip_bytes_of, strip_size, strips_fit}
 use Rattle.bp_matter.specs.ValidRows.{is_numbered}
 use Rattle.bp_matter.specs.ValidWords.{WordFacts, word_fits, words_fit}
 use Rattle.bp_matter.specs.Written.{are_few, doc_written, image_written, is_short, is_word, page_written, word_written, words_written}
@@ -22,7 +22,7 @@ use Rattle.bp_matter.specs.declared.rows.DocRow.{DocRow}
 use Rattle.bp_matter.specs.declared.rows.PageRow.{PageRow}
 use Rattle.bp_matter.specs.declared.rows.PageWords.{PageWords}
 use Rattle.bp_rules.specs.ImportRows.{doc_rows, of_docs, of_pages, page_row, words_row}
-use Rattle.bp_rules.specs.Limits.{pixels_in, pixels_on}
+use Rattle.bp_rules.specs.Limits.{pixels_in, pixels_on, strip_bytes_in, strip_bytes_on}
 use Rattle.bp_rules.proofs.ListLemmas.{assoc4, assoc5, all-append, all-weaker, find-member, either_found}
 
 -- ---- rows of pages, of any kind
@@ -137,6 +137,19 @@ pixels-docs : (n : ℕ) (docs : List BatchDoc) → pixels_of (of_docs page_row n
 pixels-docs n [] = refl
 pixels-docs n (doc ∷ docs) = omega (arith, pixels-append (of_pages page_row n 1 doc.pages) (of_docs page_row (n + 1) docs), pixels-pages n 1 doc.pages, pixels-docs (n + 1) docs)
 
+-- the bytes of strips, likewise
+strips-append : (xs ys : List PageRow) → strip_bytes_of (xs ++ ys) ≡ strip_bytes_of xs + strip_bytes_of ys
+strips-append [] ys = omega arith
+strips-append (x ∷ xs) ys = omega (arith, strips-append xs ys)
+
+strips-pages : (n k : ℕ) (ps : List BatchPage) → strip_bytes_of (of_pages page_row n k ps) ≡ strip_bytes_on ps
+strips-pages n k [] = refl
+strips-pages n k (p ∷ ps) = ap (λ j. strip_size p.page + j) (strips-pages n (k + 1) ps)
+
+strips-docs : (n : ℕ) (docs : List BatchDoc) → strip_bytes_of (of_docs page_row n docs) ≡ strip_bytes_in docs
+strips-docs n [] = refl
+strips-docs n (doc ∷ docs) = omega (arith, strips-append (of_pages page_row n 1 doc.pages) (of_docs page_row (n + 1) docs), strips-pages n 1 doc.pages, strips-docs (n + 1) docs)
+
 -- the pages of a batch fit, and are written
 pub doc-pages-fit : (fields : ℕ) (doc : BatchDoc) → batch_doc_fits fields doc ≡ true → list_all batch_page_fits doc.pages ≡ true
 doc-pages-fit fields doc h =
@@ -171,18 +184,22 @@ words-write n k p ln lk h = numbers-written n k (are_few word_written p.words) l
 
 -- the pages after an import
 pub page-facts : (docs docs' : List DocRow) (pages : List PageRow) (b : BatchShown) (batch : ℕ) (places : List (Option ℕ)) → PageFacts docs pages → IsBatch b → docs' ≡ doc_rows (length docs) batch places (length docs + 1) b.docs
-    → is_numbered doc_key 1 (docs ++ docs') ≡ true → list_all doc_written (docs ++ docs') ≡ true → length docs + length b.docs ≤ 10000 → length pages + pages_in b.docs ≤ 20000 → pixels_of pages + pixels_in b.docs ≤ 4000000000
+    → is_numbered doc_key 1 (docs ++ docs') ≡ true → list_all doc_written (docs ++ docs') ≡ true → length docs + length b.docs ≤ 10000 → length pages + pages_in b.docs ≤ 20000 → pixels_of pages + pixels_in b.docs ≤ 200000000000
+    → strips_fit (pixels_of pages + pixels_in b.docs) (strip_bytes_of pages + strip_bytes_in b.docs) ≡ true
     → PageFacts (docs ++ docs') (pages ++ of_docs page_row (length docs + 1) b.docs)
-page-facts docs docs' pages b batch places old is made num wr few few_pages few_pixels =
+page-facts docs docs' pages b batch places old is made num wr few few_pages few_pixels few_strips =
     let n = length docs + 1 in
     let rows = of_docs page_row n b.docs in
+    let pixels : pixels_of (pages ++ rows) ≡ pixels_of pages + pixels_in b.docs = pixels-append pages rows ∙ ap (λ k. pixels_of pages + k) (pixels-docs n b.docs) in
+    let strips : strip_bytes_of (pages ++ rows) ≡ strip_bytes_of pages + strip_bytes_in b.docs = strips-append pages rows ∙ ap (λ k. strip_bytes_of pages + k) (strips-docs n b.docs) in
     let paged : are_paged page_key (docs ++ docs') (pages ++ rows) ≡ true =
     paged-append page_key docs docs' pages rows old.paged (ap (λ (l : List DocRow). are_paged page_key l rows) made ∙ paged-new page_key page_row (λ i k p. refl) (length docs) batch places n b.docs) in
     record {
       ascend = ascends-paged page_key (docs ++ docs') (pages ++ rows) num wr paged;
       paged = paged;
       few = le-leb (length (pages ++ rows)) 20000 (omega (arith, length-append pages rows, docs-count page_row n b.docs));
-      pixels_few = le-leb (pixels_of (pages ++ rows)) 4000000000 (omega (arith, pixels-append pages rows, pixels-docs n b.docs));
+      pixels_few = le-leb (pixels_of (pages ++ rows)) 200000000000 (omega (arith, pixels));
+      strips_few = ap (λ k. strips_fit k (strip_bytes_of (pages ++ rows))) pixels ∙ ap (λ k. strips_fit (pixels_of pages + pixels_in b.docs) k) strips ∙ few_strips;
       fit = all-append page_fits pages rows old.fit (docs-all page_fits batch_page_fits page_row n b.docs (λ i j x li lj h. page-fit i j x h) (all-pages-fit b is));
       written = all-append page_written pages rows old.written (docs-all page_written batch_page_written page_row n b.docs (λ i j x li lj h. page-writes i j x (omega arith) (omega arith) h) (all-pages-written b is));
     }

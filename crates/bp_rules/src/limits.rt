@@ -2,14 +2,14 @@
 ghost use Rattle.std.specs.Prelude.{◌≡◌, ◌<◌, ◌≤◌, ◌^◌, ◌*◌, length};
 ghost use Rattle.bp_matter.specs.Batches.{pages_in};
 ghost use Rattle.bp_matter.specs.ValidFields.{has_field};
-ghost use Rattle.bp_matter.specs.ValidPages.{pixels_of};
+ghost use Rattle.bp_matter.specs.ValidPages.{pixels_of, strip_bytes_of, strip_size, strips_fit};
 ghost use Rattle.bp_rules.specs.ImportRows.{lacking};
-ghost use Rattle.bp_rules.specs.Limits.{documents_after, fields_after, full_rule, limit_passed, pages_after, pixels_after, pixels_in, pixels_on};
+ghost use Rattle.bp_rules.specs.Limits.{documents_after, fields_after, full_rule, limit_passed, pages_after, pixels_after, pixels_in, pixels_on, strip_bytes_after, strip_bytes_in, strip_bytes_on};
 
 use bp_core::{Rule, RuleKind, Text};
 use bp_matter::{
     Batch, BatchDoc, BatchPage, FieldRow, KeptPage, MAX_BATCHES, MAX_DOCUMENTS, MAX_FIELDS,
-    MAX_PAGES, MAX_PIXELS, PageRow, Tables,
+    MAX_FREE_PIXELS, MAX_PAGES, MAX_PIXELS, MAX_STRIP_BYTES, PageRow, Tables,
 };
 
 // The numbers of the limits.
@@ -22,6 +22,8 @@ pub const PIXELS: u64 = 3;
 pub const FIELDS: u64 = 4;
 
 pub const BATCHES: u64 = 6;
+
+pub const STRIP_BYTES: u64 = 8;
 
 fn full(which: u64, reached: u64) -> Rule
     ensures { result ≡ full_rule which reached }
@@ -46,6 +48,10 @@ pub(crate) fn limit_passed(tables: &Tables, batch: &Batch) -> Option<Rule>
     let pixels = pixels_after(tables, batch);
     if u128::from(pixels) > MAX_PIXELS {
         return Some(full(PIXELS, pixels));
+    }
+    let strips = strip_bytes_after(tables, batch);
+    if !strips_fit(pixels, strips) {
+        return Some(full(STRIP_BYTES, strips));
     }
     let fields = fields_after(tables, batch);
     if fields > MAX_FIELDS {
@@ -86,6 +92,22 @@ fn pixels_law(batch: &Batch)
     ensures { pixels_in batch.now.docs ≤ 2 ^ 62 }
 {
     batch.know_batch();
+}
+
+// Whether so many pixels may have strips of so many bytes.
+fn strips_fit(pixels: u64, bytes: u64) -> bool
+    ensures { result ≡ strips_fit pixels bytes }
+{
+    u128::from(pixels) <= MAX_FREE_PIXELS || u128::from(bytes) <= MAX_STRIP_BYTES
+}
+
+// Of so many pages as a matter may have, the bytes are a number of 63 bits.
+fn strip_bytes_after(tables: &Tables, batch: &Batch) -> u64
+    requires { pages_after tables.now.matter batch.now ≤ MAX_PAGES }
+    ensures { result ≡ strip_bytes_after tables.now.matter batch.now }
+{
+    tables.know_valid();
+    strip_bytes_of(&tables.pages) + strip_bytes_in(batch.docs.as_slice())
 }
 
 fn fields_after(tables: &Tables, batch: &Batch) -> usize
@@ -188,6 +210,55 @@ fn pixels_in(docs: &[BatchDoc]) -> u64
     let mut rest = docs;
     while let Some((doc, others)) = rest.split_first() {
         sum += pixels_on(doc.pages.as_slice());
+        rest = others;
+    }
+    sum
+}
+
+fn strip_size(page: &KeptPage) -> u64
+    ensures value { result ≡ strip_size page.now }
+    ensures few { result < 2 ^ 32 }
+{
+    page.strip().len() as u64
+}
+
+fn strip_bytes_of(pages: &[PageRow]) -> u64
+    requires { length pages.now ≤ MAX_PAGES }
+    ensures value { result ≡ strip_bytes_of pages.now }
+    ensures few { result ≤ length pages.now * 2 ^ 32 }
+{
+    let mut sum = 0;
+    let mut rest = pages;
+    while let Some((row, others)) = rest.split_first() {
+        sum += strip_size(&row.image);
+        rest = others;
+    }
+    sum
+}
+
+fn strip_bytes_on(pages: &[BatchPage]) -> u64
+    requires { length pages.now ≤ MAX_PAGES }
+    ensures value { result ≡ strip_bytes_on pages.now }
+    ensures few { result ≤ length pages.now * 2 ^ 32 }
+{
+    let mut sum = 0;
+    let mut rest = pages;
+    while let Some((page, others)) = rest.split_first() {
+        sum += strip_size(&page.page);
+        rest = others;
+    }
+    sum
+}
+
+fn strip_bytes_in(docs: &[BatchDoc]) -> u64
+    requires { pages_in docs.now ≤ MAX_PAGES }
+    ensures value { result ≡ strip_bytes_in docs.now }
+    ensures few { result ≤ pages_in docs.now * 2 ^ 32 }
+{
+    let mut sum = 0;
+    let mut rest = docs;
+    while let Some((doc, others)) = rest.split_first() {
+        sum += strip_bytes_on(doc.pages.as_slice());
         rest = others;
     }
     sum

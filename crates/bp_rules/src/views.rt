@@ -50,7 +50,7 @@ pub(crate) fn see_page(
     let Some(row) = tables.page_with(doc, page) else {
         return Err(Refusal::Rule(no_page(page)));
     };
-    let image = row.image.page(alloc)?;
+    let image = row.image.share()?;
     told(alloc, tables, Reply::Image(image))
 }
 

@@ -5,22 +5,47 @@ use crate::files::page_of;
 use crate::rows::{reviewer, rows_of};
 use anyhow::{Result, bail};
 use bp_core::{DocNo, NumberList, OutOfMemory, RowList, Text, Treatment, ascends};
-use bp_desk::{Book, DOOR_SEAT, MOST_CALLS, serve_one};
+use bp_desk::{Book, MOST_CALLS};
 use bp_keep::{Keeper, MemKeeper};
 use bp_matter::Call;
-use bp_outside::TcpDoor;
+use bp_outside::{DESK_LIMIT, TcpDoor};
+use bp_seats::{MOST_SEATS, serve_matter};
 use std::alloc::Global;
+use std::sync::Wait;
+use std::thread::Threads;
 
-/// Serves so many connections at the port of desk 1; how many calls were made.
-pub fn serve(rt: &HostRuntime, operands: &[String]) -> Result<u64> {
-    let [file, docs, connections] = operands else {
-        bail!("FILE DOCS CONNECTIONS");
+/// Serves so many connections at the port of each desk, from 1; how many calls were made.
+pub fn serve<T: Threads + Wait + Sync>(
+    rt: &HostRuntime,
+    threads: &T,
+    operands: &[String],
+) -> Result<u64> {
+    let [file, docs, desks, connections] = operands else {
+        bail!("FILE DOCS DESKS CONNECTIONS");
     };
+    let rows = rows_over(rt, file.as_str(), docs.parse::<u32>()?)?;
+    let desks = desks.parse::<u32>()?;
+    let doors = doors_of(rt, desks)?;
+    if desks == 0 || desks > MOST_SEATS || doors.len() != desks as usize {
+        bail!("there are 1 to {MOST_SEATS} desks");
+    }
+    let keeper = keeper_of(rt.alloc(), rows)?;
     let connections = connections.parse::<u32>()?;
-    let mut book = book_of(rt, file.as_str(), docs.parse::<u32>()?)?;
-    let mut door = TcpDoor::of(rt, 1);
-    serve_one(rt.alloc(), &mut book, &mut door, connections);
-    Ok(count_of(book))
+    match serve_matter(threads, rt.alloc(), keeper, doors, desks, connections) {
+        Ok(served) => Ok(served.closed.history.len() as u64),
+        Err(_) => bail!("the rows aren't read"),
+    }
+}
+
+// The doors of the first desks, of at most as many as there can be.
+fn doors_of<'a>(rt: &'a HostRuntime, desks: u32) -> Result<Vec<TcpDoor<'a, HostRuntime>>> {
+    let mut doors = Vec::new(rt.alloc());
+    for desk in 1..=DESK_LIMIT {
+        if u32::from(desk) <= desks {
+            doors.push(TcpDoor::of(rt, desk))?;
+        }
+    }
+    Ok(doors)
 }
 
 /// Makes so many calls, those that a client would ask for; how many were made.
@@ -81,7 +106,7 @@ fn call_once<K: Keeper>(
     key: &[u8; 32],
     call: &Call,
 ) -> Result<()> {
-    match book.call(alloc, DOOR_SEAT, key, call) {
+    match book.call(alloc, 1, key, call) {
         Ok(_) => Ok(()),
         Err(refusal) => bail!("a call is refused: {refusal}"),
     }

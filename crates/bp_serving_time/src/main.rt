@@ -19,7 +19,7 @@
 // Over a matter of so many documents of one page, kept in memory (bench/serve.sh); the page is that
 // of a file, or of 8 by 1 pixels where FILE is `-`:
 //
-//     bp_serving_time serve FILE DOCS CONNECTIONS
+//     bp_serving_time serve FILE DOCS DESKS CONNECTIONS
 //     bp_serving_time calls FILE DOCS COUNT
 #![tactic(auto)]
 
@@ -35,16 +35,18 @@ mod rows;
 
 use anyhow::{Result, bail};
 use std::env;
+use std::sync::Wait;
+use std::thread::Threads;
 
 fn main(rt: HostRuntime) -> Result<()> {
     let words: Vec<String> = env::args(&rt)?.collect(rt.alloc())?;
-    let sum = run(&rt, words.as_slice())?;
+    let sum = run(&rt, &rt, words.as_slice())?;
     println!(rt; "{sum}")?;
     Ok(())
 }
 
 // What the words ask for; the checksum of what came out.
-fn run(rt: &HostRuntime, words: &[String]) -> Result<u64> {
+fn run<T: Threads + Wait + Sync>(rt: &HostRuntime, threads: &T, words: &[String]) -> Result<u64> {
     let [_program, job, operands @ ..] = words else {
         bail!("no job was named");
     };
@@ -53,7 +55,7 @@ fn run(rt: &HostRuntime, words: &[String]) -> Result<u64> {
         "doc_parts" => replies::run(rt, "doc_parts", operands),
         "page" => replies::run(rt, "page", operands),
         "page_parts" => replies::run(rt, "page_parts", operands),
-        "serve" => desks::serve(rt, operands),
+        "serve" => desks::serve(rt, threads, operands),
         "calls" => desks::calls(rt, operands),
         "input" => inputs::run(rt, operands),
         other => requests::run(rt, other, operands),

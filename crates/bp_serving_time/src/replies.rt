@@ -4,7 +4,7 @@
 use crate::documents::{document, value_of};
 use crate::files::page_of;
 use anyhow::{Result, bail};
-use bp_matter::Reply;
+use bp_matter::{KeptPage, Reply};
 use bp_rows::Page;
 use bp_tiff::{Form, write_tiff};
 use bp_web::{Answer, reply_bytes};
@@ -24,7 +24,7 @@ pub fn run(rt: &HostRuntime, job: &str, operands: &[String]) -> Result<u64> {
         "doc_parts" => document_times(alloc, times),
         "page" => reply_times(
             alloc,
-            Reply::Image(page_of(rt, alloc, file.as_str())?),
+            Reply::Image(KeptPage::of(alloc, &page_of(rt, alloc, file.as_str())?)?),
             times,
         ),
         _ => page_times(alloc, &page_of(rt, alloc, file.as_str())?, times),

@@ -2,6 +2,7 @@ pub mod BoundLemmas
 pub mod ChosenLemmas
 pub mod CodeLemmas
 pub mod CodingLemmas
+pub mod CopyLemmas
 mod Examples
 pub mod FinishLemmas
 pub mod GatherLemmas

@@ -50,19 +50,26 @@ codes_more above (first ∷ lines) line =
     ap (λ bs. row_code above first ++ bs) (codes_more first lines line)
     ∙ sym (append_assoc (row_code above first) (codes_so_far first lines) (row_code (last_line first lines) line))
 
+pub line_copied : (old new : AddedSoFar) (lines : List (List Bool)) (line : List Bool) → HasAdded old lines → new.width ≡ old.width → length line ≡ old.width → new.above ≡ changes_of line
+    → new.bits ≡ old.bits ++ row_code (last_line (white_line old.width) lines) line → HasAdded new (lines ++ line ∷ [])
+line_copied old new lines line has same long places put =
+    let white = white_line old.width in
+    let over = last_line white lines in
+    let whites : white_line new.width ≡ white = ap white_line same in
+    record {
+      wide = subst (λ (w : ℕ). HaveWidth w (lines ++ line ∷ [])) (sym same) (wide_more old.width lines line has.wide long);
+      coded = put ∙ ap (λ bs. bs ++ row_code over line) has.coded
+          ∙ sym (codes_more white lines line) ∙ ap (λ o. codes_so_far o (lines ++ line ∷ [])) (sym whites);
+      last = places ∙ ap changes_of (sym (last-more (white_line new.width) lines line));
+    }
+
 pub line_added : (old new : AddedSoFar) (lines : List (List Bool)) (line : List Bool) → HasAdded old lines → new.width ≡ old.width → length line ≡ old.width → new.above ≡ changes_of line
     → ((row over : List Bool) → Shows new.above old.width row → Shows old.above old.width over → new.bits ≡ old.bits ++ row_code over row) → HasAdded new (lines ++ line ∷ [])
 line_added old new lines line has same long places put =
     let white = white_line old.width in
     let over = last_line white lines in
-    let whites : white_line new.width ≡ white = ap white_line same in
     let above = shows_row over old.above old.width (last_long old.width white lines (length-replicate old.width _) has.wide) has.last in
-    record {
-      wide = subst (λ (w : ℕ). HaveWidth w (lines ++ line ∷ [])) (sym same) (wide_more old.width lines line has.wide long);
-      coded = put line over (shows_row line new.above old.width long places) above ∙ ap (λ bs. bs ++ row_code over line) has.coded
-          ∙ sym (codes_more white lines line) ∙ ap (λ o. codes_so_far o (lines ++ line ∷ [])) (sym whites);
-      last = places ∙ ap changes_of (sym (last-more (white_line new.width) lines line));
-    }
+    line_copied old new lines line has same long places (put line over (shows_row line new.above old.width long places) above)
 
 pub runs_shown : (runs places : List ℕ) (width : ℕ) → sum runs ≡ width → places ≡ changes_of (painted_runs false runs) → Shows places width (painted_runs false runs)
 runs_shown runs places width total is = shows_row (painted_runs false runs) places width (length-painted false runs ∙ total) is

@@ -17,6 +17,10 @@ abbrev pub last_line : List Bool → List (List Bool) → List Bool
 last_line above [] = above
 last_line above (line ∷ lines) = last_line line lines
 
+-- the row above a row of a page, which counts from 0; above the first a white one
+abbrev pub row_above : Image → ℕ → List Bool
+row_above p count = last_line (white_line p.width) (take count p.rows)
+
 -- each line has that width
 abbrev pub HaveWidth : ℕ → List (List Bool) → Type 0
 HaveWidth width lines = (i : ℕ) → i < length lines → length (slice_index_or lines i []) ≡ width

@@ -66,6 +66,13 @@ impl BitWriter {
         Ok(())
     }
 
+    /// Makes room for so many bytes more, in which putting takes no memory.
+    pub fn reserve(&mut self, bytes: usize) -> Result<(), AllocError>
+        ensures { self.new ≡ self.old }
+    {
+        self.bytes.reserve(bytes)
+    }
+
     /// The place behind the bits so far.
     pub fn mark(&self) -> Mark
         ensures { IsMarked result self.now }

@@ -1,5 +1,5 @@
 //! The laws of strips. The functions do nothing: the contract of each is the law.
-ghost use Rattle.std.specs.Prelude.{◌≡◌, ◌<◌, ◌≤◌, ◌+◌, ◌*◌, ◌^◌, ◌↔◌, ◌⊎◌, ℕ, Bool, List, None, length, take};
+ghost use Rattle.std.specs.Prelude.{◌≡◌, ◌<◌, ◌≤◌, ◌+◌, ◌*◌, ◌^◌, ◌↔◌, ◌⊎◌, ℕ, Bool, List, None, length, slice_range, take};
 ghost use Rattle.bp_core.specs.declared.rules.RuleKind.{RuleKind};
 ghost use Rattle.bp_codes.specs.declared.span.Fill.TheVariants.{High};
 ghost use Rattle.bp_codes.specs.Bits.{bits_of};
@@ -9,7 +9,7 @@ ghost use Rattle.bp_rows.specs.Runs.{IsRuns};
 ghost use Rattle.bp_t6.specs.Written.{row_code, strip_of};
 ghost use Rattle.bp_t6.specs.Faults.{StripFault};
 ghost use Rattle.bp_t6.specs.Read.{StripReads};
-ghost use Rattle.bp_t6.specs.SoFar.{ReadSoFar, ReadsLine, ReadsNext, ReadsPage, unread};
+ghost use Rattle.bp_t6.specs.SoFar.{ReadSoFar, ReadsLine, ReadsNext, ReadsPage, row_above, unread};
 ghost use Rattle.bp_t6.specs.Strips.{SaysFault};
 ghost use Rattle.bp_core.specs.declared.rules.Rule.{Rule as BrokenRule};
 
@@ -84,6 +84,21 @@ pub fn rows_law()
 {
     strip_law();
     reading_law();
+}
+
+/// The code of a row of a page, against the row above it, stands in the strip of the page from where
+/// reading stood before the row up to where it stands behind it.
+pub fn code_law()
+    ensures order { (p : Image) (count : ℕ) (old new : ReadSoFar) →
+        IsPage p → count < p.height → ReadsPage p count old → ReadsPage p (count + 1) new →
+        old.at ≤ new.at }
+    ensures code { (p : Image) (count : ℕ) (old new : ReadSoFar) →
+        IsPage p → count < p.height → ReadsPage p count old → ReadsPage p (count + 1) new →
+        slice_range new.bits old.at new.at ≡ row_code (row_above p count) (row_of p count) }
+{
+    white_laws();
+    black_laws();
+    mode_laws();
 }
 
 /// Whatever the bits are, a strip of any sides is read as some lines or has some fault.

@@ -8,6 +8,7 @@
 //! or have some fault.
 #![tactic(auto)]
 
+mod bit_copy;
 mod bit_writer;
 pub mod laws;
 mod lengths;

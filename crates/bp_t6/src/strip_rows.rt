@@ -4,6 +4,7 @@ ghost use Rattle.bp_core.specs.declared.refusals.Refusal.TheVariants as refusals
 ghost use Rattle.bp_core.specs.declared.rules.Rule.{Rule as BrokenRule};
 ghost use Rattle.bp_core.specs.Answers.{IfRule};
 ghost use Rattle.bp_codes.specs.Bits.{bits_of};
+ghost use Rattle.bp_codes.specs.Span.{span_bits};
 ghost use Rattle.bp_rows.specs.Changes.{Rises, Shows};
 ghost use Rattle.bp_rows.specs.Runs.{IsRuns};
 ghost use Rattle.bp_t6.specs.SoFar.{HasRead, ReadsLine, ReadsNext, unread, stopped, rule_of};
@@ -126,6 +127,21 @@ impl<'a> StripRows<'a> {
         ensures total { IfOk result (λ runs. sum runs ≡ self.now.width) }
     {
         runs_of(alloc, &self.above, self.width)
+    }
+
+    /// The bit up to which the strip is read, counted from 0.
+    pub fn at(&self) -> u64
+        ensures at { result ≡ self.now.at }
+        ensures within { result ≤ length self.now.bits }
+    {
+        self.at
+    }
+
+    /// The strip.
+    pub(crate) fn span(&self) -> BitSpan<'a>
+        ensures { span_bits result ≡ self.now.bits }
+    {
+        self.span
     }
 
     /// The places that show the row that was read last.

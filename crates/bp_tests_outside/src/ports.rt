@@ -66,6 +66,21 @@ fn a_door_fails_where_the_system_does(rt: HostRuntime) -> Result<(), Fail> {
     Ok(())
 }
 
+// After an accept that the system refused it rests, and then asks for its port again.
+#[test]
+fn a_door_rests_after_a_refusal(rt: HostRuntime) -> Result<(), Fail> {
+    let alloc = rt.alloc();
+    let stage = Stage::new(alloc, 0, NO_SPACE, b"ping", 9)?;
+    let mut door = TcpDoor::of(&stage, 16);
+    assert_eq!(rt; door.accept(alloc), Err(DoorRefusal::Failed));
+    let refused = "bind 127.0.0.1:48216\nrest 250\n";
+    assert_eq!(rt; stage.lines().as_str(), refused);
+    assert_eq!(rt; door.accept(alloc), Ok(true));
+    let begun = "bind 127.0.0.1:48216\naccept\nread limit 10000\nwrite limit 10000\n";
+    assert_eq!(rt; stage.lines().as_str(), begun);
+    Ok(())
+}
+
 // How often a line stands in the stage's lines.
 fn times(lines: &str, line: &str) -> usize {
     lines.lines().filter(|one| *one == line).count()

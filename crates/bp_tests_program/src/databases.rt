@@ -11,6 +11,7 @@ use bp_rules::{load_tables, step};
 use sqlite::{Connection, MemStore};
 use std::alloc::{AllocError, Global};
 use std::process::Abort;
+use std::sync::Wait;
 use std::test::Fail;
 use std::thread::Threads;
 
@@ -36,7 +37,7 @@ fn row(alloc: Global, path: &str, bytes: &[u8]) -> Result<FileRow, AllocError> {
     })
 }
 
-fn source(alloc: Global) -> Result<MemSource, Fail> {
+pub fn source(alloc: Global) -> Result<MemSource, Fail> {
     let mut rows = Vec::new(alloc);
     for (path, bytes) in BATCH {
         rows.push(row(alloc, path, bytes)?)?;
@@ -59,7 +60,7 @@ struct Left {
 type Rows = SqlKeeper<MemStore>;
 
 // Runs a line over a keeper. What it left, and the keeper that was handed back.
-fn ran<R: Threads + Sync>(
+fn ran<R: Threads + Wait + Sync>(
     rt: &R,
     alloc: Global,
     line: &str,
@@ -103,7 +104,7 @@ fn handed_back(ended: Ended<Rows, MemDoor>) -> Result<(u8, Rows), Fail> {
 }
 
 // Runs a line that prints this and puts no file. The keeper after it.
-fn told<R: Abort + Threads + Sync>(
+fn told<R: Abort + Threads + Wait + Sync>(
     rt: &R,
     alloc: Global,
     line: &str,
@@ -117,8 +118,8 @@ fn told<R: Abort + Threads + Sync>(
     Ok(keeper)
 }
 
-// The lead calls document 1 responsive, to be produced.
-fn decide<K: Keeper>(alloc: Global, keeper: &mut K) -> Result<(), Fail> {
+// Who has this key calls document 1 responsive, to be produced.
+pub fn decide<K: Keeper>(alloc: Global, keeper: &mut K, key: &[u8; 32]) -> Result<(), Fail> {
     let mut tables = load_tables(alloc, keeper)?;
     let call = Call::SetCall {
         doc: DocNo(1),
@@ -126,17 +127,17 @@ fn decide<K: Keeper>(alloc: Global, keeper: &mut K) -> Result<(), Fail> {
         treatment: Treatment::Produce,
         designation: Text::from_string(String::new(alloc)),
     };
-    let _done = step(alloc, &mut tables, keeper, &LEAD, &call)?;
+    let _done = step(alloc, &mut tables, keeper, key, &call)?;
     Ok(())
 }
 
 // A database with a matter of the batch, decided.
-fn decided<R: Abort + Threads + Sync>(rt: &R, alloc: Global) -> Result<Rows, Fail> {
+fn decided<R: Abort + Threads + Wait + Sync>(rt: &R, alloc: Global) -> Result<Rows, Fail> {
     let keeper = SqlKeeper::over(Connection::open_in_memory(alloc)?);
     let keeper = told(rt, alloc, INIT, keeper, "matter made\n")?;
     let imported = "batch B1 documents 1 pages 1\n";
     let mut keeper = told(rt, alloc, "import B1", keeper, imported)?;
-    decide(alloc, &mut keeper)?;
+    decide(alloc, &mut keeper, &LEAD)?;
     Ok(keeper)
 }
 

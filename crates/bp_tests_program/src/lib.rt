@@ -5,8 +5,14 @@
 #[cfg(test)]
 mod databases;
 #[cfg(test)]
+mod meeting_door;
+#[cfg(test)]
 mod page_file;
 #[cfg(test)]
 mod programs;
 #[cfg(test)]
+mod replies;
+#[cfg(test)]
 mod stage;
+#[cfg(test)]
+mod two_doors;

@@ -11,6 +11,7 @@ use std::env::Args;
 use std::io;
 use std::io::ErrorKind;
 use std::process::Abort;
+use std::sync::Wait;
 use std::test::Fail;
 use std::thread::Threads;
 
@@ -30,7 +31,7 @@ pub fn words_of(alloc: Global, line: &str) -> Result<Vec<String>, AllocError> {
 const HELD: &str = "read /\nread /\nread /\n";
 
 // Runs the program, which is to end with this status, after it opened and printed this.
-fn check<R: Abort + Threads + Sync>(
+fn check<R: Abort + Threads + Wait + Sync>(
     rt: &R,
     alloc: Global,
     answer: io::Result<Args>,
@@ -103,7 +104,7 @@ fn words_that_the_system_does_not_give_are_told_apart(rt: HostRuntime) -> Result
 }
 
 // Runs the program where its database can't be opened.
-fn check_unopened<R: Abort + Threads + Sync>(
+fn check_unopened<R: Abort + Threads + Wait + Sync>(
     rt: &R,
     alloc: Global,
     error: Error,

@@ -1,5 +1,5 @@
 -- What serde_json answers over a body, as an object or none.
-use Rattle.std.proofs.Common.{◌≡◌, ℕ, true, false, cond, List, Some, None, is_some, sym, ap, ◌∙◌, inl, inr}
+use Rattle.std.proofs.Common.{◌≡◌, ℕ, true, false, List, Some, None, is_some, sym, ap, ◌∙◌, inl, inr}
 use Rattle.std.specs.Option.{option_and_then}
 use Rattle.std.specs.Str.{IsUtf8, chars, is_utf8}
 use Rattle.std.proofs.lemmas.Bool.{cases_Bool, cond-true, cond-false}
@@ -7,7 +7,7 @@ use Rattle.std.proofs.lemmas.Str.{IsUtf8-from_is_utf8, is_utf8-from_IsUtf8}
 use Rattle.serde_json.specs.Data.{Data}
 use Rattle.serde_json.specs.Find.{as_object}
 use Rattle.serde_json.specs.Read.{read}
-use Rattle.bp_web.specs.Calls.{name_in, second_part}
+use Rattle.bp_web.specs.Calls.{characters_of}
 use Rattle.bp_web.specs.Members.{json_of, if_object, object_of}
 
 pub object_read : (body : List ℕ) (d : Data)
@@ -38,34 +38,18 @@ none_read body none =
     sym (ap (option_and_then if_object) json)
 
 -- bytes in UTF-8 have their characters, and others have none
-pub text_read : (bytes text : List ℕ)
-    → text ≡ bytes
+pub text_read : (bytes string characters : List ℕ)
+    → string ≡ bytes
     → IsUtf8 bytes
-    → Some (chars text) ≡ cond (is_utf8 bytes) (Some (chars bytes)) None
-text_read bytes text same utf8 =
-    ap (λ t. Some (chars t)) same ∙ sym (cond-true (is_utf8 bytes) (Some (chars bytes)) None (is_utf8-from_IsUtf8 bytes utf8))
+    → characters ≡ chars string
+    → Some characters ≡ characters_of bytes
+text_read bytes string characters same utf8 are =
+    ap Some are ∙ ap (λ t. Some (chars t)) same
+    ∙ sym (cond-true (is_utf8 bytes) (Some (chars bytes)) None (is_utf8-from_IsUtf8 bytes utf8))
 
-pub no_text : (bytes : List ℕ)
-    → ¬ (IsUtf8 bytes)
-    → None ≡ cond (is_utf8 bytes) (Some (chars bytes)) None
+pub no_text : (bytes : List ℕ) → ¬ (IsUtf8 bytes) → None ≡ characters_of bytes
 no_text bytes other =
     elim (cases_Bool (is_utf8 bytes)) [
       | inl passes ↦ absurd (other (IsUtf8-from_is_utf8 bytes passes))
       | inr fails ↦ sym (cond-false (is_utf8 bytes) (Some (chars bytes)) None fails)
     ]
-
--- the same of a name in a target
-pub name_read : (target bytes string characters : List ℕ)
-    → bytes ≡ second_part target
-    → string ≡ bytes
-    → IsUtf8 bytes
-    → characters ≡ chars string
-    → Some characters ≡ name_in target
-name_read target bytes string characters is same utf8 are =
-    ap Some are ∙ text_read bytes string same utf8 ∙ ap (λ b. cond (is_utf8 b) (Some (chars b)) None) is
-
-pub name_refused : (target bytes : List ℕ)
-    → bytes ≡ second_part target
-    → ¬ (IsUtf8 bytes)
-    → None ≡ name_in target
-name_refused target bytes is other = no_text bytes other ∙ ap (λ b. cond (is_utf8 b) (Some (chars b)) None) is

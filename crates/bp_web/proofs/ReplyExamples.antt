@@ -9,6 +9,7 @@ use Rattle.bp_core.specs.declared.rectangle.Rect.{Rect}
 use Rattle.bp_core.specs.declared.review.Basis.TheVariants.{Ac, Pi}
 use Rattle.bp_core.specs.declared.review.Treatment.TheVariants.{Redact, Withhold}
 use Rattle.bp_core.specs.declared.rules.RuleKind.TheVariants.{BoxShape, KeyUnknown, NoDocument, NoFile, NoPage, NoProduction, RoleRefused}
+use Rattle.bp_core.specs.declared.stamps.Ink.TheVariants.{Lettered}
 use Rattle.bp_matter.specs.declared.calls.Reply.TheVariants.{Done, Image}
 use Rattle.bp_matter.specs.declared.rows.State.TheVariants.{Confirmed, First}
 use Rattle.bp_rows.specs.Image as pages
@@ -86,7 +87,9 @@ entry_value : compact_text (doc_data (record {
 unfolding doc_data digits encode serde_json_on_literals
 entry_value = refl
 
+-- of its ink nothing is told
 production_value : compact_text (production_data (record {
+  ink = Lettered;
   request = record {
     id = codes "R";
     volume = codes "V";

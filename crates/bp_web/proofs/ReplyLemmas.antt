@@ -29,7 +29,7 @@ json_sent status kind body d k b = λ i. message_text (record { status = status;
 
 -- ---- no reply has a float
 
-no_floats : {A : Type 0} (value : A → Data)
+pub no_floats : {A : Type 0} (value : A → Data)
     → ((x : A) → has_float (value x) ≡ false)
     → (rows : List A)
     → items_have_float (items_of (map value rows)) ≡ false

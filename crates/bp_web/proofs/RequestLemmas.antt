@@ -28,7 +28,7 @@ use Rattle.bp_web.specs.declared.routes.Route.{Route}
 
 -- ---- one head
 
-one_head : (start : List ℕ) (h k : RequestHead) → BeginsWith start h → BeginsWith start k → h ≡ k
+pub one_head : (start : List ℕ) (h k : RequestHead) → BeginsWith start h → BeginsWith start k → h ≡ k
 one_head start h k a b = (request_unique start h k a.rest b.rest a.reads b.reads).0
 
 pub reads_once : (bytes : List ℕ) (a b : Result Asked WebRefusal)
@@ -106,12 +106,12 @@ wanted_found bytes start room spans f method target route n m t is wants =
     let asks = asking_found bytes start room spans f method target route _ m t is refl in
     sym (wants ∙ ap wanted_by asks)
 
-begins_there : (bytes start : List ℕ) (room : List HeaderSpan) (spans : RequestSpans)
+pub begins_there : (bytes start : List ℕ) (room : List HeaderSpan) (spans : RequestSpans)
     → (f : Found bytes start room spans)
     → BeginsWith (start_of bytes) f.has.head
 begins_there bytes start room spans f = subst (λ s. BeginsWith s f.has.head) f.is_start f.has.begins
 
-after_same : (bytes start : List ℕ) (room : List HeaderSpan) (spans : RequestSpans)
+pub after_same : (bytes start : List ℕ) (room : List HeaderSpan) (spans : RequestSpans)
     → (f : Found bytes start room spans)
     → drop spans.len bytes ≡ after_head f.has.head bytes
 after_same bytes start room spans f = ap (λ n. drop n bytes) f.has.at.len
@@ -141,7 +141,7 @@ pub reads_none : (bytes start : List ℕ)
     → HttpReads bytes (Err refusals.HeadRefused)
 reads_none bytes start same none = of_none (subst BeginsWithNone same none) refl
 
-nothing_more : (start : List ℕ)
+pub nothing_more : (start : List ℕ)
     → ((more : List ℕ) → BeginsWithNone (start ++ more))
     → BeginsWithNone start
 nothing_more start never = subst BeginsWithNone (append-nil start) (never [])
@@ -185,7 +185,7 @@ asked_found a target after found long is =
         both (Some call) = refl
 
 -- no longer body is read
-small_given : (fields : List (List ℕ × List ℕ)) (count : ℕ)
+pub small_given : (fields : List (List ℕ × List ℕ)) (count : ℕ)
     → given_length fields ≡ Ok count
     → count ≤ MAX_BODY
 small_given fields count is =
@@ -255,7 +255,7 @@ start_more : (bytes more : List ℕ)
 start_more bytes more = take_front HEAD_LIMIT bytes more
 
 -- a head that is there stays
-begins_more : (bytes more : List ℕ) (head : RequestHead)
+pub begins_more : (bytes more : List ℕ) (head : RequestHead)
     → BeginsWith (start_of bytes) head
     → BeginsWith (start_of (bytes ++ more)) head
 begins_more bytes more head begins =
@@ -266,7 +266,7 @@ begins_more bytes more head begins =
       few = begins.few;
     }
 
-head_fits : (bytes : List ℕ) (head : RequestHead)
+pub head_fits : (bytes : List ℕ) (head : RequestHead)
     → BeginsWith (start_of bytes) head
     → length (print_request head) ≤ length bytes
 head_fits bytes head begins =

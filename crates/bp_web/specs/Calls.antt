@@ -46,9 +46,13 @@ doc_in target = option_map doc_no (heads.number_of (second_part target))
 abbrev pub page_in : List ℕ → Option PageNo
 page_in target = option_map page_no (heads.number_of (fourth_part target))
 
--- the id of a target, as it stands there: no percent sign is decoded
+-- bytes of a target as characters, where they are UTF-8: no percent sign is decoded
+abbrev pub characters_of : List ℕ → Option (List ℕ)
+characters_of bytes = if is_utf8 bytes then Some (chars bytes) else None
+
+-- the id of a target, as it stands there
 abbrev pub name_in : List ℕ → Option (List ℕ)
-name_in target = if is_utf8 (second_part target) then Some (chars (second_part target)) else None
+name_in target = characters_of (second_part target)
 
 -- n, up to the largest number of a body
 abbrev pub number : List ℕ → Data → Option ℕ

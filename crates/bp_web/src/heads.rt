@@ -1,5 +1,5 @@
-// The head of a request, as httparse finds it, and the fields in it.
-ghost use Rattle.std.specs.Prelude.{◌≡◌, All, take, map, option_map, length};
+//! The head of a request, as httparse finds it, and the fields in it.
+ghost use Rattle.std.specs.Prelude.{◌≡◌, ◌≤◌, All, drop, length, map, option_map, take};
 ghost use Rattle.httparse.specs.Spans.{IsHeaderWithin, header_bytes};
 ghost use Rattle.std.specs.Str.{str_eq_ignore_ascii_case};
 ghost use Rattle.bp_web.specs.Heads.{Finds, IsWithin, has_field, value_of};
@@ -24,15 +24,15 @@ pub enum Begin {
     Closed,
 }
 
-// The bytes within which a head ends.
-pub(crate) fn start_of(bytes: &[u8]) -> &[u8]
+/// The bytes within which a head ends.
+pub fn start_of(bytes: &[u8]) -> &[u8]
     ensures { result.now ≡ take HEAD_LIMIT bytes.now }
 {
     &bytes[..HEAD_LIMIT.min(bytes.len())]
 }
 
-// What these bytes begin with. The room is that of a head's fields.
-pub(crate) fn begin_of(start: &[u8], room: &mut [HeaderSpan]) -> Begin
+/// What these bytes begin with. The room is that of a head's fields.
+pub fn begin_of(start: &[u8], room: &mut [HeaderSpan]) -> Begin
     requires { length room.old ≡ MAX_FIELDS }
     ensures found { Finds start.now room.new result }
     ensures within { IsWithin start.now room.new result }
@@ -44,12 +44,16 @@ pub(crate) fn begin_of(start: &[u8], room: &mut [HeaderSpan]) -> Begin
     }
 }
 
-// The value of the field of that name, where there is exactly one.
-pub(crate) fn only_named<'b>(
-    start: &'b [u8],
-    fields: &[HeaderSpan],
-    name: &[u8],
-) -> Option<&'b [u8]>
+/// What follows a head of so many bytes.
+pub fn after(bytes: &[u8], len: usize) -> &[u8]
+    requires { len ≤ length bytes.now }
+    ensures { result.now ≡ drop len bytes.now }
+{
+    &bytes[len..]
+}
+
+/// The value of the field of that name, where there is exactly one.
+pub fn only_named<'b>(start: &'b [u8], fields: &[HeaderSpan], name: &[u8]) -> Option<&'b [u8]>
     requires { All (IsHeaderWithin (length start.now)) fields.now }
     ensures { option_map (λ value. value.now) result
         ≡ value_of name.now (map (header_bytes start.now) fields.now) }
@@ -66,8 +70,8 @@ pub(crate) fn only_named<'b>(
     found
 }
 
-// Whether a field of that name stands there.
-pub(crate) fn has_named(start: &[u8], fields: &[HeaderSpan], name: &[u8]) -> bool
+/// Whether a field of that name stands there.
+pub fn has_named(start: &[u8], fields: &[HeaderSpan], name: &[u8]) -> bool
     requires { All (IsHeaderWithin (length start.now)) fields.now }
     ensures { result ≡ has_field name.now (map (header_bytes start.now) fields.now) }
 {

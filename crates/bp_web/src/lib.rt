@@ -5,24 +5,29 @@
 //! `reply_bytes` gives. The contracts cite `HttpReads`, whose
 //! `request_of` is the order of the refusals (specs/Requests.antt), and `reply_text`
 //! (specs/Replies.antt).
+//!
+//! A crate with requests of its own reads them by the same parts: `heads`, `targets`, `members` and
+//! `routes` of what comes, `messages` of what is sent.
 #![tactic(auto)]
 
 mod calls;
-mod heads;
-mod members;
-mod messages;
+pub mod heads;
+pub mod members;
+pub mod messages;
 mod numbers;
 mod refusals;
 mod replies;
 mod requests;
 mod router;
-mod routes;
+pub mod routes;
+pub mod targets;
 mod values;
 
 pub use heads::HEAD_LIMIT;
 pub use refusals::WebRefusal;
-pub use replies::{Answer, NO_MEMORY, reply_bytes};
+pub use replies::{Answer, NO_MEMORY, bytes_of_reply, reply_bytes};
 pub use requests::{
-    Asked, MAX_BODY, MAX_REQUEST, enough, read_request, read_request_by, whole_length,
+    Asked, MAX_BODY, MAX_REQUEST, digest_of, enough, given_len, read_request, read_request_by,
+    whole_length,
 };
 pub use router::RouteTable;

@@ -1,4 +1,4 @@
-// An HTTP reply as bytes.
+//! An HTTP reply as bytes (RFC 9112).
 ghost use Rattle.std.specs.Prelude.{◌≡◌, IfOk, false, string_bytes};
 ghost use Rattle.http.specs.StatusCode.{IsStatusCode};
 ghost use Rattle.serde_json.specs.View.{view};
@@ -13,8 +13,8 @@ use std::alloc::{AllocError, Global};
 // Room for the head of a reply.
 const HEAD_ROOM: usize = 256;
 
-// The reply with this value as compact JSON.
-pub(crate) fn json_bytes(alloc: Global, status: u16, value: &Value) -> Result<Bytes, OutOfMemory>
+/// The reply of this status with this value as compact JSON.
+pub fn json_bytes(alloc: Global, status: u16, value: &Value) -> Result<Bytes, OutOfMemory>
     requires code { IsStatusCode status }
     requires whole { has_float (view value.now) ≡ false }
     ensures { IfOk result (λ bytes. bytes ≡ message_text (json_message status (view value.now))) }
@@ -23,8 +23,8 @@ pub(crate) fn json_bytes(alloc: Global, status: u16, value: &Value) -> Result<By
     message_bytes(alloc, status, "application/json", &body)
 }
 
-// The reply of this status with a body of this kind.
-pub(crate) fn message_bytes(
+/// The reply of this status with a body of this kind.
+pub fn message_bytes(
     alloc: Global,
     status: u16,
     kind: &str,

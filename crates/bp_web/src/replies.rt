@@ -1,6 +1,8 @@
 // The reply to each answer.
 ghost use Rattle.std.specs.Prelude.{◌≡◌, IfOk};
 ghost use Rattle.http.specs.StatusCode.{IsStatusCode};
+ghost use Rattle.bp_tiff.specs.Tiff.{tiff_of};
+ghost use Rattle.bp_tiff.specs.declared.form.Form.TheVariants.{G4};
 ghost use Rattle.bp_web.specs.Messages.{json_message, message_text};
 ghost use Rattle.bp_web.specs.Replies.{other_message, reply_message, reply_text, rule_data, rule_status, web_message};
 
@@ -10,8 +12,8 @@ use crate::values::{
     doc_value, done_value, production_value, refusal_value, staff_value, words_value,
 };
 use bp_core::{Bytes, OutOfMemory, Rule, RuleKind};
-use bp_matter::Reply;
-use bp_tiff::{Form, write_tiff};
+use bp_matter::{KeptPage, Reply};
+use bp_tiff::write_strip;
 use std::alloc::Global;
 
 /// What is sent back.
@@ -59,7 +61,8 @@ pub fn reply_bytes(alloc: Global, answer: &Answer) -> Result<Bytes, OutOfMemory>
     }
 }
 
-fn bytes_of_reply(alloc: Global, reply: &Reply) -> Result<Bytes, OutOfMemory>
+/// The bytes of the reply to a call, as `reply_bytes` has them for an answer with this reply.
+pub fn bytes_of_reply(alloc: Global, reply: &Reply) -> Result<Bytes, OutOfMemory>
     ensures { IfOk result (λ bytes. bytes ≡ message_text (reply_message reply.now)) }
 {
     match reply {
@@ -72,7 +75,7 @@ fn bytes_of_reply(alloc: Global, reply: &Reply) -> Result<Bytes, OutOfMemory>
             json_bytes(alloc, 200, &value)
         }
         Reply::Image(page) => {
-            let file = write_tiff(alloc, Form::G4, page)?;
+            let file = page_file(alloc, page)?;
             message_bytes(alloc, 200, "image/tiff", file.as_slice())
         }
         Reply::Words(words) => {
@@ -88,6 +91,22 @@ fn bytes_of_reply(alloc: Global, reply: &Reply) -> Result<Bytes, OutOfMemory>
             json_bytes(alloc, 200, &value)
         }
     }
+}
+
+// The Group 4 file of a page: its strip is there already.
+fn page_file(alloc: Global, page: &KeptPage) -> Result<Bytes, OutOfMemory>
+    ensures { IfOk result (λ bytes. bytes ≡ tiff_of G4 page.now) }
+{
+    let frame = page.frame();
+    write_strip(
+        alloc,
+        frame.width,
+        frame.height,
+        frame.xres,
+        frame.yres,
+        frame.unit,
+        page.strip(),
+    )
 }
 
 fn bytes_of_rule(alloc: Global, rule: &Rule) -> Result<Bytes, OutOfMemory>

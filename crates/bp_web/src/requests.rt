@@ -1,5 +1,5 @@
 // Requests as bytes.
-ghost use Rattle.std.specs.Prelude.{◌≡◌, ◌≢◌, ◌≤◌, ◌++◌, All, IfNone, IfOk, IfSome, IsTrue, List, Result, codes, drop, length, map, option_and_then, ℕ};
+ghost use Rattle.std.specs.Prelude.{◌≡◌, ◌≢◌, ◌≤◌, ◌++◌, All, IfNone, IfOk, IfSome, IsTrue, List, Result, codes, length, map, option_and_then, ℕ};
 ghost use Rattle.httparse.specs.Spans.{IsHeaderWithin, header_bytes};
 ghost use Rattle.sha2.specs.Sha256.{sha256};
 ghost use Rattle.bp_web.specs.Calls.{call_of};
@@ -11,7 +11,9 @@ ghost use Rattle.bp_web.specs.declared.refusals.WebRefusal.TheVariants as refusa
 ghost use Rattle.bp_web.specs.declared.requests.Asked.{Asked};
 
 use crate::calls::call_in;
-use crate::heads::{Begin, HEAD_LIMIT, MAX_FIELDS, begin_of, has_named, only_named, start_of};
+use crate::heads::{
+    Begin, HEAD_LIMIT, MAX_FIELDS, after, begin_of, has_named, only_named, start_of,
+};
 use crate::members::object_in;
 use crate::numbers::number_in;
 use crate::refusals::WebRefusal;
@@ -142,14 +144,6 @@ pub fn whole_length(bytes: &[u8]) -> Option<usize>
     }
 }
 
-// What follows the first bytes.
-fn after(bytes: &[u8], len: usize) -> &[u8]
-    requires { len ≤ length bytes.now }
-    ensures { result.now ≡ drop len bytes.now }
-{
-    &bytes[len..]
-}
-
 // What a head asks for.
 fn asking_in(
     route: Option<Route>,
@@ -189,7 +183,8 @@ fn wanted_in(route: Option<Route>, start: &[u8], fields: &[HeaderSpan]) -> usize
     }
 }
 
-fn digest_of(value: &[u8]) -> [u8; 32]
+/// The key of a caller who presents this.
+pub fn digest_of(value: &[u8]) -> [u8; 32]
     ensures { result ≡ sha256 value.now }
 {
     Sha256::digest(value)
@@ -206,8 +201,8 @@ fn body_len(route: Route, start: &[u8], fields: &[HeaderSpan]) -> Result<usize, 
     given_len(start, fields)
 }
 
-// How many bytes of body a request says that it has.
-fn given_len(start: &[u8], fields: &[HeaderSpan]) -> Result<usize, WebRefusal>
+/// How many bytes of body a request says that it has (RFC 9112, section 6.2).
+pub fn given_len(start: &[u8], fields: &[HeaderSpan]) -> Result<usize, WebRefusal>
     requires { All (IsHeaderWithin (length start.now)) fields.now }
     ensures { result ≡ given_length (map (header_bytes start.now) fields.now) }
 {

@@ -1,7 +1,7 @@
 // An answer, as a line gives it.
 use crate::values::{document, page, production, words_of};
 use bp_core::{Rule, RuleKind, StaffNo};
-use bp_matter::Reply;
+use bp_matter::{KeptPage, Reply};
 use bp_script::Words;
 use bp_web::{Answer, WebRefusal};
 use std::alloc::Global;
@@ -29,12 +29,13 @@ pub fn answer_of(alloc: Global, words: &mut Words) -> Answer {
 }
 
 fn page_answer(alloc: Global, words: &mut Words) -> Answer {
-    match page(alloc, words) {
-        Some(page) => Answer::Reply(Reply::Image(page)),
-        None => {
-            words.refuse();
-            Answer::KeeperFault
-        }
+    let Some(page) = page(alloc, words) else {
+        words.refuse();
+        return Answer::KeeperFault;
+    };
+    match KeptPage::of(alloc, &page) {
+        Ok(kept) => Answer::Reply(Reply::Image(kept)),
+        Err(_) => Answer::OutOfMemory,
     }
 }
 

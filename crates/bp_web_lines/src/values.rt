@@ -1,6 +1,6 @@
 // What replies are made of, as a line gives it: the words of each part in the order of its fields.
 use bp_bates::{Prefix, Span};
-use bp_core::{DocNo, ListOf, StaffNo, Text, TextList};
+use bp_core::{DocNo, Ink, ListOf, StaffNo, Text, TextList};
 use bp_matter::{
     BoxList, BoxRow, DocView, Entry, HeldList, HeldRow, Item, ItemList, Production, Request, State,
 };
@@ -124,6 +124,7 @@ pub fn production(alloc: Global, words: &mut Words) -> Production {
     let span = span(words);
     let items = items(alloc, words);
     Production {
+        ink: Ink::Lettered,
         request,
         items,
         span,

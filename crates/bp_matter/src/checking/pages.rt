@@ -5,9 +5,9 @@ ghost use Rattle.std.specs.Prelude.{IsTrue, Some, length, nat_le, ◌*◌, ◌<�
 ghost use Rattle.bp_core.specs.Sorted.{ascends};
 ghost use Rattle.bp_matter.specs.Written.{page_written};
 ghost use Rattle.bp_matter.specs.Matter.{page_key};
-ghost use Rattle.bp_matter.specs.ValidPages.{PageFacts, are_paged, has_rows, inside_page, page_in, page_fits, pixels_of};
+ghost use Rattle.bp_matter.specs.ValidPages.{PageFacts, are_paged, has_rows, inside_page, page_in, page_fits, pixels_of, strip_bytes_of, strip_size, strips_fit};
 
-use crate::limits::{MAX_PAGES, MAX_PIXELS};
+use crate::limits::{MAX_FREE_PIXELS, MAX_PAGES, MAX_PIXELS, MAX_STRIP_BYTES};
 use crate::rows::{DocRow, PageRow};
 use bp_core::{DocNo, Keyed, PageNo, Rect, ascends, find_row, two_keys};
 use bp_rows::import_sides;
@@ -75,6 +75,31 @@ fn pixels_few(pages: &[PageRow]) -> bool
     pixels_of(pages) <= MAX_PIXELS
 }
 
+fn strip_size(row: &PageRow) -> u64
+    ensures { result ≡ strip_size row.now.image }
+{
+    row.image.strip().len() as u64
+}
+
+fn strip_bytes_of(pages: &[PageRow]) -> u128
+    ensures { result ≡ strip_bytes_of pages.now }
+{
+    let mut sum = 0;
+    let mut rest = pages;
+    while let Some((first, others)) = rest.split_first() {
+        sum += u128::from(strip_size(first));
+        rest = others;
+    }
+    sum
+}
+
+// Whether the strips are few bytes, or of few pixels.
+fn strips_few(pages: &[PageRow]) -> bool
+    ensures { result ≡ strips_fit (pixels_of pages.now) (strip_bytes_of pages.now) }
+{
+    pixels_of(pages) <= MAX_FREE_PIXELS || strip_bytes_of(pages) <= MAX_STRIP_BYTES
+}
+
 fn page_fits(row: &PageRow) -> bool
     ensures { result ≡ page_fits row.now }
 {
@@ -110,6 +135,9 @@ pub(crate) fn pages_valid(docs: &[DocRow], pages: &[PageRow]) -> bool
         return false;
     }
     if !pixels_few(pages) {
+        return false;
+    }
+    if !strips_few(pages) {
         return false;
     }
     pages_fit(pages)

@@ -14,6 +14,7 @@ use std::alloc::Global;
 use std::io;
 use std::io::{Read, Write};
 use std::net::{Ipv4Addr, Net, OpenListener, OpenStream, Shutdown, TcpListener};
+use std::thread::sleep;
 use std::time::{Clock, Duration, Instant};
 
 /// Desk i listens on the port that is i above this one.
@@ -24,6 +25,10 @@ pub const DESK_LIMIT: u16 = 16;
 
 // How long a peer may be silent, or not take what is written, before that is a fault.
 const SILENCE_MILLIS: u64 = 10_000;
+
+// How long a door rests after an accept that the system refused. Else a port that another program
+// has for a while uses up all accepts at once.
+const REST_MILLIS: u64 = 250;
 
 // How long, and up to how many bytes, what a peer still sends is read off as it is hung up.
 const DRAIN_MILLIS: u64 = 2_000;
@@ -120,7 +125,8 @@ impl<'a, R: Net + Clock> Door for TcpDoor<'a, R> {
 
     ghost unfailing = { λ door sure. absurd (false≢true sure) };
 
-    /// Waits for a peer, with no limit of time. It is never closed, and takes no memory.
+    /// Waits for a peer, with no limit of time, or fails after a rest of a quarter of a second. It is
+    /// never closed, and takes no memory.
     fn accept(&mut self, _alloc: Global) -> Result<bool, DoorRefusal>
         ensures after { untold_door (is_some self.new.stream) self.new.faults self.new.accepts
             ≡ after_accept (untold_door (is_some self.old.stream) self.old.faults
@@ -129,6 +135,9 @@ impl<'a, R: Net + Clock> Door for TcpDoor<'a, R> {
         ensures no_memory { ¬ (IsErrOf result DoorRefusal.OutOfMemory) }
     {
         let answer = self.next_peer();
+        if answer.is_err() {
+            sleep(self.rt, Duration::from_millis(REST_MILLIS));
+        }
         self.begin(answer)
     }
 

@@ -101,4 +101,8 @@ impl Clock for Stage {
     fn since_1970(&self) -> io::Result<Duration> {
         self.monotonic()
     }
+
+    fn sleep(&self, duration: Duration) {
+        let _told = self.book.limit("rest", Some(duration));
+    }
 }

@@ -1,5 +1,3 @@
-use Rattle.std.proofs.Common.{ap, sym, ◌∙◌}
-use Rattle.bp_rows.specs.Image.{Image}
 use Rattle.bp_burn.proofs.RowLemmas.{line_covered}
 use Rattle.bp_burn.proofs.stamps.covered_line.Goals as goal
 

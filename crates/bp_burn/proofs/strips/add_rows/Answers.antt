@@ -1,4 +1,4 @@
-use Rattle.std.proofs.Common.{◌<◌, ◌≤◌, length, sym, ◌∙◌, arith}
+use Rattle.std.proofs.Common.{◌<◌, ◌≤◌, length, sym, arith}
 use Rattle.bp_burn.proofs.MakingLemmas.{adding_all, adding_more, adding_none}
 use Rattle.bp_burn.proofs.strips.add_rows.Goals as goal
 

@@ -6,8 +6,10 @@ use Rattle.bp_cli.specs.Burn.{burn_seen}
 use Rattle.bp_cli.specs.Words.{word_bytes}
 use Rattle.bp_cli.specs.Endings.{world}
 use Rattle.std.specs.Str.{chars}
-use Rattle.bp_cli.specs.Commands.{CommandLine, burn, init, import, produce, press, log, command_seen, command_of, ReadsAndWorks, ReadsAsOften}
+use Rattle.bp_cli.specs.Commands.{CommandLine, burn, init, import, produce, press, log, check, command_seen, command_of, ReadsAndWorks, ReadsAsOften}
 use Rattle.bp_cli.proofs.BurnLemmas.{burn_reads}
+use Rattle.bp_cli.specs.Check.{check_seen}
+use Rattle.bp_cli.proofs.CheckLemmas.{check_reads}
 use Rattle.bp_cli.proofs.WorkLemmas.{never_read, words_lacked, words_refused}
 use Rattle.bp_cli.proofs.run.work.Goals as goal
 
@@ -81,6 +83,17 @@ returns-in-Some-Log-clause-works g c =
     let is : Some (log (chars c.in-Some-Log.id.now)) ≡ command_of (word_bytes c.args.words.now) = ap (option_map command_seen) (sym found) ∙ c.in_ok-command_in.ensures in
     subst (λ (o : Option CommandLine). ReadsAndWorks o before c.log_kept.result after) is (c.log_kept.ensures source folder)
 
+pub returns-in-Some-Check-clause-works : goal.returns-in-Some-Check-clause-works
+returns-in-Some-Check-clause-works g c =
+    let keeper = g.K.Keeper.shows c.args.keeper.now in
+    let folder = g.F.Folder.shows c.args.folder.now in
+    let before = world (g.S.Source.shows c.args.source.now) keeper folder in
+    let after = world (g.S.Source.shows c.check_files.new.source) keeper folder in
+    let found : c.in_ok-command_in.field-0 ≡ Some (commands.Check c.in-Some-Check.asked) = c.in-Some-Check.is ∙ ap (λ (x : Command). Some x) c.in-Some-Check.field-0-is in
+    let is : Some (check (check_seen c.in-Some-Check.asked)) ≡ command_of (word_bytes c.args.words.now) = ap (option_map command_seen) (sym found) ∙ c.in_ok-command_in.ensures in
+    subst (λ (o : Option CommandLine). ReadsAndWorks o before c.check_files.result after) is
+    (check_reads (check_seen c.in-Some-Check.asked) (g.S.Source.shows c.args.source.now) (g.S.Source.shows c.check_files.new.source) keeper folder c.check_files.result c.check_files.ensures)
+
 -- ---- how often it read
 
 pub returns-in_err-command_in-clause-reads : goal.returns-in_err-command_in-clause-reads
@@ -112,3 +125,9 @@ returns-in-Some-Press-clause-reads g c = never_read (command_of (word_bytes c.ar
 
 pub returns-in-Some-Log-clause-reads : goal.returns-in-Some-Log-clause-reads
 returns-in-Some-Log-clause-reads g c = never_read (command_of (word_bytes c.args.words.now)) (g.S.Source.reads c.args.source.now)
+
+pub returns-in-Some-Check-clause-reads : goal.returns-in-Some-Check-clause-reads
+returns-in-Some-Check-clause-reads g c =
+    let found : c.in_ok-command_in.field-0 ≡ Some (commands.Check c.in-Some-Check.asked) = c.in-Some-Check.is ∙ ap (λ (x : Command). Some x) c.in-Some-Check.field-0-is in
+    let is : Some (check (check_seen c.in-Some-Check.asked)) ≡ command_of (word_bytes c.args.words.now) = ap (option_map command_seen) (sym found) ∙ c.in_ok-command_in.ensures in
+    subst (λ (o : Option CommandLine). ReadsAsOften o (g.S.Source.reads c.args.source.now) (g.S.Source.reads c.check_files.new.source)) is tt

@@ -1,4 +1,4 @@
-use Rattle.bp_matter.specs.Images.{CodingAgain}
+use Rattle.bp_matter.proofs.KeptLemmas.{CodingAgain}
 use Rattle.bp_matter.proofs.images.coded_again.Given as goal
 
 -- the rows so far are read, and coded again

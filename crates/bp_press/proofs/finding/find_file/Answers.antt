@@ -1,10 +1,14 @@
-use Rattle.std.proofs.Common.{◌∙◌, sym, refl}
-use Rattle.bp_press.proofs.FindLemmas.{found_same, volume_here, volume_later}
+use Rattle.std.proofs.Common.{◌∙◌, sym}
+use Rattle.bp_press.proofs.FindLemmas.{found_same, listed_here, listed_later}
 use Rattle.bp_press.proofs.finding.find_file.Goals as goal
 
 pub returns-in-Some : goal.returns-in-Some
-returns-in-Some c = volume_here c.args.path.now c.args.production.now c.args.tables.now.matter c.in-Some.bytes (sym c.in-Some.is ∙ c.in_ok-bytes.ensures)
+returns-in-Some c =
+    listed_here c.args.path.now c.args.production.now c.args.tables.now.matter c.in_ok-list.list.items c.as_slice.result.now c.in-Some.bytes c.as_slice.ensures.value c.in_ok-list.ensures (sym c.in-Some.is ∙ c.in_ok-bytes.ensures)
 
-pub returns-in-None : goal.returns-in-None
-returns-in-None c =
-    found_same c.manifest_if.result _ _ (volume_later c.args.path.now c.args.production.now c.args.tables.now.matter _ (sym c.in-None.is ∙ c.in_ok-bytes.ensures) refl) c.manifest_if.ensures
+pub returns : goal.returns
+returns c =
+    found_same c.manifest_if.result _ _
+    (listed_later c.args.path.now c.args.production.now c.args.tables.now.matter c.in_ok-list.list.items c.as_slice.result.now c.as_slice-in-None.result.now c.as_slice.ensures.value c.as_slice-in-None.ensures.value c.in_ok-list.ensures
+    (sym c.in-None.is ∙ c.in_ok-bytes.ensures))
+    c.manifest_if.ensures

@@ -13,5 +13,5 @@ add_item_row-requires-clause-listed c =
 pub loop-item-preserved : goal.loop-item-preserved
 loop-item-preserved c =
     let whole : c.loop-item.rest.now ≡ c.in-Some.item.now ∷ c.in-Some.others.now = search rules in
-    let next : c.loop-item.place + c.from-place.result ≡ c.loop-item.place + length (part_of c.args.production.now.request c.args.tables.now.matter c.in-Some.item.now).content.images = search rules in
+    let next : c.loop-item.place + c.from-place.result ≡ c.loop-item.place + length (part_of c.args.production.now c.args.tables.now.matter c.in-Some.item.now).content.images = search rules in
     rows_turn c.args.production.now c.args.tables.now.matter c.loop-item.place _ c.loop-item.rest.now c.in-Some.item.now c.in-Some.others.now c.loop-item.rows.items _ whole next c.loop-item.invariant c.in_ok-count.ensures.rows

@@ -6,7 +6,7 @@ use Rattle.bp_press.proofs.load_rows.add_opt_lines.Goals as goal
 
 pub loop-page-preserved : goal.loop-page-preserved
 loop-page-preserved c = record {
-  so_far = line_step (opt_line c.args.request.now (placed_at c.args.request.now c.args.tables.now.matter c.args.item.now c.args.place)) c.loop-page.page c.args.count c.loop-page.lines.items _ _ _ (search rules)
+  so_far = line_step (opt_line c.args.production.now.request (placed_at c.args.production.now c.args.tables.now.matter c.args.item.now c.args.place)) c.loop-page.page c.args.count c.loop-page.lines.items _ _ _ (search rules)
       c.in_ok-opt_line.ensures (search rules) c.loop-page.invariant.so_far;
   within = search rules;
 }

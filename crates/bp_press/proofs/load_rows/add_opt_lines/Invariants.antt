@@ -7,7 +7,7 @@ use Rattle.bp_press.proofs.load_rows.add_opt_lines.Given as goal
 -- the lines so far, with those of the images that are left, are those of all images
 abbrev pub invariant-loop-page : goal.invariant-loop-page
 invariant-loop-page l =
-    let line = opt_line l.request (placed_at l.request l.tables.matter l.item l.place) in
+    let line = opt_line l.production.request (placed_at l.production l.tables.matter l.item l.place) in
     record {
       so_far : l.lines.items ++ map line (range_with_len l.page (l.count - l.page)) ≡ l.initial.lines.items ++ map line (range_with_len 0 l.count);
       within : l.page ≤ l.count;

@@ -6,7 +6,7 @@ use Rattle.bp_press.proofs.load_rows.add_values.Given as goal
 abbrev pub invariant-loop-name : goal.invariant-loop-name
 invariant-loop-name l =
     let value = value_in_column l.tables.matter l.item (ground_of l.item.treatment) in
-    l.row.items ++ map value l.rest ≡ l.initial.row.items ++ map value l.request.fields
+    l.row.items ++ map value l.rest ≡ l.initial.row.items ++ map value l.production.request.fields
 
 abbrev pub decreases-loop-name : goal.decreases-loop-name
 decreases-loop-name l = length l.rest

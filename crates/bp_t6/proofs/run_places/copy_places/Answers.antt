@@ -1,5 +1,5 @@
 use Rattle.std.proofs.Common.{◌≡◌, ◌+◌, ◌-◌, ◌<◌, take, ◌++◌, ℕ, List, get_or, ap, arith, ◌∙◌}
-use Rattle.bp_t6.proofs.ShownPlaceLemmas.{ends_all, ends_less, left_are_changes}
+use Rattle.bp_t6.proofs.ShownPlaceLemmas.{ends_all, left_are_changes}
 use Rattle.bp_t6.proofs.run_places.copy_places.Goals as goal
 use Rattle.bp_t6.proofs.run_places.copy_places.Goals.{then-loop-count-test+else-width-places, else-loop-count-test}
 

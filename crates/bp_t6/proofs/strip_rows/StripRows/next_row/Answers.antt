@@ -1,4 +1,4 @@
-use Rattle.std.proofs.Common.{◌≡◌, ◌+◌, ℕ, List, refl, ap, sym, ◌∙◌, subst, arith}
+use Rattle.std.proofs.Common.{◌≡◌, ◌+◌, ℕ, List, refl, ap, sym, subst, arith}
 use Rattle.bp_core.specs.Answers.{IfRule}
 use Rattle.bp_codes.specs.Span.{span_bits}
 use Rattle.bp_codes.proofs.BitListLemmas.{length-bits_of}

@@ -1,4 +1,4 @@
-use Rattle.std.proofs.Common.{◌≡◌, ℕ, List, length, ap, sym, ◌∙◌, subst}
+use Rattle.std.proofs.Common.{ℕ, List, ap, sym, ◌∙◌, subst}
 use Rattle.bp_rows.specs.Changes.{Shows}
 use Rattle.bp_rows.specs.Image.{row_of}
 use Rattle.bp_rows.proofs.ShownLemmas.{shows_row}

@@ -1,4 +1,4 @@
-use Rattle.std.proofs.Common.{◌≡◌, ℕ, List, ap, sym, ◌∙◌, subst}
+use Rattle.std.proofs.Common.{ℕ, List, ap, sym, ◌∙◌, subst}
 use Rattle.bp_rows.specs.Changes.{Shows}
 use Rattle.bp_rows.proofs.ShownLemmas.{shows_row}
 use Rattle.bp_t6.specs.SoFar.{AddedSoFar, HasAdded}

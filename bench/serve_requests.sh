@@ -1,0 +1,15 @@
+# Sourced by serve.sh and serve_desks.sh, which set `port`: the requests that clients make at a desk of bp_serving_time.
+
+key='the key of Ellis'
+# a request: its first line, and its body where it has one
+request() {
+    printf '%s HTTP/1.1\r\nHost: 127.0.0.1:%s\r\nUser-Agent: curl/8.5.0\r\nAccept: */*\r\nDesk-Key: %s\r\n' "$1" "$port" "$key"
+    [ -z "${2-}" ] || printf 'Content-Length: %s\r\nContent-Type: application/json\r\n' "${#2}"
+    printf '\r\n%s' "${2-}"
+}
+
+# the requests of SetCall and SeePage, in files: a `@` is the number of a document, a `~` changes each time (serve_client.c)
+write_requests() {
+    request 'POST /docs/@/call' '{"responsive":true,"treatment":"Redact","designation":"CONFIDENTIAL ~"}' > "$1/call"
+    request 'GET /docs/@/pages/1' > "$1/page"
+}

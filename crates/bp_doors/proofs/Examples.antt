@@ -1,0 +1,128 @@
+-- Worked examples of the definitions in specs/, each run by the check: texts sent whole, cut and not,
+-- counts up to their end, and a handler that counts what it makes.
+use Rattle.std.proofs.Common.{◌≡◌, ℕ, ◌+◌, ◌-◌, ◌^◌, Bool, true, false, List, [], ◌∷◌, codes, refl, arith, inl, inr}
+use Rattle.std.specs.Prelude.{Some, None, Ok, Err}
+use Rattle.bp_outside.specs.Door.{DoorView}
+use Rattle.bp_outside.specs.declared.exchange.Exchange.{Exchange}
+use Rattle.bp_web.specs.declared.refusals.WebRefusal.TheVariants as refusals
+use Rattle.bp_doors.specs.Exchanges.{AnswersBytes, IsRefusalText, Sent, Talks, WasRead, memory_text, text_of}
+use Rattle.bp_doors.specs.Exchanges.Sent.{cut, whole}
+use Rattle.bp_doors.specs.Serving.{InTurn, Returned, RoseBy, Serves, ServesDoor, count_if, made_in, raised}
+use Rattle.bp_doors.specs.Serving.InTurn.{next, nobody}
+
+-- ---- an exchange
+
+-- these bytes were read to the end of input, and these written
+abbrev exchanged : List ℕ → List ℕ → Exchange
+exchanged read written =
+    record {
+      read = read;
+      ended = true;
+      written = written;
+      failed = false;
+      lacked = false;
+      hung_up = true;
+    }
+
+-- nothing is ever enough
+abbrev never_enough : List ℕ → Bool → Type 0
+never_enough bytes true = ⊥
+never_enough bytes false = Unit {0}
+
+to_the_end : WasRead never_enough (exchanged (codes "a") [])
+to_the_end = inr refl
+
+not_to_the_end : WasRead never_enough (record (exchanged (codes "a") []) { ended = false }) → ⊥
+not_to_the_end (inl told) = told
+not_to_the_end (inr ended) = absurd cc
+
+sent_whole : Sent (exchanged (codes "a") (codes "bc")) (codes "bc")
+sent_whole = whole refl
+
+-- a write was refused behind the first byte
+sent_part : Sent (record (exchanged (codes "a") (codes "b")) { failed = true }) (codes "bc")
+sent_part = cut (inl refl) (codes "c") refl
+
+-- a part with nothing refused is no text
+not_sent : Sent (exchanged (codes "a") (codes "b")) (codes "bc") → ⊥
+not_sent (whole w) = absurd cc
+not_sent (cut (inl failed) rest w) = absurd cc
+not_sent (cut (inr lacked) rest w) = absurd cc
+
+a_text : text_of (Ok (codes "bc")) ≡ codes "bc"
+a_text = refl
+
+refused_so : IsRefusalText refusals.NoRoute memory_text
+refused_so = inl refl
+
+-- ---- counts
+
+stands_still : raised 3 (2 ^ 64 - 2) ≡ 2 ^ 64 - 1
+stands_still = refl
+
+by_two : RoseBy 2 5 7
+by_two = omega arith
+
+not_by_three : RoseBy 3 5 7 → ⊥
+not_by_three rose = absurd (omega (arith, rose))
+
+-- at its end it asks nothing
+at_the_end : RoseBy 9 (2 ^ 64 - 1) (2 ^ 64 - 1)
+at_the_end = omega arith
+
+one_made : made_in (Some true) ≡ 1
+one_made = refl
+
+none_made : made_in (Some false) ≡ 0
+none_made = refl
+
+closed : made_in None ≡ 0
+closed = refl
+
+-- ---- serving
+
+-- who answers counts what was made
+abbrev counts : ℕ → Exchange → Bool → ℕ → Type 0
+counts before x made after = after ≡ before + count_if made
+
+-- two exchanges, in the first of which something was made
+two_came : InTurn counts 4 (exchanged [] [] ∷ exchanged [] [] ∷ []) 1 5
+two_came =
+    next 4 5 5 (exchanged [] []) true (exchanged [] [] ∷ []) 0 refl refl
+    (next 5 5 5 (exchanged [] []) false [] 0 refl refl (nobody 5))
+
+-- one that wasn't hung up doesn't count
+not_hung_up : (n : ℕ)
+    → InTurn counts 4 (record (exchanged [] []) { hung_up = false } ∷ []) n 5
+    → ⊥
+not_hung_up n (next before between after x made others count h deals rest) = absurd cc
+
+-- an answer that makes something
+one_answer : AnswersBytes never_enough counts 4 (codes "a") (codes "bc") true 5
+one_answer x same read sent_ = refl
+
+abbrev told : List Exchange → ℕ → DoorView
+told exchanges accepts =
+    record {
+      exchanges = Some exchanges;
+      under_way = false;
+      closed = true;
+      faults = 0;
+      accepts = accepts;
+      sure = true;
+    }
+
+-- three accepts were tried of ten, and the last found the door closed
+a_door : ServesDoor counts 10 4 (told [] 7) 1 5 (told (exchanged [] [] ∷ exchanged [] [] ∷ []) 10)
+a_door =
+    record {
+      tried = 3;
+      serves = record {
+        exchanges = exchanged [] [] ∷ exchanged [] [] ∷ [];
+        told = refl;
+        accepts = refl;
+        turns = two_came;
+        few = omega arith;
+      };
+      returned = inr (omega arith, omega arith, refl);
+    }

@@ -1,0 +1,4 @@
+mod Examples
+pub mod CountLemmas
+pub mod ExchangeLemmas
+pub mod ServingLemmas

@@ -1,0 +1,21 @@
+pub mod ApartLemmas
+pub mod CellLemmas
+pub mod ColumnLemmas
+pub mod DigestLemmas
+pub mod DocumentLemmas
+pub mod EachLemmas
+mod Examples
+pub mod FoundLemmas
+pub mod HeldLemmas
+pub mod LabelBackLemmas
+pub mod ListingBackLemmas
+pub mod LoadBackLemmas
+pub mod ManifestBackLemmas
+pub mod NameLemmas
+pub mod OwnLemmas
+pub mod PassLemmas
+pub mod PathLemmas
+pub mod PlacedDocumentLemmas
+pub mod ThereLemmas
+pub mod TurnLemmas
+pub mod VolumePathLemmas

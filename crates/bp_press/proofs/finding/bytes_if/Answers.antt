@@ -1,0 +1,15 @@
+use Rattle.std.proofs.Common.{rules, ◌≡◌, true, false}
+use Rattle.std.specs.Str.{bytes_eq}
+use Rattle.bp_press.specs.VolumeFiles.{row_of}
+use Rattle.bp_press.proofs.FindLemmas.{hit, missed}
+use Rattle.bp_press.proofs.finding.bytes_if.Goals as goal
+
+pub returns-then-ne : goal.returns-then-ne
+returns-then-ne c =
+    let other : bytes_eq c.in_ok-own.own c.args.path.now ≡ false = search rules in
+    missed c.args.path.now c.in_ok-own.own (row_of c.args.production.now c.args.tables.now.matter c.args.file.now) c.in_ok-own.ensures other
+
+pub returns : goal.returns
+returns c =
+    let same : bytes_eq c.in_ok-own.own c.args.path.now ≡ true = search rules in
+    hit c.args.path.now c.in_ok-own.own c.in_ok-file_bytes.field-0 (row_of c.args.production.now c.args.tables.now.matter c.args.file.now) c.in_ok-own.ensures same c.in_ok-file_bytes.ensures

@@ -1,0 +1,6 @@
+use Rattle.bp_press.specs.VolumeFiles.{row_of}
+use Rattle.bp_press.proofs.FindLemmas.{AreLinesFrom}
+use Rattle.bp_press.proofs.finding.manifest_bytes.Given as goal
+
+abbrev pub invariant-loop-file : goal.invariant-loop-file
+invariant-loop-file l = AreLinesFrom (row_of l.production l.tables.matter) l.list l.file-index l.manifest.items

@@ -1,0 +1,37 @@
+-- The images that jobs make.
+use Rattle.std.specs.Prelude.{◌≡◌, ℕ, IsTrue, List, Option, is_some}
+use Rattle.bp_rows.specs.Image.{Image}
+use Rattle.bp_t6.specs.Written.{strip_of}
+use Rattle.bp_burn.specs.Band.{produced_of, slip_of}
+use Rattle.bp_burn.specs.Drawn.{has_glyphs}
+use Rattle.bp_matter.specs.LookUps.{page_with}
+use Rattle.bp_matter.specs.Matter.{Matter}
+use Rattle.bp_press.specs.Contents.{image_in}
+use Rattle.bp_press.specs.declared.jobs.Job.{Job}
+use Rattle.bp_press.specs.declared.jobs.Job.TheVariants as jobs
+
+-- the page or the sheet that a job makes
+abbrev pub page_of : Matter → Job → Image
+page_of m (jobs.Image ink doc page stamps label designation) =
+    produced_of ink (image_in m doc.0 page.0) stamps label designation
+page_of m (jobs.Slip basis label designation) = slip_of basis label designation
+
+-- its strip
+abbrev pub strip_by : Matter → Job → List ℕ
+strip_by m job = strip_of (page_of m job)
+
+-- what stands in its band is drawn with the glyphs that there are
+pub record HasBand (label designation : List ℕ) : Type 0 where
+  pub named : IsTrue (has_glyphs label)
+  pub stamped : IsTrue (has_glyphs designation)
+
+-- its page is one of the matter
+pub record HasPage (m : Matter) (doc page : ℕ) (label designation : List ℕ) : Type 0 where
+  pub there : IsTrue (is_some (page_with doc page m))
+  pub band : HasBand label designation
+
+-- what making it needs
+abbrev pub IsCodable : Matter → Job → Type 0
+IsCodable m (jobs.Image ink doc page stamps label designation) =
+    HasPage m doc.0 page.0 label designation
+IsCodable m (jobs.Slip basis label designation) = HasBand label designation

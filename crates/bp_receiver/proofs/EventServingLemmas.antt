@@ -1,0 +1,329 @@
+-- Carry what an event gave to the exchange that it came in, and exchanges in turn to a door.
+use Rattle.std.proofs.Common.{◌≡◌, ℕ, ◌+◌, ◌-◌, ◌^◌, ◌≤◌, Bool, true, false, List, [], ◌∷◌, ◌++◌, Option, Some, None, refl, sym, ap, subst, ◌∙◌, arith, inl, inr, zero-add}
+use Rattle.std.specs.Prelude.{◌⊎◌, Result, Ok, Err, IfOk, IfSome, IsTrue}
+use Rattle.std.proofs.lemmas.Bool.{false≢true}
+use Rattle.bp_core.specs.Counts.{risen}
+use Rattle.bp_core.specs.declared.kept.Row.{Row}
+use Rattle.bp_core.specs.declared.refusals.OutOfMemory.{OutOfMemory}
+use Rattle.bp_core.specs.declared.rules.Rule.{Rule}
+use Rattle.bp_keep.specs.Keeper.{KeeperView}
+use Rattle.bp_matter.specs.KeptRows.{rows_of}
+use Rattle.bp_matter.specs.Matter.{Matter}
+use Rattle.bp_outside.specs.Door.{DoorView}
+use Rattle.bp_outside.specs.declared.exchange.Exchange.{Exchange}
+use Rattle.bp_rules.specs.Steps.{KeepsRows, Stays}
+use Rattle.bp_rules.specs.declared.refusals.MatterRefusal.{MatterRefusal}
+use Rattle.bp_rules.specs.declared.refusals.MatterRefusal.TheVariants as stops
+use Rattle.bp_web.specs.Heads.{NeverBegins, start_of}
+use Rattle.bp_web.specs.Replies.{reply_text}
+use Rattle.bp_web.specs.declared.refusals.WebRefusal.{WebRefusal}
+use Rattle.bp_web.specs.declared.refusals.WebRefusal.TheVariants as refusals
+use Rattle.bp_web.specs.declared.replies.Answer.TheVariants as answers
+use Rattle.bp_doors.specs.Exchanges.{IsRefusalText, Sent, memory_text, text_of}
+use Rattle.bp_doors.specs.Serving.{InTurn, RoseBy, ServesDoor, count_if}
+use Rattle.bp_doors.specs.Serving.InTurn.{next, nobody as nobody_came}
+use Rattle.bp_doors.proofs.CountLemmas.{rose_twice}
+use Rattle.bp_receiver.specs.Delivered.{AsksFor, Delivered, TellsEvent, WasReadEvent, event_turn, event_turns}
+use Rattle.bp_receiver.specs.Delivered.Delivered.{made, nobody, unmade}
+use Rattle.bp_receiver.specs.Delivered.TextOfEvent.{given, not_given}
+use Rattle.bp_receiver.specs.Delivered.TextOfNoEvent.{fault, no_memory, refusal}
+use Rattle.bp_receiver.specs.Delivering.{EventGives, EventLacked, EventMade, KeeperFailed}
+use Rattle.bp_receiver.specs.EventReplies.{event_text}
+use Rattle.bp_receiver.specs.EventRequests.{EventReadAlike, EventReads, IsWholeEvent}
+use Rattle.bp_receiver.specs.EventServing.{AnswersEvent, Delivers, DeliversDoor, DeskView, EventDeals, KeepsOn, ReadsEvent, desk_view, is_made, text_for}
+use Rattle.bp_receiver.specs.EventServing.EventDeals.{made_none, made_one}
+use Rattle.bp_receiver.specs.Events.{Evented, Holding, event_of, run_of}
+use Rattle.bp_receiver.specs.declared.events.Event.{Event}
+use Rattle.bp_receiver.specs.declared.events.Given.{Given}
+
+-- ---- the keeper
+
+keeps-itself : (d : DeskView) → KeepsOn d d
+keeps-itself d = record {
+  kept = λ rows. rows;
+  loads = refl;
+  sure = refl;
+  faults = omega arith;
+}
+
+keeps-twice : (a b c : DeskView) → KeepsOn a b → KeepsOn b c → KeepsOn a c
+keeps-twice a b c first then =
+    let up = first.faults in
+    let more = then.faults in
+    record {
+      kept = λ rows. then.kept (first.kept rows);
+      loads = then.loads ∙ first.loads;
+      sure = then.sure ∙ first.sure;
+      faults = omega (arith, up, more);
+    }
+
+-- rows that are told after are those of the matter, if they were before
+kept-still : (m : Matter) (rows rows' : Option (List Row))
+    → IfSome rows' (λ now. rows ≡ Some now)
+    → IfSome rows (λ r. r ≡ rows_of m)
+    → IfSome rows' (λ r. r ≡ rows_of m)
+kept-still m rows None told kept = tt
+kept-still m rows (Some now) told kept =
+    let P : Option (List Row) → Type 0 = λ o. IfSome o (λ r. r ≡ rows_of m) in subst P told kept
+
+-- nothing was made, and the keeper's count is this one
+keeps-stays : (h k : Holding) (keeper keeper' : KeeperView) (count : ℕ)
+    → k ≡ h
+    → keeper.faults ≤ count
+    → Stays h.matter keeper count k.matter keeper'
+    → KeepsOn (desk_view h keeper) (desk_view k keeper')
+keeps-stays h k keeper keeper' count same up s =
+    let now = s.faults in
+    record {
+      kept = λ rows. kept-still k.matter keeper.rows keeper'.rows s.rows
+          (subst (λ (m : Matter). KeepsRows keeper m) (sym s.matter) rows);
+      loads = s.loads;
+      sure = s.sure;
+      faults = omega (arith, up, now);
+    }
+
+keeps-quiet : (h k : Holding) (keeper keeper' : KeeperView)
+    → k ≡ h
+    → keeper' ≡ keeper
+    → KeepsOn (desk_view h keeper) (desk_view k keeper')
+keeps-quiet h k keeper keeper' same quiet =
+    subst (λ (l : Holding). KeepsOn (desk_view h keeper) (desk_view l keeper')) (sym same)
+    (subst (λ (l : KeeperView). KeepsOn (desk_view h keeper) (desk_view h l)) (sym quiet)
+    (keeps-itself (desk_view h keeper)))
+
+keeps-made : (h k : Holding) (event : Event) (keeper keeper' : KeeperView) (gave : Given)
+    → EventMade h event keeper gave k keeper'
+    → KeepsOn (desk_view h keeper) (desk_view k keeper')
+keeps-made h k event keeper keeper' gave m =
+    let same = m.faults in
+    record {
+      kept = m.kept;
+      loads = m.loads;
+      sure = m.sure;
+      faults = omega (arith, same);
+    }
+
+-- ---- one exchange
+
+was-asked : (bytes : List ℕ) (event : Event) → ReadsEvent bytes (Ok event) → EventReads bytes (Ok event)
+was-asked bytes event reads = reads (λ same. cc)
+
+-- an event was made, with this answer
+deals-made : (h k : Holding) (event : Event) (keeper keeper' : KeeperView)
+    (answer : Result Given Rule) (text : List ℕ) (x : Exchange)
+    → event_of h event ≡ record { given = answer; after = k }
+    → KeepsOn (desk_view h keeper) (desk_view k keeper')
+    → (text ≡ event_text answer) ⊎ (text ≡ memory_text)
+    → AsksFor x event
+    → WasReadEvent x
+    → Sent x text
+    → EventDeals (desk_view h keeper) x true (desk_view k keeper')
+deals-made h k event keeper keeper' answer text x is keeps (inl t) asks read s =
+    made_one event text (desk_view k keeper') (sym (ap (λ (e : Evented). e.after) is))
+    (given asks read (t ∙ ap event_text (sym (ap (λ (e : Evented). e.given) is)))) s keeps
+deals-made h k event keeper keeper' answer text x is keeps (inr t) asks read s =
+    made_one event text (desk_view k keeper') (sym (ap (λ (e : Evented). e.after) is))
+    (not_given asks read t) s keeps
+
+-- the keeper failed at a call, and nothing was made
+deals-failed : (h k : Holding) (event : Event) (keeper keeper' : KeeperView) (text : List ℕ)
+    (x : Exchange)
+    → keeper.faults ≤ 2 ^ 64 - 1
+    → KeeperFailed h event keeper k keeper'
+    → (text ≡ reply_text answers.KeeperFault) ⊎ (text ≡ memory_text)
+    → AsksFor x event
+    → WasReadEvent x
+    → Sent x text
+    → EventDeals (desk_view h keeper) x false (desk_view k keeper')
+deals-failed h k event keeper keeper' text x fits f (inl t) asks read s =
+    let count = f.stays.faults in
+    made_none 1 text (desk_view k keeper') f.desk (fault event f.review asks read t) s
+    (omega (arith, count))
+    (keeps-stays h k keeper keeper' (risen keeper.faults) f.desk (omega (arith, fits)) f.stays)
+deals-failed h k event keeper keeper' text x fits f (inr t) asks read s =
+    let count = f.stays.faults in
+    made_none 0 text (desk_view k keeper') f.desk (no_memory t) s (omega (arith, count, fits))
+    (keeps-stays h k keeper keeper' (risen keeper.faults) f.desk (omega (arith, fits)) f.stays)
+
+-- memory ran out, and nothing was made
+deals-lacked : (h k : Holding) (keeper keeper' : KeeperView) (text : List ℕ) (x : Exchange)
+    → EventLacked h keeper k keeper'
+    → text ≡ memory_text
+    → Sent x text
+    → EventDeals (desk_view h keeper) x false (desk_view k keeper')
+deals-lacked h k keeper keeper' text x f t s =
+    let count = f.stays.faults in
+    made_none 0 text (desk_view k keeper') f.desk (no_memory t) s (omega (arith, count))
+    (keeps-stays h k keeper keeper' keeper.faults f.desk (omega arith) f.stays)
+
+text-is : (wanted : List ℕ) (result : Result (List ℕ) OutOfMemory)
+    → IfOk result (λ text. text ≡ wanted)
+    → (text_of result ≡ wanted) ⊎ (text_of result ≡ memory_text)
+text-is wanted (Ok text) is = inl is
+text-is wanted (Err none) is = inr refl
+
+lacking : (text : List ℕ) → (text ≡ memory_text) ⊎ (text ≡ memory_text) → text ≡ memory_text
+lacking text (inl t) = t
+lacking text (inr t) = t
+
+-- the bytes ask for an event, which gave this
+pub event-answers : (h k : Holding) (event : Event) (keeper keeper' : KeeperView)
+    (gave : Result Given MatterRefusal) (result : Result (List ℕ) OutOfMemory)
+    → keeper.faults ≤ 2 ^ 64 - 1
+    → EventGives h event keeper gave k keeper'
+    → IfOk result (λ text. text ≡ text_for gave)
+    → AnswersEvent (desk_view h keeper) (Ok event) (text_of result) (is_made gave)
+    (desk_view k keeper')
+event-answers h k event keeper keeper' (Ok gave) result fits e t x reads read s =
+    deals-made h k event keeper keeper' (Ok gave) (text_of result) x e.answer
+    (keeps-made h k event keeper keeper' gave e) (text-is _ result t)
+    (was-asked x.read event reads) read s
+event-answers h k event keeper keeper' (Err (stops.Rule rule)) result fits e t x reads read s =
+    deals-made h k event keeper keeper' (Err rule) (text_of result) x
+    (e.answer ∙ ap (λ (l : Holding). refused_with rule l) (sym e.desk))
+    (keeps-quiet h k keeper keeper' e.desk e.quiet) (text-is _ result t)
+    (was-asked x.read event reads) read s
+  where
+    refused_with : Rule → Holding → Evented
+    refused_with rule l = record { given = Err rule; after = l }
+event-answers h k event keeper keeper' (Err stops.KeeperFault) result fits e t x reads read s =
+    deals-failed h k event keeper keeper' (text_of result) x fits e (text-is _ result t)
+    (was-asked x.read event reads) read s
+event-answers h k event keeper keeper' (Err stops.OutOfMemory) result fits e t x reads read s =
+    deals-lacked h k keeper keeper' (text_of result) x e (lacking _ (text-is _ result t)) s
+
+-- the same where what was told of it is equal
+pub event-answers-as : (h k : Holding) (event : Event) (keeper keeper' : KeeperView)
+    (gave : Result Given MatterRefusal) (result : Result (List ℕ) OutOfMemory) (told : Bool)
+    → keeper.faults ≤ 2 ^ 64 - 1
+    → EventGives h event keeper gave k keeper'
+    → IfOk result (λ text. text ≡ text_for gave)
+    → told ≡ is_made gave
+    → AnswersEvent (desk_view h keeper) (Ok event) (text_of result) told (desk_view k keeper')
+event-answers-as h k event keeper keeper' gave result told fits e t is =
+    subst (λ (b : Bool). AnswersEvent (desk_view h keeper) (Ok event) (text_of result) b
+    (desk_view k keeper')) (sym is) (event-answers h k event keeper keeper' gave result fits e t)
+
+was-refused : (bytes : List ℕ) (why : WebRefusal)
+    → (why ≡ refusals.OutOfMemory → ⊥)
+    → ReadsEvent bytes (Err why)
+    → EventReads bytes (Err why)
+was-refused bytes why other reads =
+    reads (λ same. let memory : why ≡ refusals.OutOfMemory = cc in other memory)
+
+-- the bytes are no request
+pub refusal-answers : (d : DeskView) (why : WebRefusal) (text : List ℕ)
+    → IsRefusalText why text
+    → AnswersEvent d (Err why) text false d
+refusal-answers d why text (inl t) x reads read s =
+    made_none 0 text d refl (no_memory t) s (omega arith) (keeps-itself d)
+refusal-answers d why text (inr t) x reads read s =
+    made_none 0 text d refl (refusal why (was-refused x.read why t.0 reads) read t.1) s
+    (omega arith) (keeps-itself d)
+
+-- the same of what was read, told otherwise
+pub answers-as : (before after : DeskView) (asked read : Result Event WebRefusal) (text : List ℕ)
+    (told : Bool)
+    → asked ≡ read
+    → AnswersEvent before read text told after
+    → AnswersEvent before asked text told after
+answers-as before after asked read text told is deals =
+    subst (λ (r : Result Event WebRefusal). AnswersEvent before r text told after) (sym is) deals
+
+-- the bytes were read so
+pub bytes-answered : (before after : DeskView) (bytes text : List ℕ)
+    (asked : Result Event WebRefusal) (told : Bool)
+    → ReadsEvent bytes asked
+    → AnswersEvent before asked text told after
+    → (x : Exchange)
+    → x.read ≡ bytes
+    → WasReadEvent x
+    → Sent x text
+    → EventDeals before x told after
+bytes-answered before after bytes text asked told reads is x same read s =
+    is x (λ other. subst (λ (b : List ℕ). EventReads b asked) (sym same) (reads other)) read s
+
+-- what is told of bytes, by what the test promises
+pub tells : (bytes : List ℕ) (answer : Bool)
+    → (IsWholeEvent bytes → IsTrue answer)
+    → (IsTrue answer → (more : List ℕ) → EventReadAlike (bytes ++ more) bytes)
+    → (NeverBegins (start_of bytes) → IsTrue answer)
+    → TellsEvent bytes answer
+tells bytes true needs alike nothing = alike refl
+tells bytes false needs alike nothing =
+    (λ is. false≢true (needs is), λ is. false≢true (nothing is))
+
+-- ---- exchanges in turn
+
+-- none came
+none-delivered : (d : DeskView) → Delivers d [] 0 d
+none-delivered d = record {
+  events = [];
+  faults = 0;
+  counted = refl;
+  run = refl;
+  delivered = nobody;
+  rose = omega arith;
+  keeps = keeps-itself d;
+}
+
+-- an exchange came, and others after it
+one-delivered : (a b c : DeskView) (x : Exchange) (told : Bool) (others : List Exchange) (count : ℕ)
+    → x.hung_up ≡ true
+    → EventDeals a x told b
+    → Delivers b others count c
+    → Delivers a (x ∷ others) (count_if told + count) c
+one-delivered a b c x told others count h (made_one event text after run t s keeps) rest =
+    let P : Holding → Type 0 = λ l. Delivered (event_turns l rest.events) rest.faults others in
+    let up = keeps.faults in
+    let counts = rest.counted in
+    record {
+      events = event ∷ rest.events;
+      faults = rest.faults;
+      counted = omega (arith, counts);
+      run = rest.run ∙ ap (λ (l : Holding). run_of l rest.events) run;
+      delivered = made (event_turn a.holding event) _ rest.faults x others text h t s
+          (subst P run rest.delivered);
+      rose = subst (λ n. RoseBy n a.keeper.faults c.keeper.faults) (zero-add rest.faults)
+          (rose_twice a.keeper.faults b.keeper.faults c.keeper.faults 0 rest.faults up rest.rose);
+      keeps = keeps-twice a b c keeps rest.keeps;
+    }
+one-delivered a b c x told others count h (made_none faults text after run t s rose keeps) rest =
+    let P : Holding → Type 0 = λ l. Delivered (event_turns l rest.events) rest.faults others in
+    let counts = rest.counted in
+    record {
+      events = rest.events;
+      faults = faults + rest.faults;
+      counted = omega (arith, counts);
+      run = rest.run ∙ ap (λ (l : Holding). run_of l rest.events) run;
+      delivered = unmade (event_turns a.holding rest.events) faults rest.faults x others text h t s
+          (subst P run rest.delivered);
+      rose = rose_twice a.keeper.faults b.keeper.faults c.keeper.faults faults rest.faults rose
+          rest.rose;
+      keeps = keeps-twice a b c keeps rest.keeps;
+    }
+
+-- all that came
+turns-delivered : {W : Type 0} (shown : W → DeskView) (v w : W) (xs : List Exchange) (count : ℕ)
+    → InTurn (λ a x told b. EventDeals (shown a) x told (shown b)) v xs count w
+    → Delivers (shown v) xs count (shown w)
+turns-delivered shown v w xs count (nobody_came u) = none-delivered (shown u)
+turns-delivered shown v w xs count (next a b c x told others left h deals rest) =
+    one-delivered (shown a) (shown b) (shown c) x told others left h deals
+    (turns-delivered shown b c others left rest)
+
+-- ---- a door served
+
+pub door-delivered : {W : Type 0} (shown : W → DeskView) (connections count : ℕ) (v w : W)
+    (door door' : DoorView)
+    → ServesDoor (λ a x told b. EventDeals (shown a) x told (shown b)) connections v door count w door'
+    → DeliversDoor connections (shown v) door count (shown w) door'
+door-delivered shown connections count v w door door' served =
+    record {
+      tried = served.tried;
+      exchanges = served.serves.exchanges;
+      told = served.serves.told;
+      accepts = served.serves.accepts;
+      returned = served.returned;
+      delivers = turns-delivered shown v w served.serves.exchanges count served.serves.turns;
+    }

@@ -1,0 +1,99 @@
+-- Worked examples of serving a door, each run by the check: an exchange of each case, and what fits
+-- none.
+use Rattle.std.proofs.Common.{◌≡◌, ℕ, true, false, List, [], ◌∷◌, refl, subst, inl, inr}
+use Rattle.std.specs.Prelude.{Ok, Err}
+use Rattle.bp_outside.specs.declared.exchange.Exchange.{Exchange}
+use Rattle.bp_rules.specs.declared.refusals.MatterRefusal.TheVariants as stops
+use Rattle.bp_web.specs.Replies.{reply_text}
+use Rattle.bp_web.specs.declared.refusals.WebRefusal.{WebRefusal}
+use Rattle.bp_web.specs.declared.replies.Answer.TheVariants as answers
+use Rattle.bp_doors.specs.Exchanges.{memory_text}
+use Rattle.bp_doors.specs.Exchanges.Sent.{cut, whole}
+use Rattle.bp_receiver.specs.Delivered.{AsksFor, Delivered, EventTurn, TextOfNoEvent, event_turn, event_turns}
+use Rattle.bp_receiver.specs.Delivered.Delivered.{made, nobody, unmade}
+use Rattle.bp_receiver.specs.Delivered.TextOfEvent.{given, not_given}
+use Rattle.bp_receiver.specs.Delivered.TextOfNoEvent.{fault, no_memory, refusal}
+use Rattle.bp_receiver.specs.Delivering.{IsReview}
+use Rattle.bp_receiver.specs.EventReplies.{event_text}
+use Rattle.bp_receiver.specs.EventRequests.{EventReads}
+use Rattle.bp_receiver.specs.EventServing.{is_made, text_for}
+use Rattle.bp_receiver.specs.Events.{Holding, event_of}
+use Rattle.bp_receiver.specs.declared.events.Event.{Event}
+use Rattle.bp_receiver.specs.declared.events.Event.TheVariants as events
+use Rattle.bp_receiver.specs.declared.events.Given.TheVariants as gives
+use Rattle.bp_receiver.specs.declared.events.Wanted.{Wanted}
+use Rattle.bp_receiver.proofs.RequestLemmas.{reads-one}
+
+-- these bytes were read to the end of input, and these written
+abbrev exchanged : List ℕ → List ℕ → Exchange
+exchanged read written =
+    record {
+      read = read;
+      ended = true;
+      written = written;
+      failed = false;
+      lacked = false;
+      hung_up = true;
+    }
+
+-- what an event gives there
+abbrev answered : Holding → Event → List ℕ
+answered h event = event_text (event_of h event).given
+
+-- An event and its answer; bytes that are no request; a call at which the keeper failed; want of
+-- memory, with an event and with none; and an event whose answer was cut off.
+each_case : (h : Holding) (event call : Event) (why : WebRefusal) (a b c : List ℕ)
+    → EventReads a (Ok event)
+    → IsReview call
+    → EventReads b (Ok call)
+    → EventReads c (Err why)
+    → Delivered (event_turns h (event ∷ event ∷ event ∷ [])) 1
+    (exchanged a (answered h event)
+    ∷ exchanged c (reply_text (answers.Web why))
+    ∷ exchanged b (reply_text answers.KeeperFault)
+    ∷ exchanged [] memory_text
+    ∷ exchanged a memory_text
+    ∷ record (exchanged a []) { failed = true }
+    ∷ [])
+each_case h event call why a b c asks review calls refused =
+    let then : Holding = (event_of h event).after in
+    let last : Holding = (event_of then event).after in
+    made (event_turn h event) _ 1 _ _ _ refl (given asks (inr refl) refl) (whole refl)
+    (unmade _ 0 1 _ _ _ refl (refusal why refused (inr refl) refl) (whole refl)
+    (unmade _ 1 0 _ _ _ refl (fault call review calls (inr refl) refl) (whole refl)
+    (unmade _ 0 0 _ _ memory_text refl (no_memory refl) (whole refl)
+    (made (event_turn then event) _ 0 _ _ memory_text refl (not_given asks (inr refl) refl)
+    (whole refl)
+    (made (event_turn last event) [] 0 _ [] (answered last event) refl (given asks (inr refl) refl)
+    (cut (inl refl) (answered last event) refl) nobody)))))
+
+-- no event is left over
+none_left : (turns : List EventTurn) (count : ℕ) (xs : List Exchange) (turn : EventTurn)
+    → Delivered turns count xs
+    → xs ≡ []
+    → turns ≡ turn ∷ []
+    → ⊥
+none_left turns count xs turn nobody none is = absurd cc
+none_left turns count xs turn (made first left faults x others text h t s rest) none is = absurd cc
+none_left turns count xs turn (unmade left here faults x others text h t s rest) none is = absurd cc
+
+-- no want is answered that the keeper failed
+no_fault_at_a_want : (x : Exchange) (key : List ℕ) (wanted : Wanted) (text : List ℕ)
+    → AsksFor x (events.Want key wanted)
+    → TextOfNoEvent x text 1
+    → ⊥
+no_fault_at_a_want x key wanted text asks (fault event review asked read t) =
+    let same : Ok event ≡ Ok (events.Want key wanted) =
+    reads-one x.read (Ok event) (Ok (events.Want key wanted)) asked asks in
+    let is : event ≡ events.Want key wanted = cc in
+    subst (λ (e : Event). IsReview e) is review
+
+-- what was given was made, and a fault was not
+given_is_made : is_made (Ok gives.Granted) ≡ true
+given_is_made = refl
+
+fault_is_not : is_made (Err stops.KeeperFault) ≡ false
+fault_is_not = refl
+
+lacking_says_so : text_for (Err stops.OutOfMemory) ≡ memory_text
+lacking_says_so = refl

@@ -1,0 +1,123 @@
+-- Serving a door of the receiver's desk, exchange by exchange.
+use Rattle.std.specs.Prelude.{◌≡◌, ◌≢◌, ℕ, ◌≤◌, Bool, true, false, List, ◌++◌, length, Result, Ok, Err, refl}
+use Rattle.std.specs.Option.{option_map}
+use Rattle.std.proofs.Math.Nat.{le_refl}
+use Rattle.bp_keep.specs.Keeper.{KeeperView}
+use Rattle.bp_outside.specs.Door.{DoorView}
+use Rattle.bp_outside.specs.declared.exchange.Exchange.{Exchange}
+use Rattle.bp_rules.specs.Steps.{KeepsRows}
+use Rattle.bp_rules.specs.declared.refusals.MatterRefusal.{MatterRefusal}
+use Rattle.bp_rules.specs.declared.refusals.MatterRefusal.TheVariants as stops
+use Rattle.bp_web.specs.Messages.{message_text}
+use Rattle.bp_web.specs.Replies.{reply_text}
+use Rattle.bp_web.specs.declared.refusals.WebRefusal.{WebRefusal}
+use Rattle.bp_web.specs.declared.refusals.WebRefusal.TheVariants as refusals
+use Rattle.bp_web.specs.declared.replies.Answer.TheVariants as answers
+use Rattle.bp_doors.specs.Exchanges.{Sent, memory_text}
+use Rattle.bp_doors.specs.Serving.{Returned, RoseBy, raised}
+use Rattle.bp_receiver.specs.Delivered.{Delivered, TextOfEvent, TextOfNoEvent, WasReadEvent, event_turn, event_turns}
+use Rattle.bp_receiver.specs.Delivered.TextOfNoEvent.{no_memory}
+use Rattle.bp_receiver.specs.EventReplies.{given_message}
+use Rattle.bp_receiver.specs.EventRequests.{EventReads}
+use Rattle.bp_receiver.specs.Events.{Holding, event_of, run_of}
+use Rattle.bp_receiver.specs.declared.events.Event.{Event}
+use Rattle.bp_receiver.specs.declared.events.Given.{Given}
+
+-- ---- what is known
+
+-- what the desk holds, and what its keeper shows
+pub record DeskView : Type 0 where
+  pub holding : Holding
+  pub keeper : KeeperView
+
+-- both, as contracts see them
+abbrev pub desk_view : Holding → KeeperView → DeskView
+desk_view h keeper = record { holding = h; keeper = keeper }
+
+-- a keeper that kept the matter before keeps the matter after; it wasn't asked to load, is as sure as
+-- it was, and its count of faults didn't fall
+pub record KeepsOn (before after : DeskView) : Type 0 where
+  pub kept : KeepsRows before.keeper before.holding.matter
+      → KeepsRows after.keeper after.holding.matter
+  pub loads : after.keeper.loads ≡ before.keeper.loads
+  pub sure : after.keeper.sure ≡ before.keeper.sure
+  pub faults : before.keeper.faults ≤ after.keeper.faults
+
+-- ---- an exchange
+
+-- what an exchange did: it made one event, or none
+pub data EventDeals (before : DeskView) (x : Exchange) : Bool → DeskView → Type 0 where
+  made_one : (event : Event) (text : List ℕ) (after : DeskView)
+      → after.holding ≡ (event_of before.holding event).after
+      → TextOfEvent (event_turn before.holding event) x text → Sent x text
+      → KeepsOn before after
+      → EventDeals before x true after
+  made_none : (faults : ℕ) (text : List ℕ) (after : DeskView)
+      → after.holding ≡ before.holding
+      → TextOfNoEvent x text faults → Sent x text
+      → RoseBy faults before.keeper.faults after.keeper.faults → KeepsOn before after
+      → EventDeals before x false after
+
+-- what is sent to nobody, or says that memory ran out, leaves all
+pub cut-off : (d : DeskView) (x : Exchange) → Sent x memory_text → EventDeals d x false d
+cut-off d x s =
+    let same : d.keeper.faults ≤ d.keeper.faults = le_refl d.keeper.faults in
+    made_none 0 memory_text d refl (no_memory refl) s same (record {
+      kept = λ rows. rows;
+      loads = refl;
+      sure = refl;
+      faults = same;
+    })
+
+-- ---- what answers a request
+
+-- bytes were read so, unless memory ran out
+abbrev pub ReadsEvent : List ℕ → Result Event WebRefusal → Type 0
+ReadsEvent bytes read = read ≢ Err refusals.OutOfMemory → EventReads bytes read
+
+-- what was given, or why nothing was, as the text that is sent
+abbrev pub text_for : Result Given MatterRefusal → List ℕ
+text_for (Ok given) = message_text (given_message given)
+text_for (Err (stops.Rule rule)) = reply_text (answers.Rule rule)
+text_for (Err stops.KeeperFault) = reply_text answers.KeeperFault
+text_for (Err stops.OutOfMemory) = memory_text
+
+-- whether an event was made, which gave this
+abbrev pub is_made : Result Given MatterRefusal → Bool
+is_made (Ok given) = true
+is_made (Err (stops.Rule rule)) = true
+is_made (Err stops.KeeperFault) = false
+is_made (Err stops.OutOfMemory) = false
+
+-- an answer to what was read of bytes deals so in every exchange that read them whole and was sent
+-- the text
+abbrev pub AnswersEvent : DeskView → Result Event WebRefusal → List ℕ → Bool → DeskView → Type 0
+AnswersEvent before read text made after =
+    (x : Exchange) → ReadsEvent x.read read → WasReadEvent x → Sent x text
+    → EventDeals before x made after
+
+-- ---- a door
+
+-- What exchanges in turn came to: these events were made, so many, and the exchanges use them up; so
+-- many were answered that the keeper failed, no more than its count rose by; and the desk holds what
+-- the events make of it.
+pub record Delivers (before : DeskView) (exchanges : List Exchange) (count : ℕ) (after : DeskView)
+    : Type 0 where
+  pub events : List Event
+  pub faults : ℕ
+  pub counted : count ≡ length events
+  pub run : after.holding ≡ run_of before.holding events
+  pub delivered : Delivered (event_turns before.holding events) faults exchanges
+  pub rose : RoseBy faults before.keeper.faults after.keeper.faults
+  pub keeps : KeepsOn before after
+
+-- A door was served for so many connections: so many accepts were tried, or the last of fewer found
+-- it closed; and this is what its new exchanges came to.
+pub record DeliversDoor (connections : ℕ) (before : DeskView) (door : DoorView) (count : ℕ)
+    (after : DeskView) (door' : DoorView) : Type 0 where
+  pub tried : ℕ
+  pub exchanges : List Exchange
+  pub told : door'.exchanges ≡ option_map (λ old. old ++ exchanges) door.exchanges
+  pub accepts : door'.accepts ≡ raised tried door.accepts
+  pub returned : Returned connections tried door'
+  pub delivers : Delivers before exchanges count after

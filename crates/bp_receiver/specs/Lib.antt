@@ -1,0 +1,16 @@
+pub mod Contents
+pub mod Delivered
+pub mod Delivering
+pub mod DeskRoutes
+pub mod EventBodies
+pub mod EventReplies
+pub mod EventRequests
+pub mod EventServing
+pub mod Events
+pub mod GrantFiles
+pub mod Granting
+pub mod Laws
+pub mod Outlines
+pub mod Ready
+pub mod Receiving
+pub mod Twins

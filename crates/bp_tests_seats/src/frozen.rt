@@ -1,0 +1,73 @@
+// What one seat froze is seen at another as it was frozen.
+ghost use Rattle.std.specs.Prelude.{◌≡◌};
+ghost use Rattle.bp_seats.specs.Seats.{IsSeatOf, SameSeat};
+
+use crate::calls::{box_of, freeze, get_production, put_box};
+use crate::matters::confirmed;
+use crate::stage::{Pair, close_pair, make, pass_note, start_pair};
+use bp_keep::MemKeeper;
+use bp_matter::{Call, Production, Reply};
+use bp_seats::{Desk, Seat};
+use std::alloc::Global;
+use std::process::Abort;
+use std::sync::Wait;
+use std::test::Fail;
+
+// The production that is answered at a seat.
+fn produced_at<R: Wait>(
+    desk: &Desk<MemKeeper>,
+    rt: &R,
+    alloc: Global,
+    seat: &mut Seat<MemKeeper>,
+    call: &Call,
+) -> Result<Production, Fail>
+    requires { IsSeatOf desk.now seat.old }
+    ensures { SameSeat seat.old seat.new }
+{
+    match make(desk, rt, alloc, seat, call)? {
+        Reply::Produced(production) => Ok(production),
+        _ => Err(Fail::from("no production")),
+    }
+}
+
+// Seat 1 freezes, and what it told seat 2 is not changed by a box that is put there.
+fn freeze_and_edit<R: Wait + Abort>(
+    desk: &Desk<MemKeeper>,
+    rt: &R,
+    alloc: Global,
+    one: &mut Seat<MemKeeper>,
+    two: &mut Seat<MemKeeper>,
+) -> Result<(), Fail>
+    requires { IsSeatOf desk.now one.old × IsSeatOf desk.now two.old }
+    ensures { SameSeat one.old one.new × SameSeat two.old two.new }
+{
+    let frozen = produced_at(desk, rt, alloc, one, &freeze(alloc)?)?;
+    pass_note(desk, alloc, one, two)?;
+    let put = make(desk, rt, alloc, two, &put_box(box_of(2)))?;
+    assert!(rt; matches!(put, Reply::Done));
+    let got = produced_at(desk, rt, alloc, two, &get_production(alloc)?)?;
+    assert!(rt; got == frozen);
+    assert!(rt; has_box_1_alone(&got));
+    Ok(())
+}
+
+fn has_box_1_alone(production: &Production) -> bool {
+    match production.items.as_slice() {
+        [item] => item.boxes.as_slice() == [box_of(1)].as_slice(),
+        _ => false,
+    }
+}
+
+#[test]
+fn a_later_box_is_in_no_frozen_production(rt: HostRuntime) -> Result<(), Fail> {
+    let alloc = rt.alloc();
+    let Pair {
+        desk,
+        mut one,
+        mut two,
+    } = start_pair(alloc, confirmed(alloc)?, 10)?;
+    freeze_and_edit(&desk, &rt, alloc, &mut one, &mut two)?;
+    let calls = close_pair(alloc, Pair { desk, one, two })?;
+    assert_eq!(rt; calls, 3);
+    Ok(())
+}

@@ -1,0 +1,151 @@
+#!/usr/bin/env python3
+"""Tries what no contract reaches: what installs and packs, the programs for offices, the review page, the guide, many clients at
+many desks. .ci/run runs it behind the gate; by hand it is `make check`.
+
+Each part is a script that runs by itself, too, and says what it leaves out where something isn't installed. Here each has so many
+minutes: then it, and whatever it began, is ended, and it failed. Where the system allows that, all run in a network of their own that
+has a loopback alone: no port is taken there, and nothing goes out. They try the program where it is built from the sources as they
+stand, else what they can without it, or a stand-in.
+
+    all.py [PART ..]     none: all, of which none begins after 20 minutes. Ends with 1 where a part failed twice
+"""
+import os
+import shutil
+import signal
+import socket
+import subprocess
+import sys
+import tempfile
+import threading
+import time
+
+sys.dont_write_bytecode = True
+import apart  # noqa: E402
+
+HERE = os.path.dirname(os.path.abspath(__file__))
+TOP = os.path.dirname(os.path.dirname(HERE))
+FIRST_PORT = 48201
+# in which all parts begin, since what runs them may end at a time of its own
+TOGETHER = 20 * 60
+
+
+class Part:
+    """What is run; how many minutes it has, some five times what it takes beside other work; and what it can't do without: Debian's
+    packages, by a program of each, and so many desks of the built program. What a part looks for itself isn't named here."""
+
+    def __init__(self, words, minutes, packages=(), desks=0):
+        self.words, self.minutes, self.packages, self.desks = words.split(), minutes, packages, desks
+
+    def lacks(self):
+        """Why it can't be tried here, or None."""
+        missing = [package for tool, package in self.packages if not shutil.which(tool)]
+        if missing:
+            return f"{', '.join(missing)} isn't installed (Debian's packages of these names)"
+        if self.desks and not is_built():
+            return "the program isn't built from the sources as they stand"
+        taken = [port for port in range(FIRST_PORT, FIRST_PORT + self.desks) if is_open(port)]
+        return f"somebody is at port {taken[0]}" if taken else None
+
+
+OFFICE = [("curl", "curl"), ("sqlite3", "sqlite3"), ("tifftopnm", "netpbm"), ("tiffinfo", "libtiff-tools")]
+PARTS = {
+    "manual": Part("docs/write_man.py check", 5),
+    "install": Part("tools/tests/install.sh", 10, [("make", "make"), ("bash", "bash")]),
+    "office": Part("examples/office.sh", 10, OFFICE, desks=1),
+    "deliver": Part("examples/deliver.sh", 10, [("curl", "curl")], desks=1),
+    "check": Part("examples/check.sh", 10, OFFICE, desks=1),
+    "report": Part("tools/tests/matter_report.py", 10),
+    "batch": Part("tools/tests/make_batch.py", 30),
+    "page": Part("desk_page/tests/run.sh", 20),
+    "guide": Part("examples/guide.py", 15),
+    "desks": Part("examples/desks.sh", 15, desks=16),
+}
+
+
+def is_built():
+    words = [os.path.join(TOP, "tivrenan"), "build", "look"]
+    return subprocess.run(words, stdout=subprocess.DEVNULL, stderr=subprocess.DEVNULL, check=False).returncode == 0
+
+
+def is_open(port):
+    try:
+        socket.create_connection(("127.0.0.1", port), timeout=1).close()
+        return True
+    except OSError:
+        return False
+
+
+def pass_on(pipe, left_out):
+    """Prints what a part prints, and keeps the lines that say what it leaves out."""
+    for line in pipe:
+        print(line, end="", flush=True)
+        if "not tried" in line.lower():
+            left_out.append(line.strip())
+
+
+def run(part, left_out):
+    """The status of a part, or None where it took too long. What it leaves among temporary files goes with it."""
+    room = tempfile.mkdtemp(prefix="tivrenan-")
+    os.chmod(room, 0o755)  # some things are tried as nobody
+    try:
+        return run_in(room, part, left_out)
+    finally:
+        shutil.rmtree(room, ignore_errors=True)
+
+
+def run_in(room, part, left_out):
+    words = [os.path.join(TOP, part.words[0]), *part.words[1:]]
+    process = subprocess.Popen(words, cwd=TOP, env={**os.environ, "TMPDIR": room}, stdin=subprocess.DEVNULL, stdout=subprocess.PIPE,
+                               stderr=subprocess.STDOUT, text=True, errors="replace", start_new_session=True)
+    reader = threading.Thread(target=pass_on, args=(process.stdout, left_out), daemon=True)
+    reader.start()
+    try:
+        status = process.wait(60 * part.minutes)
+    except subprocess.TimeoutExpired:
+        status = None
+    apart.end_begun()
+    reader.join(10)
+    return status
+
+
+def is_well(name, left_out, until):
+    """Whether a part did what is due, or can't be tried here, or not any more."""
+    part = PARTS[name]
+    print(f"== {name}: {' '.join(part.words)}", flush=True)
+    why = part.lacks() if time.monotonic() < until else f"{TOGETHER // 60} minutes are over"
+    if why is not None:
+        left_out.append(f"{name}: NOT TRIED: {why}")
+        print(left_out[-1], flush=True)
+        return True
+    began = time.monotonic()
+    status = run(part, left_out)
+    if status not in (0, None) and time.monotonic() < until:
+        print(f"all.py: {name}: status {status}; once more, since a browser and many clients go by the moment", flush=True)
+        status = run(part, left_out)
+    took = f"{time.monotonic() - began:.0f} s"
+    told = {0: f"ok, {took}", None: f"FAILED: it had {part.minutes} minutes, and was ended"}
+    print(f"all.py: {name}: {told.get(status, f'FAILED: status {status}, {took}')}", flush=True)
+    return status == 0
+
+
+def main(names):
+    if set(names) - set(PARTS):
+        sys.exit(f"usage: all.py [{'] ['.join(PARTS)}]")
+    apart.adopt()
+    for ending in (signal.SIGTERM, signal.SIGHUP):
+        signal.signal(ending, lambda number, _: sys.exit(128 + number))
+    where = "a network of its own" if apart.in_own_network() else "this machine's network, as the system gives no other"
+    print(f"all.py: in {where}", flush=True)
+    left_out, failed = [], []
+    until = float("inf") if names else time.monotonic() + TOGETHER
+    try:
+        failed = [name for name in names or PARTS if not is_well(name, left_out, until)]
+    finally:
+        apart.end_begun()
+    print("", *left_out, sep="\n")
+    print(f"all.py: FAILED: {' '.join(failed)}" if failed else "all.py: what was tried is as it is due")
+    sys.exit(1 if failed else 0)
+
+
+if __name__ == "__main__":
+    main(sys.argv[1:])

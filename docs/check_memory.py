@@ -17,6 +17,7 @@ MADE = {
     ("bp_matter/src/kept_page.rt", "hold"): "Arc's own error",
     ("bp_matter/src/kept_page.rt", "share"): "Arc's count of holders is full",
     ("bp_outside/src/memory/door.rt", "read"): "the call's own want, noted in the exchange",
+    ("bp_claw/src/notice_files.rt", "read_record"): "csv's reader answers an error, which in memory is want of memory",
     ("bp_outside/src/memory/door.rt", "write"): "the call's own want, noted in the exchange",
     ("bp_receiver/src/delivery.rt", "grant"): "the copy of the id, or room for a grant, was refused",
     ("bp_receiver/src/requests.rt", "read_event"): "the router could not be made for want of memory",

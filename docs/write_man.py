@@ -10,7 +10,7 @@ import sys
 
 TOP = os.path.dirname(os.path.dirname(os.path.abspath(__file__)))
 DATE = "2026-11-28"
-COMMANDS = "burn init import serve deliver produce press log check help".split()
+COMMANDS = "burn init import serve deliver produce press log claw check help".split()
 PROGRAMS = {"tivrenan-make-batch": "make_batch", "tivrenan-matter-report": "matter_report"}
 
 
@@ -78,8 +78,8 @@ def launcher_page():
     lines += [".SH SYNOPSIS", ".B tivrenan", ".I COMMAND", "[\\fIWORD\\fR ..]", ".SH DESCRIPTION"]
     lines.append(paragraph("""tivrenan keeps a matter of scanned documents in the file matter.db of the current folder: it takes
         batches of pages in, serves the desk at which people decide what is withheld or redacted, freezes these decisions, and writes
-        the volume: pages with their boxes burned in and their numbers, slip sheets, texts, load files, privilege log. And it checks volumes
-        of any producer. It prints one line; what a refusal means and what to do is said on standard error."""))
+        the volume: pages with their boxes burned in and their numbers, slip sheets, texts, load files, privilege log. It writes the
+        replacement of a volume in which a document went out by mistake, and checks volumes of any producer. It prints one line; what a refusal means and what to do is said on standard error."""))
     lines.append(".SH COMMANDS")
     for name in COMMANDS:
         lines += command_of(name)
@@ -93,7 +93,7 @@ def launcher_page():
         lines += [".TP", f".I {plain(file)}", plain(what)]
     lines += [".SH EXAMPLES", ".nf", plain("tivrenan init $(printf %s 'the key of the lead' | sha256sum | cut -c1-64)"),
               plain("tivrenan import CVI_001"), plain("tivrenan serve 1 1000"),
-              plain("tivrenan produce R-1 VOL001 ABC 8 1 12 AUTHOR"),
+              plain("tivrenan produce R-1 VOL001 ABC 8 1 12 AUTHOR"), plain("tivrenan claw R-1 VOL002 notice.csv"),
               plain("cd out && tivrenan check VOL001/DATA/VOL001.DAT VOL001/DATA/VOL001.OPT VOL001/MANIFEST.TXT"), ".fi"]
     return lines + [".SH SEE ALSO", ".BR tivrenan\\-make\\-batch (1),", ".BR tivrenan\\-matter\\-report (1)", ".PP",
                     plain("An office's guide stands in share/doc/tivrenan/GUIDE.md below the folder that bin stands in.")]

@@ -79,7 +79,7 @@ fn run<R: Files + Alloc + Threads + Sync>(rt: &R, alloc: Global, words: &[String
 }
 
 // The jobs of review calls, of the freeze, of the press and of receivers.
-fn decide_or_press<R: Files + Alloc>(
+fn decide_or_press<R: Files + Alloc + Threads + Sync>(
     rt: &R,
     alloc: Global,
     job: &str,

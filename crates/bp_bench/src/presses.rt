@@ -17,6 +17,7 @@ use bp_tiff::{Form, write_tiff};
 use sha2::{Digest, Sha256};
 use std::alloc::Global;
 use std::rt::Files;
+use std::thread::Threads;
 
 // A frozen matter, the image of its pages, and how often it is pressed.
 #[derive(Drop)]
@@ -61,7 +62,11 @@ pub fn frozen(alloc: Global, image: &Page, shape: Shape) -> Result<Office> {
 }
 
 /// The sum of the numbers of files.
-pub fn press<R: Files + Alloc>(rt: &R, alloc: Global, operands: &[String]) -> Result<u64> {
+pub fn press<R: Files + Alloc + Threads + Sync>(
+    rt: &R,
+    alloc: Global,
+    operands: &[String],
+) -> Result<u64> {
     let task = task_of(rt, alloc, operands)?;
     let mut sum = 0u64;
     for turn in 0..task.times {
@@ -70,18 +75,22 @@ pub fn press<R: Files + Alloc>(rt: &R, alloc: Global, operands: &[String]) -> Re
     Ok(sum)
 }
 
-fn press_once<R: Files + Alloc>(rt: &R, task: &Task<'_>, turn: u32) -> Result<u64> {
+fn press_once<R: Files + Alloc + Threads + Sync>(
+    rt: &R,
+    task: &Task<'_>,
+    turn: u32,
+) -> Result<u64> {
     let alloc = task.office.alloc;
     if task.out == "-" {
-        return press_to(&task.office, &mut in_memory(alloc));
+        return press_to(rt, &task.office, &mut in_memory(alloc));
     }
     let below = format!(in alloc; "{}/{turn}", task.out)?;
-    press_to(&task.office, &mut FileFolder::below(rt, below.as_str()))
+    press_to(rt, &task.office, &mut FileFolder::below(rt, below.as_str()))
 }
 
-fn press_to<F: Folder>(office: &Office, folder: &mut F) -> Result<u64> {
+fn press_to<R: Threads + Sync, F: Folder>(rt: &R, office: &Office, folder: &mut F) -> Result<u64> {
     let id = office.text(ID)?;
-    write_volume(office.alloc, &office.tables, &id, folder)
+    write_volume(rt, office.alloc, &office.tables, &id, folder)
 }
 
 /// The sum of the lengths of the files and of a byte of each digest.

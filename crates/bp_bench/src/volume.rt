@@ -3,12 +3,14 @@ use anyhow::{Result, bail};
 use bp_core::{Bytes, Text};
 use bp_matter::Tables;
 use bp_outside::Folder;
-use bp_press::{file_of, press};
+use bp_press::{OpenGate, file_of, press};
 use std::alloc::Global;
+use std::thread::Threads;
 
 /// Writes the volume of the production of this id: its number of files.
 #[tactic(auto, using(crate::proofs::VolumeLemmas::found_is_kept))]
-pub fn write_volume<F: Folder>(
+pub fn write_volume<R: Threads + Sync, F: Folder>(
+    rt: &R,
     alloc: Global,
     tables: &Tables,
     id: &Text,
@@ -17,7 +19,7 @@ pub fn write_volume<F: Folder>(
     let Some(production) = tables.production(id) else {
         bail!("no production has the id");
     };
-    match press(alloc, tables, production, folder) {
+    match press(rt, alloc, tables, production, folder, &OpenGate) {
         Ok(pressed) => Ok(u64::from(pressed.files)),
         Err(refusal) => bail!("the volume isn't written: {refusal}"),
     }

@@ -36,8 +36,10 @@ use Rattle.bp_cli.specs.Runs.{Tells}
 use Rattle.bp_cli.specs.Words.{◌>>=◌}
 use Rattle.bp_cli.specs.Check.{CheckOutcome}
 use Rattle.bp_cli.specs.Burn.{BurnLine, BurnPaths, HasPage, BurnAlike, lacks_a_side, burn_page, burn_read, burn_gives, paths_of, path_refused, FileAnswers, PathAnswers, BurnsAt, BurnComes}
-use Rattle.bp_cli.specs.Commands.{CommandLine, Inputs, burn, init, import, produce, press, log, check, uses_of, AreKnown, AlikeFor, ComesTo, IsOutcome, RowsAlike, ShowAlike}
+use Rattle.bp_cli.specs.Commands.{CommandLine, Inputs, burn, init, import, produce, press, log, check, claw, uses_of, AreKnown, AlikeFor, ComesTo, IsOutcome, RowsAlike, ShowAlike}
+use Rattle.bp_cli.specs.Claw.{ClawOutcome, claw_gives}
 use Rattle.bp_cli.proofs.CheckLemmas.{check_one, some_check}
+use Rattle.bp_cli.proofs.ClawLemmas.{claw_alike, claw_one, some_named_file}
 use Rattle.bp_cli.proofs.KeptLemmas.{answers_loaded}
 use Rattle.bp_cli.proofs.ProduceLemmas.{same_frozen, same_logged, same_pressed, some_rows}
 use Rattle.bp_cli.proofs.RunLemmas.{AlikeOutcome}
@@ -110,6 +112,7 @@ one_outcome laws (produce q) inputs o o' x y = rows_one laws.rows (produce_gives
 one_outcome laws (press id) inputs o o' x y = rows_one laws.rows (press_gives id) inputs.rows o o' x y
 one_outcome laws (log id) inputs o o' x y = rows_one laws.rows (log_gives id) inputs.rows o o' x y
 one_outcome laws (check asked) inputs o o' x y = check_one laws.one asked inputs.files o o' x y
+one_outcome laws (claw asked) inputs o o' x y = claw_one asked inputs.files inputs.rows o o' (matter_one laws.rows inputs.rows) x y
 
 -- ---- and there is one
 
@@ -140,6 +143,9 @@ some_outcome laws (produce q) inputs known = (produce_gives q known.0, rows_know
 some_outcome laws (press id) inputs known = (press_gives id known.0, rows_known (press_gives id) inputs.rows known.0 known.1)
 some_outcome laws (log id) inputs known = (log_gives id known.0, rows_known (log_gives id) inputs.rows known.0 known.1)
 some_outcome laws (check asked) inputs known = some_check laws.some asked inputs.files
+some_outcome laws (claw asked) inputs known =
+    let found = some_named_file (Some inputs.files) asked.notice in
+    (claw_gives asked known.0 found.0, record { tables = known.0; loaded = answers_loaded inputs.rows known.0 known.1; kept = known.1; file = found.0; found = found.1; gives = refl })
 
 -- ---- two matters
 
@@ -231,6 +237,10 @@ outcome_alike laws (log id) inputs inputs' other both comes =
     record { outcome = there.0; comes = there.1.0; same = there.1.1 }
 outcome_alike laws (check asked) inputs inputs' other alike comes =
     same_comes (check asked) inputs other (λ rows. refl) (subst (λ (files : FileMap). CheckOutcome asked (Some files) other) (sym alike) comes)
+outcome_alike laws (claw asked) inputs inputs' other alike comes =
+    same_comes (claw asked) inputs other (λ rows. refl)
+    (claw_alike asked inputs.files inputs.rows inputs'.rows other (matter_one laws.rows inputs'.rows) rows_answer alike.matters
+    (subst (λ (files : FileMap). ClawOutcome asked (Some files) (Some inputs'.rows) other) (sym alike.same) comes))
 
 -- ---- what is told
 
@@ -251,3 +261,6 @@ told_outcome (produce q) before inputs outcome files rows is = subst (λ (o : Op
 told_outcome (press id) before inputs outcome files rows is = subst (λ (o : Option (List Row)). RowsOutcome (press_gives id) o outcome) rows is
 told_outcome (log id) before inputs outcome files rows is = subst (λ (o : Option (List Row)). RowsOutcome (log_gives id) o outcome) rows is
 told_outcome (check asked) before inputs outcome files rows is = subst (λ (o : Option FileMap). CheckOutcome asked o outcome) files is
+told_outcome (claw asked) before inputs outcome files rows is =
+    subst (λ (o : Option FileMap). ClawOutcome asked o (Some inputs.rows) outcome) files
+    (subst (λ (o : Option (List Row)). ClawOutcome asked before.source.files o outcome) rows is)

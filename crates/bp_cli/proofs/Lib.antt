@@ -3,6 +3,7 @@ mod AlikeLemmas
 mod BurnLemmas
 mod CalmLemmas
 mod CheckLemmas
+mod ClawLemmas
 mod DeliverLemmas
 mod DeliverRunLemmas
 mod DoorLemmas

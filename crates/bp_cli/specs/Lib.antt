@@ -2,6 +2,8 @@ pub mod Arguments
 pub mod Burn
 pub mod Burning
 pub mod Check
+pub mod Claw
+pub mod Clawing
 pub mod Commands
 pub mod Deliver
 pub mod Delivering
@@ -10,6 +12,7 @@ pub mod Endings
 pub mod Import
 pub mod Init
 pub mod Kept
+pub mod NamedFiles
 pub mod Press
 pub mod Printing
 pub mod Produce

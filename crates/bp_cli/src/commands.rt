@@ -8,6 +8,7 @@ ghost use Rattle.bp_cli.specs.Produce.{request_of};
 
 use crate::burn::{Burn, burn_in};
 use crate::check::{Check, check_in};
+use crate::claw::{ClawLine, claw_in};
 use crate::import::batch_in;
 use crate::init::init_in;
 use crate::operands::operands_of;
@@ -33,6 +34,7 @@ pub enum Command<'a> {
     /// Print the privilege log of the production of this id.
     Log(&'a str),
     Check(Check<'a>),
+    Claw(ClawLine<'a>),
 }
 
 /// The command that the words are a line of, if they are one. The words don't have the program's
@@ -102,6 +104,9 @@ fn command_lent<'a>(name: &str, operands: &[&'a str]) -> Option<Command<'a>>
     }
     if name == "check" {
         return Some(Command::Check(check_in(operands)?));
+    }
+    if name == "claw" {
+        return Some(Command::Claw(claw_in(operands)?));
     }
     None
 }

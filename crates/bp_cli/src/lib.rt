@@ -7,6 +7,7 @@
 mod arguments;
 mod burn;
 mod check;
+mod claw;
 mod commands;
 mod deliver;
 pub mod doors;

@@ -18,6 +18,7 @@ use bp_keep::Keeper;
 use bp_outside::Folder;
 use bp_rules::load_tables;
 use std::alloc::Global;
+use std::thread::Threads;
 
 /// The id of a production that the one operand of `press ID` and `log ID` gives.
 pub fn id_in<'a>(operands: &[&'a str]) -> Option<&'a str>
@@ -30,7 +31,8 @@ pub fn id_in<'a>(operands: &[&'a str]) -> Option<&'a str>
 }
 
 /// Puts the volume of a kept production once more. The line that `produce` printed.
-pub fn press_kept<K: Keeper, F: Folder>(
+pub fn press_kept<R: Threads + Sync, K: Keeper, F: Folder>(
+    rt: &R,
     alloc: Global,
     id: &str,
     keeper: &mut K,
@@ -48,7 +50,7 @@ pub fn press_kept<K: Keeper, F: Folder>(
     let id = text_of(alloc, id)?;
     match tables.production(&id) {
         None => Err(Stop::Broken(Rule::bare(RuleKind::NoProduction))),
-        Some(production) => put_volume(alloc, &tables, production, folder),
+        Some(production) => put_volume(rt, alloc, &tables, production, folder),
     }
 }
 

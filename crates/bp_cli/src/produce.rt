@@ -19,6 +19,7 @@ use bp_matter::{Call, Production, Reply, Request, Tables};
 use bp_outside::Folder;
 use bp_rules::{load_tables, step};
 use std::alloc::Global;
+use std::thread::Threads;
 
 /// How many operands there are before the fields.
 pub const REQUEST_WORDS: usize = 6;
@@ -97,7 +98,8 @@ fn texts_of(alloc: Global, words: &[&str]) -> Result<TextList, OutOfMemory>
 
 /// Freezes what is asked for the lead, keeps it, and puts its volume. The line that tells its labels,
 /// how many files it has, and the digest of its manifest.
-pub fn produce_volume<K: Keeper, F: Folder>(
+pub fn produce_volume<R: Threads + Sync, K: Keeper, F: Folder>(
+    rt: &R,
     alloc: Global,
     request: Request,
     keeper: &mut K,
@@ -113,7 +115,7 @@ pub fn produce_volume<K: Keeper, F: Folder>(
     let mut tables = load_tables(alloc, keeper)?;
     tables.know_valid();
     let production = freeze_for_lead(alloc, &mut tables, keeper, request)?;
-    put_volume(alloc, &tables, &production, folder)
+    put_volume(rt, alloc, &tables, &production, folder)
 }
 
 // Makes the call of the lead that freezes what is asked.

@@ -16,6 +16,7 @@ ghost use Rattle.bp_rules.specs.Steps.{AtMostOnce};
 use crate::arguments::words_of;
 use crate::burn::burn_box;
 use crate::check::check_files;
+use crate::claw::claw_volume;
 use crate::commands::{Command, command_in};
 use crate::deliver::{DeliverLine, deliver, deliver_in};
 use crate::import::import_batch;
@@ -104,8 +105,8 @@ pub fn run_arguments<
 /// served the history of their calls. The status: 0 where all was done, 1 where the words are no
 /// command line, 2 where a rule is broken, 3 at a fault of the source, 4 of the folder, 5 of the
 /// keeper, 6 where memory ran out, 7 at a fault of the out. Several doors are served at once, by
-/// threads of the runtime, and so are files judged that a check has read. Of all commands serving and
-/// delivering alone may wait for ever.
+/// threads of the runtime, and so are files judged that a check has read, and the images of a volume
+/// made. Of all commands serving and delivering alone may wait for ever.
 pub fn run<
     R: Threads + Wait + Sync,
     S: Source,
@@ -310,9 +311,10 @@ fn work<R: Threads + Sync, S: Source, K: Keeper, F: Folder>(
         Some(Command::Burn(asked)) => burn_box(alloc, &asked, source, folder),
         Some(Command::Init(digest)) => make_matter(alloc, digest, keeper),
         Some(Command::Import(name)) => import_batch(alloc, name, source, keeper),
-        Some(Command::Produce(request)) => produce_volume(alloc, request, keeper, folder),
-        Some(Command::Press(id)) => press_kept(alloc, id, keeper, folder),
+        Some(Command::Produce(request)) => produce_volume(rt, alloc, request, keeper, folder),
+        Some(Command::Press(id)) => press_kept(rt, alloc, id, keeper, folder),
         Some(Command::Log(id)) => log_kept(alloc, id, keeper),
         Some(Command::Check(asked)) => check_files(rt, alloc, &asked, source),
+        Some(Command::Claw(asked)) => claw_volume(rt, alloc, &asked, source, keeper, folder),
     }
 }

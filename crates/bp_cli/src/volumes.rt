@@ -13,8 +13,9 @@ use bp_bates::{Prefix, label_into};
 use bp_core::{Bytes, OutOfMemory};
 use bp_matter::{Production, Tables};
 use bp_outside::Folder;
-use bp_press::{Pressed, press};
+use bp_press::{OpenGate, Pressed, press};
 use std::alloc::Global;
+use std::thread::Threads;
 
 // The longest label.
 const LABEL: usize = 22;
@@ -24,7 +25,8 @@ const DIGEST_DIGITS: usize = 64;
 
 #[tactic(auto, using(crate::proofs::LabelLemmas::kept_labels))]
 /// Puts the volume of a production that the tables keep. The line that is printed of it.
-pub fn put_volume<F: Folder>(
+pub fn put_volume<R: Threads + Sync, F: Folder>(
+    rt: &R,
     alloc: Global,
     tables: &Tables,
     production: &Production,
@@ -35,7 +37,7 @@ pub fn put_volume<F: Folder>(
         PutsVolume production.now volume (F.shows folder.old) result (F.shows folder.new) }
 {
     tables.know_valid();
-    let pressed = match press(alloc, tables, production, folder) {
+    let pressed = match press(rt, alloc, tables, production, folder, &OpenGate) {
         Ok(pressed) => pressed,
         Err(refusal) => return Err(Stop::from(refusal)),
     };
@@ -68,7 +70,7 @@ fn add_id(line: &mut Vec<u8>, production: &Production) -> Result<(), OutOfMemory
 }
 
 // ` labels FIRST to LAST`
-fn add_labels(line: &mut Vec<u8>, production: &Production) -> Result<(), OutOfMemory>
+pub fn add_labels(line: &mut Vec<u8>, production: &Production) -> Result<(), OutOfMemory>
     requires { HasLabels production.now }
     ensures { OnOk result (line.new.items ≡ line.old.items ++ labels_told production.now) }
 {
@@ -93,7 +95,7 @@ fn add_label(line: &mut Vec<u8>, prefix: &Prefix, number: u64) -> Result<(), Out
 }
 
 // ` files N manifest HEX`, and the end of the line
-fn add_numbers(alloc: Global, line: &mut Vec<u8>, pressed: Pressed) -> Result<(), OutOfMemory>
+pub fn add_numbers(alloc: Global, line: &mut Vec<u8>, pressed: Pressed) -> Result<(), OutOfMemory>
     ensures { OnOk result (line.new.items ≡ line.old.items ++ numbers_told pressed) }
 {
     let count = pressed.files.to_string(alloc)?;

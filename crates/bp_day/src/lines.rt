@@ -10,28 +10,29 @@ use crate::{asked, batches, commands, keeping, looked_up, presses};
 use anyhow::Result;
 use bp_script::{Tally, Words};
 use std::alloc::Global;
+use std::thread::Threads;
 
 /// Does what a line asks for.
-pub fn make(day: &mut Day, line: &str) -> Result<String> {
+pub fn make<R: Threads + Sync>(rt: &R, day: &mut Day, line: &str) -> Result<String> {
     match line.split_once(" ") {
-        Some(("repeat", rest)) => repeat(day, rest),
-        Some(("long", rest)) => long(day, rest),
-        _ => once(day, line),
+        Some(("repeat", rest)) => repeat(rt, day, rest),
+        Some(("long", rest)) => long(rt, day, rest),
+        _ => once(rt, day, line),
     }
 }
 
 /// The first line of a script that is told otherwise, with what is told; `none` where each is told as
 /// written.
-pub fn differing(alloc: Global, script: &str) -> Result<String> {
+pub fn differing<R: Threads + Sync>(rt: &R, alloc: Global, script: &str) -> Result<String> {
     let mut day = Day::new(alloc)?;
-    first_differing(&mut day, script)
+    first_differing(rt, &mut day, script)
 }
 
-fn first_differing(day: &mut Day, script: &str) -> Result<String> {
+fn first_differing<R: Threads + Sync>(rt: &R, day: &mut Day, script: &str) -> Result<String> {
     let mut tally = Tally::new();
     for line in script.lines() {
         if let Some(case) = tally.take(line) {
-            let told = make(day, case.asked)?;
+            let told = make(rt, day, case.asked)?;
             if told.as_str() != case.wanted {
                 return Ok(format!(in day.alloc; "{line}: {told}")?);
             }
@@ -40,18 +41,23 @@ fn first_differing(day: &mut Day, script: &str) -> Result<String> {
     constant(day.alloc, "none")
 }
 
-fn once(day: &mut Day, line: &str) -> Result<String> {
+fn once<R: Threads + Sync>(rt: &R, day: &mut Day, line: &str) -> Result<String> {
     let alloc = day.alloc;
     let words: Vec<&str> = line.split(' ').collect(alloc)?;
     let mut words = Words::over(alloc, words.as_slice());
     let verb = words.word();
-    match of_verb(day, verb, &mut words) {
+    match of_verb(rt, day, verb, &mut words) {
         Some(told) => told,
         None => unread(alloc),
     }
 }
 
-fn of_verb(day: &mut Day, verb: &str, words: &mut Words) -> Option<Result<String>> {
+fn of_verb<R: Threads + Sync>(
+    rt: &R,
+    day: &mut Day,
+    verb: &str,
+    words: &mut Words,
+) -> Option<Result<String>> {
     if let Some(told) = asked::told(day, verb, words) {
         return Some(told);
     }
@@ -61,7 +67,7 @@ fn of_verb(day: &mut Day, verb: &str, words: &mut Words) -> Option<Result<String
     if let Some(told) = day.given.told(verb, words) {
         return Some(told);
     }
-    if let Some(told) = presses::told(day, verb, words) {
+    if let Some(told) = presses::told(rt, day, verb, words) {
         return Some(told);
     }
     if let Some(told) = looked_up::told(day, verb, words) {
@@ -73,17 +79,17 @@ fn of_verb(day: &mut Day, verb: &str, words: &mut Words) -> Option<Result<String
     batches::told(day, verb, words)
 }
 
-fn long(day: &mut Day, rest: &str) -> Result<String> {
-    let length = once(day, rest)?.len();
+fn long<R: Threads + Sync>(rt: &R, day: &mut Day, rest: &str) -> Result<String> {
+    let length = once(rt, day, rest)?.len();
     Ok(format!(in day.alloc; "{length} bytes")?)
 }
 
-fn repeat(day: &mut Day, rest: &str) -> Result<String> {
+fn repeat<R: Threads + Sync>(rt: &R, day: &mut Day, rest: &str) -> Result<String> {
     let (from, rest) = number_before(rest);
     let (to, line) = number_before(rest);
     let mut told = String::new(day.alloc);
     for number in from..to.saturating_add(1) {
-        told = once(day, numbered(day.alloc, line, number)?.as_str())?;
+        told = once(rt, day, numbered(day.alloc, line, number)?.as_str())?;
     }
     Ok(told)
 }

@@ -2,6 +2,8 @@
 //
 //     press ID WRITE..       how many files are written, or the refusal; the folder's calls of these
 //                            numbers, from 0, fail
+//     meet ID                the same into a folder in memory, where the jobs of the first two images wait for
+//                            one another: how many of them saw the other's begin
 //     manifest               the digest that was told of the manifest
 //     left                   how many files the folder has
 //     path NUMBER            the path of that file, from 1
@@ -24,9 +26,11 @@ use anyhow::Result;
 use bp_core::{ListOf, NumberList, Text};
 use bp_matter::{Production, Tables};
 use bp_outside::{FileRow, MemFolder};
-use bp_press::{PressRefusal, Pressed, file_of, press};
+use bp_press::{Gate, OpenGate, PressRefusal, Pressed, file_of, press};
 use bp_script::{Words, escaped, hex_words};
 use std::alloc::Global;
+use std::sync::atomic::{AtomicU64, Ordering};
+use std::thread::Threads;
 
 /// The folder that was pressed into, and the one that was laid aside.
 #[derive(Drop)]
@@ -55,9 +59,15 @@ impl Shelf {
     }
 }
 
-pub fn told(day: &mut Day, verb: &str, words: &mut Words) -> Option<Result<String>> {
+pub fn told<R: Threads + Sync>(
+    rt: &R,
+    day: &mut Day,
+    verb: &str,
+    words: &mut Words,
+) -> Option<Result<String>> {
     match verb {
-        "press" => Some(press_volume(day, words)),
+        "press" => Some(press_volume(rt, day, words)),
+        "meet" => Some(press_met(rt, day, words)),
         "manifest" => Some(manifest(day)),
         "left" => Some(left(day)),
         "path" => Some(path(day, words)),
@@ -85,7 +95,7 @@ fn production_in<'a>(tables: &'a Tables, id: &Text) -> Option<&'a Production>
     }
 }
 
-fn press_volume(day: &mut Day, words: &mut Words) -> Result<String> {
+fn press_volume<R: Threads + Sync>(rt: &R, day: &mut Day, words: &mut Words) -> Result<String> {
     let id = words.text();
     let failing = numbers_of(day.alloc, words)?;
     if !words.is_read() {
@@ -94,11 +104,84 @@ fn press_volume(day: &mut Day, words: &mut Words) -> Result<String> {
     day.pressed.folder = empty(day.alloc, failing);
     match production_in(&day.tables, &id) {
         Some(production) => {
-            let told = press(day.alloc, &day.tables, production, &mut day.pressed.folder);
+            let told = press(
+                rt,
+                day.alloc,
+                &day.tables,
+                production,
+                &mut day.pressed.folder,
+                &OpenGate,
+            );
             if let Ok(pressed) = &told {
                 day.pressed.manifest = pressed.manifest;
             }
             of_press(day.alloc, told)
+        }
+        None => constant(day.alloc, "none"),
+    }
+}
+
+// What each job looks for is looked for so often at most.
+const TURNS: u64 = 500_000_000;
+
+// A gate at which the jobs 0 and 1 wait for one another.
+#[derive(Drop)]
+struct Meeting {
+    first: AtomicU64,
+    second: AtomicU64,
+    seen: AtomicU64,
+}
+
+impl Meeting {
+    fn new() -> Meeting {
+        Meeting {
+            first: AtomicU64::new(0),
+            second: AtomicU64::new(0),
+            seen: AtomicU64::new(0),
+        }
+    }
+
+    // Says that the one has begun, and waits until the other has.
+    fn meet(&self, own: &AtomicU64, other: &AtomicU64) {
+        own.store(1, Ordering::SeqCst);
+        for _ in 0..TURNS {
+            if other.load(Ordering::SeqCst) == 1 {
+                self.seen.fetch_add(1, Ordering::SeqCst);
+                return;
+            }
+        }
+    }
+}
+
+impl Gate for Meeting {
+    fn enter(&self, job: usize) {
+        match job {
+            0 => self.meet(&self.first, &self.second),
+            1 => self.meet(&self.second, &self.first),
+            _ => {}
+        }
+    }
+}
+
+fn press_met<R: Threads + Sync>(rt: &R, day: &mut Day, words: &mut Words) -> Result<String> {
+    let id = words.text();
+    if !words.is_read() {
+        return unread(day.alloc);
+    }
+    let meeting = Meeting::new();
+    let mut folder = empty(day.alloc, NumberList::new(day.alloc));
+    match production_in(&day.tables, &id) {
+        Some(production) => {
+            press(
+                rt,
+                day.alloc,
+                &day.tables,
+                production,
+                &mut folder,
+                &meeting,
+            )?;
+            let seen = meeting.seen.load(Ordering::SeqCst);
+            Ok(format!(in day.alloc; "{seen}")?)
         }
         None => constant(day.alloc, "none"),
     }

@@ -48,10 +48,10 @@ fn take_file<R: Files + Alloc + Print + Threads + Wait + Sync>(
     Ok(())
 }
 
-// Command lines alone need the runtime.
+// Command lines and volumes need the runtime.
 fn tell<R: Threads + Wait + Sync>(rt: &R, day: &mut Day, asked: &str) -> Result<String> {
     match asked.split_once("tivrenan") {
         Some(("", words)) => carry_out(rt, day, words.trim_start()),
-        _ => make(day, asked),
+        _ => make(rt, day, asked),
     }
 }

@@ -8,7 +8,8 @@ use Rattle.bp_matter.specs.Texts.{columns}
 use Rattle.bp_matter.specs.declared.rows.Production.{Production}
 use Rattle.bp_freeze.specs.Log.{label_in}
 use Rattle.bp_press.specs.Files.{Placed}
-use Rattle.bp_press.specs.LoadFiles.{dat_row, label_count}
+use Rattle.bp_press.specs.Contents.{label_count}
+use Rattle.bp_press.specs.LoadFiles.{dat_row}
 use Rattle.bp_press.specs.Paths.{text_path}
 use Rattle.bp_check.specs.Columns.{is_begdoc, is_enddoc, is_pagecount, is_textpath}
 use Rattle.bp_check.specs.Records.{cell_under}

@@ -27,7 +27,7 @@ use Rattle.bp_press.specs.Manifest.{manifest_of}
 use Rattle.bp_press.specs.Paths.{folder_of, image_path, manifest_path, text_path}
 use Rattle.bp_press.specs.ReadBack.{HoldsImages, HoldsItem, HoldsPage}
 use Rattle.bp_press.specs.Volume.{data_files, files_before, with_manifest}
-use Rattle.bp_press.proofs.ListLemmas.{image_count}
+use Rattle.bp_press.proofs.ListLemmas.{image_count, sheet_count}
 use Rattle.bp_check.specs.Images.{IsTiff, Judging}
 use Rattle.bp_check.specs.Listing.{lists}
 use Rattle.bp_check.specs.declared.files.TheConstants.{FILE_LIMIT}
@@ -109,9 +109,7 @@ holds_one : (rows : List FileRow) (f : Production) (m : Matter) (i : Item) (plac
     → k < length (content_by f m i ground).images
     → HoldsOne rows (image_path solidus f.request (place + k) (i.span.first + k))
 holds_one rows f m i place (Some basis) holds k within =
-    let at : place ≡ place + k = omega arith in
-    let said : i.span.first ≡ i.span.first + k = omega arith in
-    record { page = slip_sheet f.request i basis; holds = subst (λ n. HoldsPage rows (image_path solidus f.request n (i.span.first + k)) (slip_sheet f.request i basis)) at (subst (λ n. HoldsPage rows (image_path solidus f.request place n) (slip_sheet f.request i basis)) said holds) }
+    record { page = slip_sheet f.request i basis k; holds = holds k (omega (arith, sheet_count f.request i basis, within)) }
 holds_one rows f m i place None holds k within =
     let at : place + (k + 1) - 1 ≡ place + k = omega arith in
     let said : i.span.first + (k + 1) - 1 ≡ i.span.first + k = omega arith in

@@ -31,9 +31,9 @@ use Rattle.bp_freeze.specs.Agree.{field_number, held_for, value_in}
 use Rattle.bp_freeze.specs.Keeping.{Keeps}
 use Rattle.bp_freeze.specs.Log.{label_in}
 use Rattle.bp_freeze.specs.Selecting.{first_number, last_number}
-use Rattle.bp_press.specs.Contents.{content_by, ground_of, held_text, part_of, value_by, value_shown, value_unless}
+use Rattle.bp_press.specs.Contents.{content_by, ground_of, held_text, label_count, part_of, value_by, value_shown, value_unless}
 use Rattle.bp_press.specs.Files.{Placed, placed}
-use Rattle.bp_press.specs.LoadFiles.{dat_bytes, dat_row, dat_table, family_of, label_count, opt_bytes, opt_line, opt_lines, optional_code, own_values}
+use Rattle.bp_press.specs.LoadFiles.{dat_bytes, dat_row, dat_table, family_of, opt_bytes, opt_line, opt_lines, optional_code, own_values}
 use Rattle.bp_press.specs.Paths.{folder_of, image_path, text_path}
 use Rattle.bp_press.specs.Volume.{placed_items}
 use Rattle.bp_press.proofs.CharacterLemmas.{decimal_digits}

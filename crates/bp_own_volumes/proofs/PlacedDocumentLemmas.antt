@@ -9,7 +9,8 @@ use Rattle.bp_matter.specs.Texts.{columns}
 use Rattle.bp_matter.specs.declared.rows.Production.{Production}
 use Rattle.bp_matter.specs.declared.rows.Request.{Request}
 use Rattle.bp_press.specs.Files.{Placed}
-use Rattle.bp_press.specs.LoadFiles.{dat_row, label_count, opt_line, opt_lines}
+use Rattle.bp_press.specs.Contents.{label_count}
+use Rattle.bp_press.specs.LoadFiles.{dat_row, opt_line, opt_lines}
 use Rattle.bp_own_volumes.proofs.CellLemmas.{begdoc_cell, enddoc_cell, pagecount_cell}
 use Rattle.bp_own_volumes.proofs.DocumentLemmas.{AreDocuments, GoesOn, HaveLabels, IsDocument}
 use Rattle.bp_own_volumes.proofs.EachLemmas.{each_map, each_number}

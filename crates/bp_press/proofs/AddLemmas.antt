@@ -1,6 +1,8 @@
 -- Files added one after another, each with its line of the manifest.
 use Rattle.std.proofs.Common.{◌≡◌, ℕ, ◌+◌, ◌<◌, ◌≤◌, List, [], ◌∷◌, ◌++◌, drop, get_or, length, map, flat_map, Result, Ok, Err, refl, sym, ap, subst, ◌∙◌, append-nil}
-use Rattle.std.proofs.lemmas.List.{at_drop_all, at_drop_more}
+use Rattle.std.specs.Prelude.{slice_range}
+use Rattle.std.proofs.lemmas.List.{at_drop_all, at_drop_more, map-append}
+use Rattle.std.proofs.lemmas.List.Folds.{drop_split}
 use Rattle.std.proofs.lemmas.List.Concat.{flat_map-append}
 use Rattle.bp_outside.specs.Folder.{FolderView, PutsFile, file}
 use Rattle.bp_outside.specs.declared.files.FileRow.{FileRow}
@@ -92,6 +94,27 @@ pub entries_stop : {T : Type 0} (row : T → FileRow) (all : List T) (k : ℕ) (
     → k < length all → r ≡ OutOfMemory → AreEntriesFrom row all k before folder old new → LeavesCut before (map row all) r folder
 entries_stop row all k d before folder old new r less m h =
     entries_cut row all k d (row (get_or all k d)) before folder folder old new r less refl h (cut_none folder (row (get_or all k d)) [] r m)
+
+-- the files of the entries up to an end were added
+entries_split : {T : Type 0} (row : T → FileRow) (all : List T) (k end : ℕ) (xs : List FileRow) (before folder : FolderView) (old new : List ℕ) → k ≤ end → xs ≡ map row (slice_range all k end)
+    → AreEntriesFrom row all k before folder old new → AddsUpTo (map row all) (xs ++ map row (drop end all)) before folder old new
+entries_split row all k end xs before folder old new order is h =
+    let split : map row (drop k all) ≡ xs ++ map row (drop end all) =
+    ap (map row) (drop_split all k end order) ∙ map-append row (slice_range all k end) (drop end all) ∙ ap (λ files. files ++ map row (drop end all)) (sym is) in
+    subst (λ (rest : List FileRow). AddsUpTo (map row all) rest before folder old new) split h.upto
+
+pub entries_piece : {T : Type 0} (row : T → FileRow) (all : List T) (k end : ℕ) (xs : List FileRow) (before folder after : FolderView) (old new newer : List ℕ) → k ≤ end → xs ≡ map row (slice_range all k end)
+    → AreEntriesFrom row all k before folder old new → AddsAll folder xs after → newer ≡ new ++ flat_map manifest_line xs → AreEntriesFrom row all end before after old newer
+entries_piece row all k end xs before folder after old new newer order is h put grown = record {
+  upto =
+      adds_next (map row all) xs (map row (drop end all)) before folder after old new newer
+      (entries_split row all k end xs before folder old new order is h) put grown;
+}
+
+pub entries_piece_cut : {T : Type 0} (row : T → FileRow) (all : List T) (k end : ℕ) (xs : List FileRow) (before folder after : FolderView) (old new : List ℕ) (r : FolderRefusal)
+    → k ≤ end → xs ≡ map row (slice_range all k end) → AreEntriesFrom row all k before folder old new → LeavesCut folder xs r after → LeavesCut before (map row all) r after
+entries_piece_cut row all k end xs before folder after old new r order is h cut =
+    adds_cut (map row all) xs (map row (drop end all)) before folder after old new r (entries_split row all k end xs before folder old new order is h) cut
 
 -- none is left
 pub entries_end : {T : Type 0} (row : T → FileRow) (all : List T) (k : ℕ) (before folder : FolderView) (old new : List ℕ) (u : Unit {0}) → length all ≤ k

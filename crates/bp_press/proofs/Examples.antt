@@ -38,7 +38,8 @@ use Rattle.bp_freeze.specs.Seeing.{page_count}
 use Rattle.bp_rows.proofs.BurnedLemmas.{pixel-burned}
 use Rattle.hex.specs.Hex.{encode_with}
 use Rattle.sha2.specs.Sha256.{compress, digest_bytes, first_words, hash_after, rounds, schedule, sha256}
-use Rattle.bp_press.specs.Contents.{image_in, produced_page, slip_sheet}
+use Rattle.bp_burn.specs.Band.{slip_of}
+use Rattle.bp_press.specs.Contents.{image_in, produced_page, slip_sheet, slip_sheets}
 use Rattle.bp_press.specs.Manifest.{manifest_line, manifest_of}
 use Rattle.bp_press.specs.Paths.{folder_of}
 use Rattle.bp_press.specs.declared.paths.TheConstants.{FOLDER_DIGITS, IMAGES_A_FOLDER}
@@ -120,7 +121,7 @@ dat_line text = encode_utf8_all (map with_separators text) ++ codes "\r\n"
 -- ---- two documents: a page with a box for PI, whose field is held for PI; and one that is withheld
 -- for WP, with some pages of 8 by 1 pixels. The whole matter is valid
 
-abbrev blank : Image
+abbrev pub blank : Image
 blank = white_image 64 32 (record { num = 200; den = 1 }) (record { num = 200; den = 1 }) Inch
 
 abbrev pub area : Rect
@@ -157,7 +158,7 @@ two image words author withheld = record empty {
   words = worded_page 1 1 words ∷ map (λ page. worded_page 2 page []) withheld;
 }
 
-abbrev smith : Matter
+abbrev pub smith : Matter
 smith = two blank (word 10 (codes "Smith") ∷ []) (codes "Smith") (1 ∷ [])
 
 abbrev jones : Matter
@@ -304,7 +305,7 @@ withheld = record {
   span = record { first = 2; last = 2 };
 }
 
-abbrev frozen : Production
+abbrev pub frozen : Production
 frozen = record {
   ink = Lettered;
   request = asked;
@@ -325,9 +326,18 @@ page_sides : ((produced_page frozen smith redacted 1).width ∷ (produced_page f
 unfolding produced_page
 page_sides = refl
 
-sheet_sides : ((slip_sheet asked withheld Wp).width ∷ (slip_sheet asked withheld Wp).height ∷ []) ≡ (1700 ∷ 2232 ∷ [])
+sheet_sides : ((slip_sheet asked withheld Wp 0).width ∷ (slip_sheet asked withheld Wp 0).height ∷ []) ≡ (1700 ∷ 2232 ∷ [])
 unfolding slip_sheet
 sheet_sides = refl
+
+-- a freeze gives a withheld item one label, so that it has one sheet; under three labels it has three
+one_sheet : slip_sheets asked withheld Wp ≡ slip_sheet asked withheld Wp 0 ∷ []
+one_sheet = refl
+
+three_sheets : slip_sheets asked (record withheld { span = record { first = 2; last = 4 } }) Wp
+    ≡ slip_of Wp (codes "AB-0002") [] ∷ slip_of Wp (codes "AB-0003") [] ∷ slip_of Wp (codes "AB-0004") [] ∷ []
+unfolding slip_sheet
+three_sheets = refl
 
 -- the box is black, and what is left of it isn't
 box_is_black : (pixel (produced_page frozen smith redacted 1) 8 7 ∷ pixel (produced_page frozen smith redacted 1) 8 8 ∷ pixel (produced_page frozen smith redacted 1) 15 23 ∷ []) ≡ (false ∷ true ∷ true ∷ [])

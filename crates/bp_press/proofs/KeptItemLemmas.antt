@@ -17,6 +17,9 @@ use Rattle.bp_matter.specs.ValidPages.{are_paged, has_rows}
 use Rattle.bp_matter.specs.ValidPrefixes.{after_productions, is_under, prefix_fits, spans_reach}
 use Rattle.bp_matter.specs.ValidProductions.{has_prefix, production_fits}
 use Rattle.bp_matter.specs.ValidRows.{is_numbered}
+use Rattle.bp_core.specs.declared.review.Treatment.{Treatment}
+use Rattle.bp_core.specs.declared.review.Treatment.TheVariants.{Produce, Redact, Withhold}
+use Rattle.bp_press.specs.Contents.{ground_of}
 use Rattle.bp_matter.specs.declared.rows.DocRow.{DocRow}
 use Rattle.bp_matter.specs.declared.rows.Item.{Item}
 use Rattle.bp_matter.specs.declared.rows.PrefixRow.{PrefixRow}
@@ -165,9 +168,29 @@ pub record ItemStands (m : Matter) (i : Item) : Type 0 where
   pub few : row.pages ≤ length m.pages
   pub values : list_all is_value row.values ≡ true
   pub parent : i.parent.0 ≤ length m.docs
-  pub span : i.span.last + 1 ≡ i.span.first + numbers_due i.treatment row.pages
+  pub numbers : ℕ
+  pub some_numbers : 1 ≤ numbers
+  pub few_numbers : numbers ≤ row.pages
+  pub span : i.span.last + 1 ≡ i.span.first + numbers
+  pub shown : ground_of i.treatment ≡ None → numbers ≡ row.pages
   pub designation : is_designation i.designation ≡ true
   pub texts : item_texts_fit i ≡ true
+
+-- how many numbers are due
+due_some : (t : Treatment) (pages : ℕ) → 1 ≤ pages → 1 ≤ numbers_due t pages
+due_some Produce pages l = l
+due_some Redact pages l = l
+due_some (Withhold basis) pages l = omega arith
+
+due_few : (t : Treatment) (pages : ℕ) → 1 ≤ pages → numbers_due t pages ≤ pages
+due_few Produce pages l = omega arith
+due_few Redact pages l = omega arith
+due_few (Withhold basis) pages l = l
+
+due_shown : (t : Treatment) (pages : ℕ) → ground_of t ≡ None → numbers_due t pages ≡ pages
+due_shown Produce pages shown = refl
+due_shown Redact pages shown = refl
+due_shown (Withhold basis) pages shown = absurd cc
 
 pub item-stands : (m : Matter) → IsValid m → (i : Item) → item_fits (length m.fields) m.docs m.pages i ≡ true → ItemStands m i
 item-stands m valid i fits =
@@ -185,17 +208,22 @@ item-stands m valid i fits =
     let doc_three = and_parts _ _ doc_is.0 in
     let doc_two = and_parts _ _ doc_three.0 in
     let doc_one = and_parts (nat_le 1 row.pages) _ doc_two.0 in
+    let some = leb-true 1 row.pages doc_one.0 in
     record {
       row = row;
       found = doc.1;
       doc = many.0;
       there = omega (arith, many.0, many.2);
       pages = page-counted m i.doc.0 many.0 ∙ many.1;
-      some = leb-true 1 row.pages doc_one.0;
+      some = some;
       few = pages_few page_key i.doc.0 row m.docs m.pages valid.pages.paged doc.1;
       values = doc_is.1;
       parent = omega (arith, eqb-true i.parent.0 row.parent.0 span.0, many.0, many.2, parent_before 1 1 i.doc.0 row m.docs (omega arith) valid.docs.numbered valid.docs.families doc.1);
+      numbers = numbers_due i.treatment row.pages;
+      some_numbers = due_some i.treatment row.pages some;
+      few_numbers = due_few i.treatment row.pages some;
       span = eqb-true (i.span.last + 1) (i.span.first + numbers_due i.treatment row.pages) span.1;
+      shown = due_shown i.treatment row.pages;
       designation = two.1;
       texts = four.1;
     }

@@ -1,8 +1,9 @@
 pub mod AddLemmas
+pub mod BatchLemmas
 pub mod CharacterLemmas
 pub mod ContentLemmas
 pub mod CoveredLemmas
-mod Examples
+pub mod Examples
 pub mod FamilyLemmas
 pub mod FindLemmas
 pub mod GatherLemmas
@@ -23,5 +24,5 @@ pub mod ReadLemmas
 pub mod SameLemmas
 pub mod SpanLemmas
 pub mod ThreadLemmas
-mod TwelveExamples
+pub mod TwelveExamples
 pub mod WritingLemmas

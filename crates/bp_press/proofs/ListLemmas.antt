@@ -1,5 +1,5 @@
 -- The list of the files of a volume, as it grows.
-use Rattle.std.proofs.Common.{◌≡◌, ℕ, ◌+◌, ◌<◌, ◌≤◌, ◌^◌, List, [], ◌∷◌, ◌++◌, length, map, All, Option, None, refl, sym, ap, ap₂, subst, ◌∙◌, arith, append_assoc, append-nil}
+use Rattle.std.proofs.Common.{◌≡◌, ℕ, ◌+◌, ◌<◌, ◌≤◌, ◌^◌, List, [], ◌∷◌, ◌++◌, length, map, All, Option, Some, None, refl, sym, ap, ap₂, subst, ◌∙◌, arith, append_assoc, append-nil}
 use Rattle.std.proofs.lemmas.List.{map-append}
 use Rattle.std.proofs.lemmas.List.Elements.{All-append, All-push}
 use Rattle.std.proofs.lemmas.List.FromFn.{length-map-range_with_len}
@@ -9,16 +9,17 @@ use Rattle.bp_outside.specs.declared.files.FileRow.{FileRow}
 use Rattle.bp_matter.specs.Matter.{Matter}
 use Rattle.bp_matter.specs.declared.rows.Item.{Item}
 use Rattle.bp_matter.specs.declared.rows.Production.{Production}
+use Rattle.bp_matter.specs.declared.rows.Request.{Request}
 use Rattle.bp_freeze.specs.Seeing.{page_count}
-use Rattle.bp_press.specs.Contents.{content_by, ground_of, pages_of, part_of, produced_page}
+use Rattle.bp_press.specs.Contents.{content_by, ground_of, label_count, pages_of, part_of, produced_page, slip_sheet, slip_sheets}
 use Rattle.bp_press.specs.Files.{image_files, item_files, text_file}
 use Rattle.bp_press.specs.Needs.{CanBePressed}
-use Rattle.bp_press.specs.Pressing.{AreLabels, CanAllBePlaced, CanBePlaced, count_by, files_from, image_at, images_after, images_in, placed_at}
+use Rattle.bp_press.specs.Pressing.{AreLabels, CanAllBePlaced, CanBePlaced, count_by, files_from, image_at, images_after, images_in, placed_at, sheet_at, sheets_after}
 use Rattle.bp_press.specs.Volume.{data_files, files_before, placed_items}
 use Rattle.bp_press.specs.VolumeFiles.{CanBeMade, HasName, IsListed, Lists, row_of}
 use Rattle.bp_press.specs.declared.volume_files.VolumeFile.{VolumeFile}
-use Rattle.bp_press.specs.declared.volume_files.VolumeFile.TheVariants.{Dat, Log, Opt, Page, Text}
-use Rattle.bp_press.proofs.ItemLemmas.{images_first, images_more, images_none}
+use Rattle.bp_press.specs.declared.volume_files.VolumeFile.TheVariants.{Dat, Log, Opt, Page, Sheet, Text}
+use Rattle.bp_press.proofs.ItemLemmas.{images_first, images_more, images_none, sheets_first, sheets_more, sheets_none}
 
 pub lists_none : (f : Production) (m : Matter) (before : List VolumeFile) → Lists f m before [] before
 lists_none f m before = record { added = []; there = sym (append-nil before); files = refl; made = λ k d l. absurd (omega arith) }
@@ -119,6 +120,59 @@ pages_end f m i place page before list shown past h =
     (upto_end f m before (images_after f m i place 0) list
     (subst (λ (rest : List FileRow). ListsUpTo f m before (images_after f m i place 0) rest list) (images_none f m i place page past) h.upto))
 
+-- ---- the sheets of an item that is withheld
+
+-- the sheets from one on are still to be listed
+pub record AreSheetsAfter (f : Production) (m : Matter) (i : Item) (basis : Basis) (place sheet : ℕ) (before list : List VolumeFile) : Type 0 where
+  pub upto : ListsUpTo f m before (sheets_after f.request i basis place 0) (sheets_after f.request i basis place sheet) list
+
+pub sheets_begin : (f : Production) (m : Matter) (i : Item) (basis : Basis) (place : ℕ) (before : List VolumeFile) → AreSheetsAfter f m i basis place 0 before before
+sheets_begin f m i basis place before = record { upto = upto_begin f m before (sheets_after f.request i basis place 0) }
+
+-- an item that is withheld has a sheet for each label
+sheet_labels : (f : Production) (m : Matter) (i : Item) (basis : Basis) → CanBePlaced f.request m i → ground_of i.treatment ≡ Some basis → AreLabels f.request i.span.first (label_count i)
+sheet_labels f m i basis fit withheld = subst (AreLabels f.request i.span.first) (ap (count_by m i) withheld) fit.labels
+
+sheet_named : (f : Production) (m : Matter) (i : Item) (basis : Basis) (place sheet : ℕ) → CanBePlaced f.request m i → ground_of i.treatment ≡ Some basis → place + 2 ^ 32 < 2 ^ 64 → sheet < label_count i → sheet + 1 < 2 ^ 32
+    → HasName f.request (place + sheet) (i.span.first + sheet)
+sheet_named f m i basis place sheet fit withheld room less small =
+    let labels = sheet_labels f m i basis fit withheld in
+    record {
+      prefix = labels.prefix;
+      label = record { from = omega (arith, labels.from); to = omega (arith, labels.to, less) };
+      fits = omega (arith, room, small);
+    }
+
+pub sheets_turn : (f : Production) (m : Matter) (item : Bor Item) (basis : Basis) (place sheet : ℕ) (before list after : List VolumeFile) → CanBePlaced f.request m item.now → ground_of item.now.treatment ≡ Some basis
+    → place + 2 ^ 32 < 2 ^ 64 → sheet < label_count item.now → sheet + 1 < 2 ^ 32 → after ≡ list ++ Sheet item place basis sheet ∷ []
+    → AreSheetsAfter f m item.now basis place sheet before list → AreSheetsAfter f m item.now basis place (sheet + 1) before after
+sheets_turn f m item basis place sheet before list after fit withheld room less small grown h =
+    let q = f.request in
+    record {
+      upto =
+          upto_next f m before (sheets_after q item.now basis place 0) (sheet_at q item.now basis place sheet ∷ []) (sheets_after q item.now basis place (sheet + 1)) list after
+          (subst (λ (rest : List FileRow). ListsUpTo f m before (sheets_after q item.now basis place 0) rest list) (sheets_more q item.now basis place sheet less) h.upto)
+          (lists_one f m list after (Sheet item place basis sheet) (sheet_at q item.now basis place sheet) grown refl
+          (record {
+            named = sheet_named f m item.now basis place sheet fit withheld room less small;
+            filled = record { there = less; labels = sheet_labels f m item.now basis fit withheld; designation = fit.designation };
+          }));
+    }
+
+-- the images of an item that is withheld are its sheets
+withheld_images : (f : Production) (m : Matter) (i : Item) (basis : Basis) (place : ℕ) → ground_of i.treatment ≡ Some basis → sheets_after f.request i basis place 0 ≡ images_in f.request (placed_at f m i place)
+withheld_images f m i basis place withheld =
+    sym (sheets_first f.request i basis place)
+    ∙ ap (λ (ground : Option Basis). image_files f.request place i.span.first (content_by f m i ground).images) (sym withheld)
+
+pub sheets_end : (f : Production) (m : Matter) (i : Item) (basis : Basis) (place sheet : ℕ) (before list : List VolumeFile) → ground_of i.treatment ≡ Some basis → label_count i ≤ sheet
+    → AreSheetsAfter f m i basis place sheet before list → Lists f m before (images_in f.request (placed_at f m i place)) list
+sheets_end f m i basis place sheet before list withheld past h =
+    let q = f.request in
+    subst (λ (rows : List FileRow). Lists f m before rows list) (withheld_images f m i basis place withheld)
+    (upto_end f m before (sheets_after q i basis place 0) list
+    (subst (λ (rest : List FileRow). ListsUpTo f m before (sheets_after q i basis place 0) rest list) (sheets_none q i basis place sheet past) h.upto))
+
 -- ---- an item
 
 one_named : (f : Production) (m : Matter) (i : Item) (place : ℕ) → CanBePlaced f.request m i → place + 2 ^ 32 < 2 ^ 64 → HasName f.request place i.span.first
@@ -141,6 +195,9 @@ text_listed f m item place before mid after fit room images grown =
 
 pub fit_turn : (f : Production) (m : Matter) (place : ℕ) (rest : List Item) (item : Item) (others : List Item) → rest ≡ item ∷ others → CanAllBePlaced f m place rest → CanAllBePlaced f m place (item ∷ others)
 fit_turn f m place rest item others e h = subst (λ (r : List Item). CanAllBePlaced f m place r) e h
+
+pub sheet_count : (q : Request) (item : Item) (basis : Basis) → length (slip_sheets q item basis) ≡ label_count item
+sheet_count q item basis = length-map-range_with_len (slip_sheet q item basis) 0 (label_count item)
 
 pub image_count : (f : Production) (m : Matter) (item : Item) → length (map (produced_page f m item) (pages_of m item.doc.0)) ≡ page_count m item.doc.0
 image_count f m item = length-map-range_with_len (produced_page f m item) 1 (page_count m item.doc.0)

@@ -29,9 +29,9 @@ use Rattle.bp_freeze.specs.Agree.{field_number, held_for, value_in}
 use Rattle.bp_freeze.specs.Keeping.{Keeps}
 use Rattle.bp_freeze.specs.Log.{label_in}
 use Rattle.bp_freeze.specs.Selecting.{first_number, last_number}
-use Rattle.bp_press.specs.Contents.{content_by, ground_of, held_text, value_by, value_shown, value_unless}
+use Rattle.bp_press.specs.Contents.{content_by, ground_of, held_text, label_count, value_by, value_shown, value_unless}
 use Rattle.bp_press.specs.Files.{Placed}
-use Rattle.bp_press.specs.LoadFiles.{family_of, label_count, optional_code, own_values}
+use Rattle.bp_press.specs.LoadFiles.{family_of, optional_code, own_values}
 use Rattle.bp_press.specs.Paths.{folder_of, image_path, text_path}
 use Rattle.bp_press.proofs.CharacterLemmas.{all-append, all-wider, cell_clean, clean-designation, clean-digit, clean-volume, decimal_digits, four_clean, is_clean, label_clean, name_field, padded_digits}
 use Rattle.bp_press.proofs.KeptItemLemmas.{ItemStands, KeptNumbers, found_passes, is_row_of, kept-row}
@@ -44,7 +44,7 @@ pub record RequestWrites (q : Request) : Type 0 where
   pub volume : list_all is_clean q.volume ≡ true
   pub fields : list_all is_name q.fields ≡ true
 
-volume_clean : (volume : List ℕ) → is_volume volume ≡ true → list_all is_clean volume ≡ true
+pub volume_clean : (volume : List ℕ) → is_volume volume ≡ true → list_all is_clean volume ≡ true
 volume_clean volume is =
     all-wider is_volume_character is_clean volume clean-volume (and_parts _ (list_all is_volume_character volume) is).1
 

@@ -20,16 +20,16 @@ use Rattle.bp_matter.specs.declared.rows.Production.{Production}
 use Rattle.bp_matter.specs.declared.rows.Request.{Request}
 use Rattle.bp_freeze.specs.Keeping.{Keeps}
 use Rattle.bp_freeze.specs.Log.{label_in}
-use Rattle.bp_press.specs.Contents.{content_by, ground_of, part_of, value_shown}
+use Rattle.bp_press.specs.Contents.{content_by, ground_of, label_count, part_of, value_shown}
 use Rattle.bp_press.specs.Files.{Placed, placed}
-use Rattle.bp_press.specs.LoadFiles.{dat_row, dat_table, label_count, opt_line, opt_lines, own_values}
+use Rattle.bp_press.specs.LoadFiles.{dat_row, dat_table, opt_line, opt_lines, own_values}
 use Rattle.bp_press.specs.Paths.{image_path}
 use Rattle.bp_press.specs.Pressing.{placed_at}
 use Rattle.bp_press.specs.Volume.{placed_items}
 use Rattle.bp_press.proofs.CharacterLemmas.{all-append, all-wider, clean-digit, decimal_digits, field_clean, is_clean, label_clean, label_some}
-use Rattle.bp_press.proofs.KeptItemLemmas.{ItemStands, KeptNumbers, items-stand, kept-numbers}
+use Rattle.bp_press.proofs.KeptItemLemmas.{ItemStands, KeptNumbers}
 use Rattle.bp_press.proofs.LoadLemmas.{RequestWrites, content_cells, image_path_clean, kept-request, own_cells}
-use Rattle.bp_press.proofs.PlacedLemmas.{CountFits, count_fits, image_count-part}
+use Rattle.bp_press.proofs.PlacedLemmas.{CountFits, Presses, count_fits, image_count-part, kept-presses}
 
 -- ---- the DAT
 
@@ -72,12 +72,13 @@ dat-even f m = rows_even f m 0 f.items
 some_columns : (fields : List (List ℕ)) → not (length (columns ++ fields) == 0) ≡ true
 some_columns fields = grind (arith, nat_tests)
 
-pub dat-writable : (m : Matter) → IsValid m → (f : Production) → Keeps m f → is_writable (dat_table f (placed_items f m)) ≡ true
-dat-writable m valid f kept =
-    let writes = kept-request m valid f kept in
-    let stand = items-stand m valid f kept in
+pub dat-writable-by : (m : Matter) → IsValid m → (f : Production) → Presses m f → RequestWrites f.request → is_writable (dat_table f (placed_items f m)) ≡ true
+dat-writable-by m valid f presses writes =
     and_from _ _ (and_from _ _ (some_columns f.request.fields) (all-append is_name columns f.request.fields refl writes.fields))
-    (rows_cells f (kept-numbers m valid f kept) writes m 0 f.items stand (λ k d l. count_fits m valid (get_or f.items k d) (stand k d l)))
+    (rows_cells f presses.numbers writes m 0 f.items presses.stand (λ k d l. count_fits m valid (get_or f.items k d) (presses.stand k d l)))
+
+pub dat-writable : (m : Matter) → IsValid m → (f : Production) → Keeps m f → is_writable (dat_table f (placed_items f m)) ≡ true
+dat-writable m valid f kept = dat-writable-by m valid f (kept-presses m valid f kept) (kept-request m valid f kept)
 
 -- ---- the OPT
 
@@ -146,7 +147,9 @@ all_written f numbers writes m place (i ∷ items) fit =
     (lines_written f numbers writes p (omega (arith, one.few, image_count-part f m i)) 0 (length p.content.images))
     (all_written f numbers writes m (place + length p.content.images) items (λ k d l. fit (suc k) d (omega arith)))
 
+pub opt-writable-by : (m : Matter) → IsValid m → (f : Production) → Presses m f → RequestWrites f.request → are_opt_lines (flat_map (opt_lines f.request) (placed_items f m)) ≡ true
+opt-writable-by m valid f presses writes =
+    all_written f presses.numbers writes m 0 f.items (λ k d l. count_fits m valid (get_or f.items k d) (presses.stand k d l))
+
 pub opt-writable : (m : Matter) → IsValid m → (f : Production) → Keeps m f → are_opt_lines (flat_map (opt_lines f.request) (placed_items f m)) ≡ true
-opt-writable m valid f kept =
-    let stand = items-stand m valid f kept in
-    all_written f (kept-numbers m valid f kept) (kept-request m valid f kept) m 0 f.items (λ k d l. count_fits m valid (get_or f.items k d) (stand k d l))
+opt-writable m valid f kept = opt-writable-by m valid f (kept-presses m valid f kept) (kept-request m valid f kept)

@@ -21,9 +21,9 @@ use Rattle.bp_press.specs.Contents.{produced_page, slip_sheet, stamps_on}
 pub tiff_made : {E : Type 0} (r : Result (List ℕ) E) (p q : Image) → p ≡ q → IfOk r (λ bytes. bytes ≡ tiff_of G4 p) → IfOk r (λ bytes. bytes ≡ tiff_of G4 q)
 tiff_made r p q is h = subst (λ (page : Image). IfOk r (λ bytes. bytes ≡ tiff_of G4 page)) is h
 
-pub sheet_made : (q : Request) (i : Item) (basis : Basis) (label : List ℕ) (sheet : Image) → label ≡ label_in q.prefix i.span.first → sheet ≡ slip_of basis label i.designation → sheet ≡ slip_sheet q i basis
+pub sheet_made : (q : Request) (i : Item) (basis : Basis) (k : ℕ) (label : List ℕ) (sheet : Image) → label ≡ label_in q.prefix (i.span.first + k) → sheet ≡ slip_of basis label i.designation → sheet ≡ slip_sheet q i basis k
 unfolding slip_sheet
-sheet_made q i basis label sheet named made = made ∙ ap (λ l. slip_of basis l i.designation) named
+sheet_made q i basis k label sheet named made = made ∙ ap (λ l. slip_of basis l i.designation) named
 
 pub page_made : (f : Production) (m : Matter) (i : Item) (page : ℕ) (row : PageRow) (stamps : List Stamp) (label : List ℕ) (out : Image)
     → page_with i.doc.0 page m ≡ Some row → stamps ≡ stamps_on i.boxes page → label ≡ label_in f.request.prefix (i.span.first + page - 1)

@@ -11,9 +11,10 @@ use Rattle.bp_freeze.specs.Keeping.{Keeps}
 use Rattle.bp_press.specs.Needs.{CanBeListed, CanBePressed, IsLabelled}
 use Rattle.bp_press.specs.Pressing.{image_total}
 use Rattle.bp_press.proofs.FamilyLemmas.{LiesBelow, family-first, family-last, is_of}
-use Rattle.bp_press.proofs.KeptItemLemmas.{KeptNumbers, items-few, items-stand, kept-numbers}
-use Rattle.bp_press.proofs.LoadRowLemmas.{dat-even, dat-writable, opt-writable}
-use Rattle.bp_press.proofs.PlacedLemmas.{CountFits, count_fits, image_count-part, kept-logged, kept-placed}
+use Rattle.bp_press.proofs.KeptItemLemmas.{KeptNumbers}
+use Rattle.bp_press.proofs.LoadLemmas.{RequestWrites, kept-request}
+use Rattle.bp_press.proofs.LoadRowLemmas.{dat-even, dat-writable-by, opt-writable-by}
+use Rattle.bp_press.proofs.PlacedLemmas.{CountFits, Presses, count_fits, image_count-part, kept-presses, logged-by, placed-by}
 
 -- what lies below the next number has a label
 labelled : (f : Production) (numbers : KeptNumbers f) (n : ℕ) → LiesBelow numbers.next n → IsLabelled f.request.prefix.width n
@@ -37,20 +38,21 @@ images_few : (f : Production) (m : Matter) (items : List Item) → All (CountFit
 images_few f m [] fit = omega arith
 images_few f m (i ∷ items) fit = omega (arith, (fit 0 i (omega arith)).few, image_count-part f m i, images_few f m items (λ k d l. fit (suc k) d (omega arith)))
 
-pub kept-pressed : (m : Matter) → IsValid m → (f : Production) → Keeps m f → CanBePressed f m
-kept-pressed m valid f kept =
-    let numbers = kept-numbers m valid f kept in
-    let stand = items-stand m valid f kept in
+-- what stands in a matter under good names can be pressed
+pub pressed-by : (m : Matter) → IsValid m → (f : Production) → Presses m f → RequestWrites f.request → CanBePressed f m
+pressed-by m valid f presses writes =
     let docs = leb-true (length m.docs) 10000 valid.docs.few in
-    let few = items-few m valid f kept in
     record {
-      placed = kept-placed m valid f kept;
-      listed = listed f numbers;
-      families = λ k d l. (stand k d l).parent;
+      placed = placed-by m valid f presses;
+      listed = listed f presses.numbers;
+      families = λ k d l. (presses.stand k d l).parent;
       even = dat-even f m;
-      writable = dat-writable m valid f kept;
-      lines = opt-writable m valid f kept;
-      logged = kept-logged m valid f kept;
+      writable = dat-writable-by m valid f presses writes;
+      lines = opt-writable-by m valid f presses writes;
+      logged = logged-by m f presses;
       documents = omega (arith, docs);
-      files = omega (arith, few, docs, images_few f m f.items (λ k d l. count_fits m valid (get_or f.items k d) (stand k d l)));
+      files = omega (arith, presses.few, docs, images_few f m f.items (λ k d l. count_fits m valid (get_or f.items k d) (presses.stand k d l)));
     }
+
+pub kept-pressed : (m : Matter) → IsValid m → (f : Production) → Keeps m f → CanBePressed f m
+kept-pressed m valid f kept = pressed-by m valid f (kept-presses m valid f kept) (kept-request m valid f kept)

@@ -32,7 +32,7 @@ use Rattle.bp_matter.specs.declared.rows.Request.{Request}
 use Rattle.bp_freeze.specs.Keeping.{Keeps}
 use Rattle.bp_freeze.specs.Log.{label_in}
 use Rattle.bp_freeze.specs.Seeing.{page_count}
-use Rattle.bp_press.specs.Contents.{Content, content_by, ground_of, image_in, pages_of, part_of, produced_page, slip_sheet, stamps_on}
+use Rattle.bp_press.specs.Contents.{Content, content_by, ground_of, image_in, label_count, pages_of, part_of, produced_page, slip_sheet, slip_sheets, stamps_on}
 use Rattle.bp_press.specs.Files.{Placed, image_files, item_files, placed, text_file}
 use Rattle.bp_press.specs.Paths.{image_path, manifest_path}
 use Rattle.bp_press.specs.Manifest.{manifest_of}
@@ -53,7 +53,7 @@ CanBeRead page = (p : Image) → TiffReads (tiff_of G4 page) p ↔ (p ≡ page)
 abbrev paper : Image
 paper = white_image 1700 2200 slip_resolution slip_resolution Inch
 
-banded_is_page : (p : Image) (label designation : List ℕ) → IsTrue (sides_are_allowed p.width (p.height + 32)) → FitsRes p.xres → FitsRes p.yres → IsPage (banded p label designation)
+pub banded_is_page : (p : Image) (label designation : List ℕ) → IsTrue (sides_are_allowed p.width (p.height + 32)) → FitsRes p.xres → FitsRes p.yres → IsPage (banded p label designation)
 banded_is_page p label designation sides xres yres = record {
   sides = sides;
   xres = xres;
@@ -72,7 +72,7 @@ banded_fields ink p frame stamps label designation is =
     let below : Image → Fields = λ q. record { width = q.width; height = q.height + 32; xres = q.xres; yres = q.yres; unit = q.unit } in
     ap below is
 
-slip_is_page : (basis : Basis) (label designation : List ℕ) → IsPage (slip_of basis label designation)
+pub slip_is_page : (basis : Basis) (label designation : List ℕ) → IsPage (slip_of basis label designation)
 slip_is_page basis label designation =
     banded_is_page (inked paper (is_drawn (slip_text basis) 1000 200 0)) label designation refl (record { num = omega arith; den = omega arith }) (record { num = omega arith; den = omega arith })
 
@@ -82,10 +82,10 @@ page_is_read law f m i page scan p =
     law G4 (produced_page f m i page) p
     (produced_is_page f.ink (image_in m i.doc.0 page) (stamps_on i.boxes page) (label_in f.request.prefix (i.span.first + page - 1)) i.designation scan)
 
-slip_is_read : ReadLaw → (q : Request) (i : Item) (basis : Basis) → CanBeRead (slip_sheet q i basis)
+slip_is_read : ReadLaw → (q : Request) (i : Item) (basis : Basis) (k : ℕ) → CanBeRead (slip_sheet q i basis k)
 unfolding slip_sheet
-slip_is_read law q i basis p =
-    law G4 (slip_sheet q i basis) p (slip_is_page basis (label_in q.prefix i.span.first) i.designation)
+slip_is_read law q i basis k p =
+    law G4 (slip_sheet q i basis k) p (slip_is_page basis (label_in q.prefix (i.span.first + k)) i.designation)
 
 -- ---- files among files
 
@@ -154,8 +154,13 @@ PagesRead f m i = (page : ℕ) → 1 ≤ page → page ≤ page_count m i.doc.0 
 
 holds_images : ReadLaw → (f : Production) (m : Matter) (i : Item) (place : ℕ) (ground : Option Basis) → PagesRead f m i
     → HoldsImages (item_files f.request (placed_at place i (content_by f m i ground))) f m (placed_at place i (content_by f m i ground)) ground
-holds_images law f m i place (Some basis) read =
-    holds_first (image_path solidus f.request place i.span.first) (slip_sheet f.request i basis) (text_file f.request (placed_at place i (content_by f m i (Some basis))) ∷ []) (slip_is_read law f.request i basis)
+holds_images law f m i place (Some basis) read = λ k less.
+    let q = f.request in
+    let files : List FileRow = image_files q place i.span.first (slip_sheets q i basis) in
+    let at : 0 + k ≡ k = omega arith in
+    let held = holds_page q (slip_sheet q i basis) (label_count i) 0 k place i.span.first less (slip_is_read law q i basis (0 + k)) in
+    holds_left files (text_file q (placed_at place i (content_by f m i (Some basis))) ∷ []) (image_path solidus q (place + k) (i.span.first + k)) (slip_sheet q i basis k)
+    (subst (λ j. HoldsPage files (image_path solidus q (place + k) (i.span.first + k)) (slip_sheet q i basis j)) at held)
 holds_images law f m i place None read = λ page low high.
     let page_at : ℕ → Image = produced_page f m i in
     let at : 1 + (page - 1) ≡ page = omega arith in
@@ -180,7 +185,7 @@ holds_items law f m (i ∷ items) start read (suc k) d l =
 -- what some files hold, more files hold
 wider : (f : Production) (m : Matter) (p : Placed) (some all : List FileRow) (ground : Option Basis) → ((path : List ℕ) (page : Image) → HoldsPage some path page → HoldsPage all path page)
     → HoldsImages some f m p ground → HoldsImages all f m p ground
-wider f m p some all (Some basis) wide h = wide (image_path solidus f.request p.place p.item.span.first) (slip_sheet f.request p.item basis) h
+wider f m p some all (Some basis) wide h = λ k less. wide (image_path solidus f.request (p.place + k) (p.item.span.first + k)) (slip_sheet f.request p.item basis k) (h k less)
 wider f m p some all None wide h = λ page low high. wide (image_path solidus f.request (p.place + page - 1) (p.item.span.first + page - 1)) (produced_page f m p.item page) (h page low high)
 
 in_volume : (f : Production) (m : Matter) (path : List ℕ) (page : Image) → HoldsPage (flat_map (item_files f.request) (placed_items f m)) path page → HoldsPage (volume_of f m) path page

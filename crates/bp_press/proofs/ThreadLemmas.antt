@@ -1,5 +1,6 @@
 -- What threads may share: each type of the tables and of a job alone, so that no search is long.
 use denote.RattleType.{RattleType}
+use denote.Ref.{NamedLft}
 use denote.Param.Send.{IsSend, IsSync, sendable}
 use Rattle.std.proofs.Crossing.{crosses}
 use Rattle.bp_core.specs.contracts.byte_strings.Bytes as bytes
@@ -27,13 +28,18 @@ use Rattle.bp_matter.specs.contracts.rows.BatchRow as batch_row
 use Rattle.bp_matter.specs.contracts.rows.PageWords as page_words
 use Rattle.bp_matter.specs.contracts.calls.Call as call
 use Rattle.bp_matter.specs.contracts.tables.Tables as tables
+use Rattle.bp_press.specs.contracts.batches.MadeFile as made_file
 use Rattle.bp_press.specs.contracts.jobs.Job as job
+use Rattle.bp_press.specs.contracts.volume_files.VolumeFile as volume_file
 
 pub bytes_send : IsSend bytes.the_row
 bytes_send = search (sendable, crosses) depth 40 fits 20000
 
-bytes_sync : IsSync bytes.the_row
+pub bytes_sync : IsSync bytes.the_row
 bytes_sync = search (sendable, crosses) depth 40 fits 20000
+
+text_send : IsSend text.the_row
+text_send = search (sendable, crosses) depth 40 fits 20000
 
 text_sync : IsSync text.the_row
 text_sync = search (sendable, crosses) depth 40 fits 20000
@@ -94,7 +100,7 @@ request_sync = search (small, sendable, crosses) depth 40 fits 20000
 item_sync : IsSync item.the_row
 item_sync = search (entry_sync, box_row_sync, held_row_sync, small, sendable, crosses) depth 40 fits 20000
 
-production_sync : IsSync production.the_row
+pub production_sync : IsSync production.the_row
 production_sync = search (item_sync, small, sendable, crosses) depth 40 fits 20000
 
 production_row_sync : IsSync production_row.the_row
@@ -116,3 +122,9 @@ tables_sync = search (rows, small, sendable, crosses) depth 40 fits 20000
 
 pub job_sync : IsSync job.the_row
 job_sync = search (small, sendable, crosses) depth 40 fits 20000
+
+pub volume_file_sync : (lft : NamedLft) → IsSync (volume_file.the_row lft)
+volume_file_sync lft = search (item_sync, small, sendable, crosses) depth 40 fits 20000
+
+pub made_file_send : IsSend made_file.the_row
+made_file_send = search (bytes_send, text_send, sendable, crosses) depth 40 fits 20000

@@ -15,7 +15,7 @@ use Rattle.bp_press.proofs.Examples.{area, call, dat_line, doc, empty, entry, pr
 -- ---- twelve documents in four families, of which one isn't responsive; the third is withheld for AC,
 -- the fifth holds AUTHOR for PI, and the tenth has an AC box
 
-abbrev twelve : Matter
+abbrev pub twelve : Matter
 twelve = record empty {
   docs =
       doc 1 1 3 (codes "Ng") ∷ doc 2 1 2 (codes "Ng") ∷ doc 3 1 5 (codes "Ng")
@@ -37,7 +37,7 @@ twelve = record empty {
       ∷ [];
 }
 
-abbrev twelve_asked : Request
+abbrev pub twelve_asked : Request
 twelve_asked = record {
   id = codes "R-1";
   volume = codes "VOL001";

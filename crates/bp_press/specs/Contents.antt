@@ -32,10 +32,20 @@ pub record Content : Type 0 where
 
 -- ---- of an item that is withheld
 
--- the sheet that stands for it, under its one label
+-- how many labels an item has: a freeze gives one that is withheld a single label
+-- by Concordance DAT, Opticon OPT
+abbrev pub label_count : Item → ℕ
+label_count i = i.span.last + 1 - i.span.first
+
+-- the sheet that stands for it under a label, which are counted from 0
 -- by FRCP 26(b)(5)(A)
-unfoldable pub slip_sheet : Request → Item → Basis → Image
-slip_sheet q i basis = slip_of basis (label_in q.prefix i.span.first) i.designation
+unfoldable pub slip_sheet : Request → Item → Basis → ℕ → Image
+slip_sheet q i basis k = slip_of basis (label_in q.prefix (i.span.first + k)) i.designation
+
+-- a sheet for each of its labels
+-- by FRCP 26(b)(5)(A)
+abbrev pub slip_sheets : Request → Item → Basis → List Image
+slip_sheets q i basis = map (slip_sheet q i basis) (range_with_len 0 (label_count i))
 
 -- the text of that sheet
 -- by FRCP 26(b)(5)(A)
@@ -46,7 +56,7 @@ withheld_text basis = slip_text basis ++ line_end ++ form_feed ∷ []
 -- by FRCP 26(b)(5)(A)
 abbrev pub withheld_content : Request → Item → Basis → Content
 withheld_content q i basis = record {
-  images = slip_sheet q i basis ∷ [];
+  images = slip_sheets q i basis;
   text = withheld_text basis;
   values = map (λ name. []) q.fields;
 }

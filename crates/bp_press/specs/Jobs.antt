@@ -1,9 +1,13 @@
 -- The images that jobs make.
-use Rattle.std.specs.Prelude.{◌≡◌, ℕ, IsTrue, List, Option, is_some}
+use Rattle.std.specs.Prelude.{◌≡◌, ◌+◌, ℕ, IsTrue, List, Option, is_some}
 use Rattle.bp_rows.specs.Image.{Image}
 use Rattle.bp_t6.specs.Written.{strip_of}
-use Rattle.bp_burn.specs.Band.{produced_of, slip_of}
+use Rattle.bp_rows.specs.declared.resolution.Unit.TheVariants.{Inch}
+use Rattle.bp_burn.specs.Band.{produced_of, slip_of, slip_resolution}
 use Rattle.bp_burn.specs.Drawn.{has_glyphs}
+use Rattle.bp_burn.specs.declared.band.TheConstants.{BAND_ROWS}
+use Rattle.bp_burn.specs.declared.slips.TheConstants.{SLIP_HEIGHT, SLIP_WIDTH}
+use Rattle.bp_matter.specs.declared.kept_page.Frame.{Frame}
 use Rattle.bp_matter.specs.LookUps.{page_with}
 use Rattle.bp_matter.specs.Matter.{Matter}
 use Rattle.bp_press.specs.Contents.{image_in}
@@ -35,3 +39,13 @@ abbrev pub IsCodable : Matter → Job → Type 0
 IsCodable m (jobs.Image ink doc page stamps label designation) =
     HasPage m doc.0 page.0 label designation
 IsCodable m (jobs.Slip basis label designation) = HasBand label designation
+
+-- what a sheet has beside its rows
+abbrev pub sheet_frame : Frame
+sheet_frame = record {
+  width = SLIP_WIDTH;
+  height = SLIP_HEIGHT + BAND_ROWS;
+  xres = slip_resolution;
+  yres = slip_resolution;
+  unit = Inch;
+}

@@ -1,4 +1,5 @@
 pub mod Answering
+pub mod Batches
 pub mod Contents
 pub mod Files
 pub mod Jobs

@@ -15,7 +15,7 @@ use Rattle.bp_matter.specs.declared.rows.Production.{Production}
 use Rattle.bp_matter.specs.declared.rows.Request.{Request}
 use Rattle.bp_freeze.specs.Log.{label_in}
 use Rattle.bp_freeze.specs.Selecting.{first_number, last_number}
-use Rattle.bp_press.specs.Contents.{ground_of}
+use Rattle.bp_press.specs.Contents.{ground_of, label_count}
 use Rattle.bp_press.specs.Files.{Placed}
 use Rattle.bp_press.specs.Paths.{image_path, text_path}
 
@@ -23,11 +23,6 @@ use Rattle.bp_press.specs.Paths.{image_path, text_path}
 -- by Concordance DAT, Opticon OPT
 abbrev pub family_of : Production → Item → List Item
 family_of f i = filter (λ other. other.parent.0 == i.parent.0) f.items
-
--- how many labels an item has
--- by Concordance DAT, Opticon OPT
-abbrev pub label_count : Item → ℕ
-label_count i = i.span.last + 1 - i.span.first
 
 -- the code of a ground, if there is one
 -- by Concordance DAT, Opticon OPT

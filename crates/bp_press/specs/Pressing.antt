@@ -17,7 +17,7 @@ use Rattle.bp_matter.specs.declared.rows.Production.{Production}
 use Rattle.bp_matter.specs.declared.rows.Request.{Request}
 use Rattle.bp_freeze.specs.Log.{label_in}
 use Rattle.bp_freeze.specs.Seeing.{page_count}
-use Rattle.bp_press.specs.Contents.{ground_of, image_in, part_of, produced_page}
+use Rattle.bp_press.specs.Contents.{ground_of, image_in, label_count, part_of, produced_page, slip_sheet}
 use Rattle.bp_press.specs.Files.{Placed, image_files, item_files, placed}
 use Rattle.bp_press.specs.Paths.{image_path}
 
@@ -32,6 +32,18 @@ abbrev pub images_after : Production → Matter → Item → ℕ → ℕ → Lis
 images_after f m i place k =
     image_files f.request (place + k) (i.span.first + k)
     (map (produced_page f m i) (range_with_len (k + 1) (page_count m i.doc.0 - k)))
+
+-- the file of a sheet of an item that is withheld, counted from 0
+abbrev pub sheet_at : Request → Item → Basis → ℕ → ℕ → FileRow
+sheet_at q i basis place k =
+    file (image_path solidus q (place + k) (i.span.first + k))
+    (tiff_of G4 (slip_sheet q i basis k))
+
+-- the files of its sheets but the first so many
+abbrev pub sheets_after : Request → Item → Basis → ℕ → ℕ → List FileRow
+sheets_after q i basis place k =
+    image_files q (place + k) (i.span.first + k)
+    (map (slip_sheet q i basis) (range_with_len k (label_count i - k)))
 
 -- an item at a place of the volume, with what a matter shows of it
 abbrev pub placed_at : Production → Matter → Item → ℕ → Placed
@@ -55,7 +67,17 @@ AreScans m doc =
 -- how many images an item has
 abbrev pub count_by : Matter → Item → Option Basis → ℕ
 count_by m i None = page_count m i.doc.0
-count_by m i (Some basis) = 1
+count_by m i (Some basis) = label_count i
+
+-- its labels can be counted
+pub record HasFewLabels (i : Item) : Type 0 where
+  pub last : i.span.last + 1 < 2 ^ 64
+  pub few : label_count i < 2 ^ 32
+
+-- the sheets of an item can be counted, if it is withheld
+abbrev pub AreSheetsFew : Item → Option Basis → Type 0
+AreSheetsFew i None = Unit {0}
+AreSheetsFew i (Some basis) = HasFewLabels i
 
 -- what the files of an item need
 pub record CanBePlaced (q : Request) (m : Matter) (i : Item) : Type 0 where
@@ -63,6 +85,7 @@ pub record CanBePlaced (q : Request) (m : Matter) (i : Item) : Type 0 where
   pub there : i.doc.0 ≤ length m.docs
   pub labels : AreLabels q i.span.first (count_by m i (ground_of i.treatment))
   pub some : 1 ≤ count_by m i (ground_of i.treatment)
+  pub sheets : AreSheetsFew i (ground_of i.treatment)
   pub designation : IsTrue (has_glyphs i.designation)
   pub scans : AreScans m i.doc.0
 

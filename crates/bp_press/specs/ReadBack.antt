@@ -1,5 +1,5 @@
 -- What a reader of page files (TIFF 6.0) finds in the images of a volume.
-use Rattle.std.specs.Prelude.{◌≡◌, ◌↔◌, ℕ, ◌+◌, ◌-◌, ◌≤◌, List, ◌∷◌, ◌++◌, All, Option, Some, None}
+use Rattle.std.specs.Prelude.{◌≡◌, ◌↔◌, ℕ, ◌+◌, ◌-◌, ◌≤◌, ◌<◌, List, ◌∷◌, ◌++◌, All, Option, Some, None}
 use Rattle.bp_core.specs.Characters.{solidus}
 use Rattle.bp_core.specs.declared.review.Basis.{Basis}
 use Rattle.bp_rows.specs.Image.{Image}
@@ -9,7 +9,7 @@ use Rattle.bp_outside.specs.declared.files.FileRow.{FileRow}
 use Rattle.bp_matter.specs.Matter.{Matter}
 use Rattle.bp_matter.specs.declared.rows.Production.{Production}
 use Rattle.bp_freeze.specs.Seeing.{page_count}
-use Rattle.bp_press.specs.Contents.{ground_of, produced_page, slip_sheet}
+use Rattle.bp_press.specs.Contents.{ground_of, label_count, produced_page, slip_sheet}
 use Rattle.bp_press.specs.Files.{Placed}
 use Rattle.bp_press.specs.Paths.{image_path}
 use Rattle.bp_press.specs.Volume.{placed_items, volume_of}
@@ -23,12 +23,14 @@ pub record HoldsPage (files : List FileRow) (path : List ℕ) (page : Image) : T
   pub there : files ≡ before ++ file path bytes ∷ after
   pub reads : (p : Image) → TiffReads bytes p ↔ (p ≡ page)
 
--- among the files are those of the images of an item: the sheet of one that is withheld on a
+-- among the files are those of the images of an item: each sheet of one that is withheld on a
 -- ground, or each page of one that isn't
 -- by TIFF 6.0
 abbrev pub HoldsImages : List FileRow → Production → Matter → Placed → Option Basis → Type 0
 HoldsImages files f m p (Some basis) =
-    HoldsPage files (image_path solidus f.request p.place p.item.span.first) (slip_sheet f.request p.item basis)
+    (k : ℕ) → k < label_count p.item
+    → HoldsPage files (image_path solidus f.request (p.place + k) (p.item.span.first + k))
+    (slip_sheet f.request p.item basis k)
 HoldsImages files f m p None =
     (page : ℕ) → 1 ≤ page → page ≤ page_count m p.item.doc.0
     → HoldsPage files

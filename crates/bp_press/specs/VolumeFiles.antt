@@ -14,7 +14,7 @@ use Rattle.bp_matter.specs.declared.rows.Production.{Production}
 use Rattle.bp_matter.specs.declared.rows.Request.{Request}
 use Rattle.bp_freeze.specs.Log.{log_of}
 use Rattle.bp_freeze.specs.Seeing.{page_count}
-use Rattle.bp_press.specs.Contents.{part_of, produced_page, slip_sheet}
+use Rattle.bp_press.specs.Contents.{label_count, part_of, produced_page, slip_sheet}
 use Rattle.bp_press.specs.LoadFiles.{dat_bytes, opt_bytes}
 use Rattle.bp_press.specs.Needs.{CanBePressed, IsLabelled}
 use Rattle.bp_press.specs.Paths.{data_path, image_path, text_path}
@@ -27,7 +27,8 @@ use Rattle.bp_press.specs.declared.volume_files.VolumeFile.TheVariants.{Dat, Log
 abbrev pub path_in : Production → VolumeFile → List ℕ
 path_in f (Page item place page) =
     image_path solidus f.request (place + page) (item.now.span.first + page)
-path_in f (Sheet item place basis) = image_path solidus f.request place item.now.span.first
+path_in f (Sheet item place basis sheet) =
+    image_path solidus f.request (place + sheet) (item.now.span.first + sheet)
 path_in f (Text item place) = text_path solidus f.request place item.now.span.first
 path_in f Dat = data_path f.request (codes ".DAT")
 path_in f Opt = data_path f.request (codes ".OPT")
@@ -36,7 +37,8 @@ path_in f Log = data_path f.request (codes "-LOG.CSV")
 -- what its file holds
 abbrev pub bytes_in : Production → Matter → VolumeFile → List ℕ
 bytes_in f m (Page item place page) = tiff_of G4 (produced_page f m item.now (page + 1))
-bytes_in f m (Sheet item place basis) = tiff_of G4 (slip_sheet f.request item.now basis)
+bytes_in f m (Sheet item place basis sheet) =
+    tiff_of G4 (slip_sheet f.request item.now basis sheet)
 bytes_in f m (Text item place) = encode_utf8_all (part_of f m item.now).content.text
 bytes_in f m Dat = dat_bytes f (placed_items f m)
 bytes_in f m Opt = opt_bytes f.request (placed_items f m)
@@ -58,7 +60,8 @@ pub record HasName (q : Request) (place number : ℕ) : Type 0 where
 abbrev pub CanBeNamed : Production → VolumeFile → Type 0
 CanBeNamed f (Page item place page) =
     HasName f.request (place + page) (item.now.span.first + page)
-CanBeNamed f (Sheet item place basis) = HasName f.request place item.now.span.first
+CanBeNamed f (Sheet item place basis sheet) =
+    HasName f.request (place + sheet) (item.now.span.first + sheet)
 CanBeNamed f (Text item place) = HasName f.request place item.now.span.first
 CanBeNamed f Dat = Unit {0}
 CanBeNamed f Opt = Unit {0}
@@ -72,15 +75,16 @@ pub record CanBeImage (q : Request) (m : Matter) (i : Item) (page : ℕ) : Type 
   pub scans : AreScans m i.doc.0
   pub designation : IsTrue (has_glyphs i.designation)
 
--- what the sheet of an item needs
-pub record CanBeSheet (q : Request) (i : Item) : Type 0 where
-  pub labels : AreLabels q i.span.first 1
+-- what a sheet of an item needs, counted from 0
+pub record CanBeSheet (q : Request) (i : Item) (sheet : ℕ) : Type 0 where
+  pub there : sheet < label_count i
+  pub labels : AreLabels q i.span.first (label_count i)
   pub designation : IsTrue (has_glyphs i.designation)
 
 -- what the bytes of an entry need
 abbrev pub CanBeFilled : Production → Matter → VolumeFile → Type 0
 CanBeFilled f m (Page item place page) = CanBeImage f.request m item.now page
-CanBeFilled f m (Sheet item place basis) = CanBeSheet f.request item.now
+CanBeFilled f m (Sheet item place basis sheet) = CanBeSheet f.request item.now sheet
 CanBeFilled f m (Text item place) = CanBePlaced f.request m item.now
 CanBeFilled f m Dat = CanBePressed f m
 CanBeFilled f m Opt = CanBePressed f m

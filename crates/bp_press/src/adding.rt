@@ -1,21 +1,46 @@
 // Files added to a folder, each with its line of the manifest.
-ghost use Rattle.std.specs.Prelude.{◌∷◌, []};
+ghost use Rattle.std.specs.Prelude.{◌∷◌, [], All, map};
+ghost use Rattle.bp_press.specs.Batches.{IsDigested, row_made};
 ghost use Rattle.bp_press.specs.Writing.{Adds};
 
+use crate::batches::MadeFile;
 use crate::manifest::add_line;
-use bp_outside::{FileRow, Folder, FolderRefusal, put_file};
+use bp_outside::{Folder, FolderRefusal, put_file};
 use std::alloc::Global;
 
 // Adds a file, and its line to the manifest.
 pub(crate) fn add_file<F: Folder>(
     alloc: Global,
-    row: &FileRow,
+    file: &MadeFile,
     folder: &mut F,
     manifest: &mut Vec<u8>,
 ) -> Result<(), FolderRefusal>
-    ensures { Adds (row.now ∷ []) (F.shows folder.old) manifest.old.items result
+    requires { IsDigested file.now }
+    ensures { Adds (file.now.row ∷ []) (F.shows folder.old) manifest.old.items result
         (F.shows folder.new) manifest.new.items }
 {
-    add_line(manifest, &row.path, row.bytes.as_slice())?;
-    put_file(alloc, folder, row.path.as_str(), row.bytes.as_slice())
+    add_line(manifest, &file.row.path, file.digest)?;
+    put_file(
+        alloc,
+        folder,
+        file.row.path.as_str(),
+        file.row.bytes.as_slice(),
+    )
+}
+
+// Adds these files in order.
+pub(crate) fn add_files<F: Folder>(
+    alloc: Global,
+    files: &[MadeFile],
+    folder: &mut F,
+    manifest: &mut Vec<u8>,
+) -> Result<(), FolderRefusal>
+    requires { All IsDigested files.now }
+    ensures { Adds (map row_made files.now) (F.shows folder.old) manifest.old.items result
+        (F.shows folder.new) manifest.new.items }
+{
+    for file in files {
+        add_file(alloc, file, folder, manifest)?;
+    }
+    Ok(())
 }

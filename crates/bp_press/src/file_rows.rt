@@ -1,20 +1,26 @@
 // The files of a volume's list: of each its path and its bytes.
-ghost use Rattle.std.specs.Prelude.{◌≡◌, ◌+◌, ◌<◌, ◌^◌, IfOk, IsTrue, encode_utf8_all};
-ghost use Rattle.bp_burn.specs.Drawn.{has_glyphs};
-ghost use Rattle.bp_freeze.specs.Seeing.{page_count};
-ghost use Rattle.bp_tiff.specs.Tiff.{tiff_of};
-ghost use Rattle.bp_press.specs.Contents.{part_of, produced_page, slip_sheet};
-ghost use Rattle.bp_press.specs.Pressing.{AreLabels, AreScans, CanBePlaced};
+ghost use Rattle.std.specs.Prelude.{◌≡◌, ◌<◌, All, IfOk, encode_utf8_all, length, map, slice_index_or};
+ghost use Rattle.bp_press.specs.Batches.{HasImages, HasJob, jobs_by, made_of};
+ghost use Rattle.bp_press.specs.Contents.{part_of};
+ghost use Rattle.bp_press.specs.Jobs.{IsCodable, page_of, strip_by};
+ghost use Rattle.bp_press.specs.Pressing.{CanBePlaced};
 ghost use Rattle.bp_press.specs.VolumeFiles.{CanBeFilled, CanBeMade, CanBeNamed, bytes_in, path_in, row_of};
+ghost use Rattle.bp_press.specs.declared.jobs.Job.{Job as AnyJob};
+ghost use Rattle.bp_outside.specs.Folder.{file};
+ghost use Rattle.bp_tiff.specs.Tiff.{tiff_of};
 
+use crate::batches::{MadeFile, add_job};
 use crate::contents::text_bytes;
+use crate::jobs::Job;
 use crate::load_files::{dat_bytes, opt_bytes};
-use crate::names::{data_path, image_path, label_text, text_path};
-use crate::pages::{page_file, sheet_file};
+use crate::manifest::digest_of;
+use crate::names::{data_path, image_path, text_path};
+use crate::pages::job_file;
+use crate::strips::job_strip;
 use crate::volume_files::{VolumeFile, page_count};
-use bp_core::{Basis, Bytes, OutOfMemory, PageNo, Text};
+use bp_core::{Bytes, OutOfMemory, Text};
 use bp_freeze::log_text;
-use bp_matter::{Item, Production, Request, Tables};
+use bp_matter::{Item, Production, Tables};
 use bp_outside::FileRow;
 use bp_tiff::Form;
 use std::alloc::Global;
@@ -38,7 +44,11 @@ pub(crate) fn file_path(
             item,
             place,
             basis: _,
-        } => { image_path(alloc, '/', request, place, item.span.first) }
+            sheet,
+        } => {
+            let sheet = u64::from(sheet);
+            image_path(alloc, '/', request, place + sheet, item.span.first + sheet)
+        }
         VolumeFile::Text { item, place } => text_path(alloc, '/', request, place, item.span.first),
         VolumeFile::Dat => data_path(alloc, request, ".DAT"),
         VolumeFile::Opt => data_path(alloc, request, ".OPT"),
@@ -46,75 +56,44 @@ pub(crate) fn file_path(
     }
 }
 
-// The bytes of a file.
-pub(crate) fn file_bytes(
+// The file of the first of these images, of its strip.
+fn first_file(
+    alloc: Global,
+    tables: &Tables,
+    jobs: &[Job],
+    strips: &[Bytes],
+) -> Result<Bytes, OutOfMemory>
+    requires some { 0 < length jobs.now }
+    requires codable { All (IsCodable tables.now.matter) jobs.now }
+    requires strips { strips.now ≡ map (strip_by tables.now.matter) jobs.now }
+    ensures { (d : AnyJob) → IfOk result (λ bytes.
+        bytes ≡ tiff_of Form.G4 (page_of tables.now.matter (slice_index_or jobs.now 0 d))) }
+{
+    job_file(alloc, tables, &jobs[0], strips[0].as_slice())
+}
+
+// The bytes of a file. Where it is an image, it is the first of these.
+fn bytes_with(
     alloc: Global,
     tables: &Tables,
     production: &Production,
     file: &VolumeFile,
+    jobs: &[Job],
+    strips: &[Bytes],
 ) -> Result<Bytes, OutOfMemory>
-    requires { CanBeFilled production.now tables.now.matter file.now }
+    requires made { CanBeFilled production.now tables.now.matter file.now }
+    requires images { HasImages production.now tables.now.matter file.now jobs.now strips.now }
     ensures { IfOk result (λ bytes.
         bytes ≡ bytes_in production.now tables.now.matter file.now) }
 {
-    let request = &production.request;
     match *file {
-        VolumeFile::Page {
-            item,
-            place: _,
-            page,
-        } => page_bytes(alloc, tables, production, item, page),
-        VolumeFile::Sheet {
-            item,
-            place: _,
-            basis,
-        } => sheet_bytes(alloc, request, item, basis),
+        VolumeFile::Page { .. } => first_file(alloc, tables, jobs, strips),
+        VolumeFile::Sheet { .. } => first_file(alloc, tables, jobs, strips),
         VolumeFile::Text { item, place: _ } => item_bytes(alloc, tables, production, item),
         VolumeFile::Dat => dat_bytes(alloc, tables, production),
         VolumeFile::Opt => opt_bytes(alloc, tables, production),
         VolumeFile::Log => log_text(alloc, production),
     }
-}
-
-// The file of a page of an item that isn't withheld, counted from 0.
-fn page_bytes(
-    alloc: Global,
-    tables: &Tables,
-    production: &Production,
-    item: &Item,
-    page: u32,
-) -> Result<Bytes, OutOfMemory>
-    requires page { page < page_count tables.now.matter item.now.doc.0 }
-    requires number { page + 1 < 2 ^ 32 }
-    requires labels { let count = page_count tables.now.matter item.now.doc.0 in
-        AreLabels production.now.request item.now.span.first count }
-    requires scans { AreScans tables.now.matter item.now.doc.0 }
-    requires designation { IsTrue (has_glyphs item.now.designation) }
-    ensures { IfOk result (λ bytes. bytes ≡
-        tiff_of Form.G4 (produced_page production.now tables.now.matter item.now (page + 1))) }
-{
-    let label = label_text(
-        alloc,
-        &production.request.prefix,
-        item.span.first + u64::from(page),
-    )?;
-    page_file(alloc, tables, production, item, PageNo(page + 1), &label)
-}
-
-// The file of the sheet of an item that is withheld on a ground.
-fn sheet_bytes(
-    alloc: Global,
-    request: &Request,
-    item: &Item,
-    basis: Basis,
-) -> Result<Bytes, OutOfMemory>
-    requires labels { AreLabels request.now item.now.span.first 1 }
-    requires designation { IsTrue (has_glyphs item.now.designation) }
-    ensures { IfOk result (λ bytes. bytes ≡
-        tiff_of Form.G4 (slip_sheet request.now item.now basis)) }
-{
-    let label = label_text(alloc, &request.prefix, item.span.first)?;
-    sheet_file(alloc, request, item, basis, &label)
 }
 
 // The text of an item, in UTF-8.
@@ -137,18 +116,99 @@ fn item_bytes(
     )
 }
 
-// A file, whole.
-pub(crate) fn file_row(
+// A file, whole, with its digest. Where it is an image, it is the first of these.
+pub(crate) fn made_file(
     alloc: Global,
     tables: &Tables,
     production: &Production,
     file: &VolumeFile,
-) -> Result<FileRow, OutOfMemory>
-    requires { CanBeMade production.now tables.now.matter file.now }
-    ensures { IfOk result (λ row. row ≡ row_of production.now tables.now.matter file.now) }
+    jobs: &[Job],
+    strips: &[Bytes],
+) -> Result<MadeFile, OutOfMemory>
+    requires made { CanBeMade production.now tables.now.matter file.now }
+    requires images { HasImages production.now tables.now.matter file.now jobs.now strips.now }
+    ensures { IfOk result (λ made.
+        made ≡ made_of (row_of production.now tables.now.matter file.now)) }
 {
-    Ok(FileRow {
-        path: file_path(alloc, production, file)?,
-        bytes: file_bytes(alloc, tables, production, file)?,
-    })
+    let path = file_path(alloc, production, file)?;
+    let bytes = bytes_with(alloc, tables, production, file, jobs, strips)?;
+    Ok(digested(path, bytes))
+}
+
+// A file with its digest.
+fn digested(path: Text, bytes: Bytes) -> MadeFile
+    ensures { result ≡ made_of (file path bytes) }
+{
+    let digest = digest_of(bytes.as_slice());
+    MadeFile {
+        row: FileRow { path, bytes },
+        digest,
+    }
+}
+
+// ---- one file by itself
+
+// The strips of these jobs, one after another.
+fn strips_in_turn(alloc: Global, tables: &Tables, jobs: &[Job]) -> Result<Vec<Bytes>, OutOfMemory>
+    requires { All (IsCodable tables.now.matter) jobs.now }
+    ensures { IfOk result (λ strips. strips.items ≡ map (strip_by tables.now.matter) jobs.now) }
+{
+    let mut strips = Vec::new(alloc);
+    for job in jobs {
+        strips.push(job_strip(alloc, tables, job)?)?;
+    }
+    Ok(strips)
+}
+
+// The job of a file that is an image.
+fn own_jobs(
+    alloc: Global,
+    production: &Production,
+    file: &VolumeFile,
+) -> Result<Vec<Job>, OutOfMemory>
+    requires { HasJob production.now file.now }
+    ensures { IfOk result (λ jobs. jobs.items ≡ jobs_by production.now file.now) }
+{
+    let mut jobs = Vec::new(alloc);
+    add_job(alloc, production, file, &mut jobs)?;
+    Ok(jobs)
+}
+
+// The bytes of a file.
+pub(crate) fn file_bytes(
+    alloc: Global,
+    tables: &Tables,
+    production: &Production,
+    file: &VolumeFile,
+) -> Result<Bytes, OutOfMemory>
+    requires { CanBeMade production.now tables.now.matter file.now }
+    ensures { IfOk result (λ bytes.
+        bytes ≡ bytes_in production.now tables.now.matter file.now) }
+{
+    let jobs = own_jobs(alloc, production, file)?;
+    let strips = strips_in_turn(alloc, tables, jobs.as_slice())?;
+    bytes_with(
+        alloc,
+        tables,
+        production,
+        file,
+        jobs.as_slice(),
+        strips.as_slice(),
+    )
+}
+
+// A file, whole, with its digest.
+pub(crate) fn file_made(
+    alloc: Global,
+    tables: &Tables,
+    production: &Production,
+    file: &VolumeFile,
+) -> Result<MadeFile, OutOfMemory>
+    requires { CanBeMade production.now tables.now.matter file.now }
+    ensures { IfOk result (λ made.
+        made ≡ made_of (row_of production.now tables.now.matter file.now)) }
+{
+    let path = file_path(alloc, production, file)?;
+    let bytes = file_bytes(alloc, tables, production, file)?;
+    Ok(digested(path, bytes))
 }

@@ -10,7 +10,7 @@ ghost use Rattle.bp_press.specs.Volume.{file_at, volume_of};
 ghost use Rattle.bp_press.specs.VolumeFiles.{CanBeMade, row_of};
 ghost use Rattle.bp_outside.specs.Folder.{file};
 
-use crate::file_rows::{file_bytes, file_path, file_row};
+use crate::file_rows::{file_bytes, file_made, file_path};
 use crate::manifest::add_line;
 use crate::names::manifest_path;
 use crate::volume_files::{VolumeFile, list_files};
@@ -69,8 +69,8 @@ fn add_line_of(
     ensures { let row = row_of production.now tables.now.matter file.now in
         OnOk result (manifest.new.items ≡ manifest.old.items ++ manifest_line row) }
 {
-    let row = file_row(alloc, tables, production, file)?;
-    add_line(manifest, &row.path, row.bytes.as_slice())
+    let made = file_made(alloc, tables, production, file)?;
+    add_line(manifest, &made.row.path, made.digest)
 }
 
 // The bytes of the manifest over these files. Each is made for its digest, one at a time.

@@ -6,6 +6,7 @@
 #![tactic(auto)]
 
 mod adding;
+mod batches;
 mod contents;
 mod families;
 mod file_rows;
@@ -15,6 +16,7 @@ mod jobs;
 mod laws;
 mod load_files;
 mod load_rows;
+mod made_files;
 mod manifest;
 mod names;
 mod pages;
@@ -27,5 +29,5 @@ pub use finding::file_of;
 pub use gate::{Gate, OpenGate};
 pub use jobs::{Job, JobList, StripList};
 pub use laws::{images_are_read, same_product, same_volume, volume_stays};
-pub use pressing::{PressRefusal, Pressed, press};
+pub use pressing::{PressRefusal, Pressed, add_volume, press};
 pub use strips::strips_of;

@@ -5,8 +5,8 @@ ghost use Rattle.bp_bates.specs.Prefixes.{is_good_prefix};
 ghost use Rattle.bp_core.specs.Characters.{reverse_solidus};
 ghost use Rattle.bp_freeze.specs.Log.{label_in};
 ghost use Rattle.bp_freeze.specs.Selecting.{first_number, last_number};
-ghost use Rattle.bp_press.specs.Contents.{ground_of, part_of, value_in_column};
-ghost use Rattle.bp_press.specs.LoadFiles.{dat_row, family_of, label_count, opt_line, opt_lines, optional_code, own_values};
+ghost use Rattle.bp_press.specs.Contents.{ground_of, label_count, part_of, value_in_column};
+ghost use Rattle.bp_press.specs.LoadFiles.{dat_row, family_of, opt_line, opt_lines, optional_code, own_values};
 ghost use Rattle.bp_press.specs.Paths.{text_path};
 ghost use Rattle.bp_press.specs.Needs.{CanBeListed, IsLabelled};
 ghost use Rattle.bp_press.specs.Pressing.{AreLabels, placed_at};
@@ -148,7 +148,7 @@ fn optional_code(alloc: Global, claimed: Option<Basis>) -> Result<Text, OutOfMem
 }
 
 // How many labels an item has.
-fn label_count(item: &Item) -> u64
+pub(crate) fn label_count(item: &Item) -> u64
     requires { item.now.span.last + 1 < 2 ^ 64 }
     ensures { result ≡ label_count item.now }
 {

@@ -1,21 +1,19 @@
-// The images of items: burned pages with their labels, and the sheets of withheld documents.
-ghost use Rattle.std.specs.Prelude.{◌≡◌, ◌≤◌, ◌+◌, ◌-◌, IfOk, IsTrue};
-ghost use Rattle.bp_rows.specs.Limits.{sides_are_imported};
-ghost use Rattle.bp_burn.specs.Band.{produced_of};
-ghost use Rattle.bp_burn.specs.Drawn.{has_glyphs};
-ghost use Rattle.bp_bates.specs.Prefixes.{is_good_prefix};
-ghost use Rattle.bp_bates.specs.Spans.{largest_of};
+// The boxes of a page, and the files of images that go out, of their strips.
+ghost use Rattle.std.specs.Prelude.{◌≡◌, IfOk};
+ghost use Rattle.bp_rows.specs.Image.{IsPage};
 ghost use Rattle.bp_freeze.specs.Agree.{rects_on};
-ghost use Rattle.bp_freeze.specs.Log.{label_in};
-ghost use Rattle.bp_press.specs.Contents.{image_in, produced_page, slip_sheet, stamps_on};
+ghost use Rattle.bp_matter.specs.Images.{in_frame};
+ghost use Rattle.bp_press.specs.Contents.{stamps_on};
+ghost use Rattle.bp_press.specs.Jobs.{IsCodable, page_of, sheet_frame, strip_by};
 ghost use Rattle.bp_tiff.specs.Tiff.{tiff_of};
 
-use crate::names::label_text;
-use bp_burn::{BAND_ROWS, produced_strip, slip_page};
-use bp_core::{Basis, Bytes, Ink, ListOf, OutOfMemory, PageNo, RectList, Stamp, StampList, Text};
-use bp_matter::{BoxList, Item, KeptPage, Production, Request, Tables};
+use crate::jobs::Job;
+use bp_burn::{BAND_ROWS, SLIP_DOTS, SLIP_HEIGHT, SLIP_WIDTH};
+use bp_core::{Bytes, ListOf, OutOfMemory, PageNo, RectList, Stamp, StampList};
+use bp_matter::{BoxList, Frame, Tables};
+use bp_rows::{Res, Unit};
 use bp_t6::laws::strip_size;
-use bp_tiff::{Form, write_strip, write_tiff};
+use bp_tiff::{Form, write_strip};
 use std::alloc::Global;
 
 // The boxes on a page.
@@ -36,7 +34,11 @@ pub(crate) fn rects_on(
 }
 
 // The boxes on a page, each with its ground.
-fn stamps_on(alloc: Global, boxes: &BoxList, page: PageNo) -> Result<StampList, OutOfMemory>
+pub(crate) fn stamps_on(
+    alloc: Global,
+    boxes: &BoxList,
+    page: PageNo,
+) -> Result<StampList, OutOfMemory>
     ensures { IfOk result (λ stamps. stamps ≡ stamps_on boxes.now page.0) }
 {
     let mut stamps = Vec::new(alloc);
@@ -51,88 +53,71 @@ fn stamps_on(alloc: Global, boxes: &BoxList, page: PageNo) -> Result<StampList, 
     Ok(ListOf::from_vec(stamps))
 }
 
-#[tactic(auto, unfolding(crate::specs::Contents::produced_page))]
-// The file of a page of an item that isn't withheld, under its label.
-pub(crate) fn page_file(
-    alloc: Global,
-    tables: &Tables,
-    production: &Production,
-    item: &Item,
-    page: PageNo,
-    label: &Text,
-) -> Result<Bytes, OutOfMemory>
-    requires sides { let image = image_in tables.now.matter item.now.doc.0 page.0 in
-        IsTrue (sides_are_imported image.width image.height) }
-    requires designation { IsTrue (has_glyphs item.now.designation) }
-    requires glyphs { IsTrue (has_glyphs label.now) }
-    requires label { label.now ≡
-        label_in production.now.request.prefix (item.now.span.first + page.0 - 1) }
-    ensures { IfOk result (λ bytes. bytes ≡
-        tiff_of Form.G4 (produced_page production.now tables.now.matter item.now page.0)) }
+// What the image of a job has beside its rows: a page what the page of the document has, but for the
+// rows of the band.
+fn frame_of(tables: &Tables, job: &Job) -> Frame
+    requires { IsCodable tables.now.matter job.now }
+    ensures frame { page_of tables.now.matter job.now
+        ≡ in_frame result (page_of tables.now.matter job.now).rows }
+    ensures page { IsPage (page_of tables.now.matter job.now) }
 {
-    let Some(row) = tables.page_with(item.doc, page) else {
-        unreachable!()
-    };
-    let stamps = stamps_on(alloc, &item.boxes, page)?;
-    let ink = production.ink;
-    burned_file(alloc, ink, &row.image, &stamps, label, &item.designation)
+    tables.know_valid();
+    match job {
+        Job::Image { doc, page, .. } => match tables.kept(*doc, *page) {
+            Some(scan) => {
+                let frame = scan.frame();
+                Frame {
+                    width: frame.width,
+                    height: frame.height + BAND_ROWS,
+                    xres: frame.xres,
+                    yres: frame.yres,
+                    unit: frame.unit,
+                }
+            }
+            None => unreachable!(),
+        },
+        Job::Slip { .. } => slip_frame(),
+    }
 }
 
-// The file of a page with its boxes drawn in an ink and its band, made of its strip a row at a time: its
-// pixels are never had.
-fn burned_file(
+// What a sheet has beside its rows.
+fn slip_frame() -> Frame
+    ensures { result ≡ sheet_frame }
+{
+    let dots = Res {
+        num: SLIP_DOTS,
+        den: 1,
+    };
+    Frame {
+        width: SLIP_WIDTH,
+        height: SLIP_HEIGHT + BAND_ROWS,
+        xres: dots,
+        yres: dots,
+        unit: Unit::Inch,
+    }
+}
+
+// The file of the image of a job, of its strip.
+pub(crate) fn job_file(
     alloc: Global,
-    ink: Ink,
-    page: &KeptPage,
-    stamps: &StampList,
-    label: &Text,
-    designation: &Text,
+    tables: &Tables,
+    job: &Job,
+    strip: &[u8],
 ) -> Result<Bytes, OutOfMemory>
-    requires sides { IsTrue (sides_are_imported page.now.width page.now.height) }
-    requires label { IsTrue (has_glyphs label.now) }
-    requires designation { IsTrue (has_glyphs designation.now) }
-    ensures { IfOk result (λ bytes. bytes ≡
-        tiff_of Form.G4 (produced_of ink page.now stamps.now label.now designation.now)) }
+    requires codable { IsCodable tables.now.matter job.now }
+    requires strip { strip.now ≡ strip_by tables.now.matter job.now }
+    ensures { IfOk result (λ bytes.
+        bytes ≡ tiff_of Form.G4 (page_of tables.now.matter job.now)) }
 {
     strip_size();
-    let frame = page.frame();
-    let strip = produced_strip(
-        alloc,
-        ink,
-        page.strip(),
-        frame.width,
-        frame.height,
-        stamps,
-        label,
-        designation,
-    )?;
+    let frame = frame_of(tables, job);
     write_strip(
         alloc,
         frame.width,
-        frame.height + BAND_ROWS,
+        frame.height,
         frame.xres,
         frame.yres,
         frame.unit,
-        strip.as_slice(),
+        strip,
     )
-}
-
-#[tactic(auto, unfolding(crate::specs::Contents::slip_sheet))]
-// The file of the sheet of an item that is withheld on a ground, under its label.
-pub(crate) fn sheet_file(
-    alloc: Global,
-    request: &Request,
-    item: &Item,
-    basis: Basis,
-    label: &Text,
-) -> Result<Bytes, OutOfMemory>
-    requires designation { IsTrue (has_glyphs item.now.designation) }
-    requires glyphs { IsTrue (has_glyphs label.now) }
-    requires label { label.now ≡ label_in request.now.prefix item.now.span.first }
-    ensures { IfOk result (λ bytes. bytes ≡
-        tiff_of Form.G4 (slip_sheet request.now item.now basis)) }
-{
-    let _request = request;
-    let sheet = slip_page(alloc, basis, label, &item.designation)?;
-    write_tiff(alloc, Form::G4, &sheet)
 }

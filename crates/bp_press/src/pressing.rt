@@ -13,8 +13,9 @@ ghost use Rattle.bp_press.specs.Volume.{volume_of};
 ghost use Rattle.bp_press.specs.VolumeFiles.{CanBeMade, row_of};
 ghost use Rattle.bp_press.specs.Writing.{Adds, AddsAll, AddsPart, LeavesCut, with_files};
 
-use crate::adding::add_file;
-use crate::file_rows::file_row;
+use crate::adding::add_files;
+use crate::gate::Gate;
+use crate::made_files::{Workers, made_batch};
 use crate::manifest::digest_of;
 use crate::names::manifest_path;
 use crate::volume_files::{VolumeFile, list_files};
@@ -22,6 +23,7 @@ use bp_matter::{Production, Request, Tables};
 use bp_outside::{Folder, FolderRefusal, put_file};
 use bp_tiff::written_is_read;
 use std::alloc::Global;
+use std::thread::Threads;
 use thiserror::Error;
 
 /// How many files a volume has, and the SHA-256 (FIPS 180-4) of its manifest.
@@ -61,7 +63,8 @@ fn file_count(list: &[VolumeFile]) -> u32
 }
 
 // Adds these files of the volume in order, each with its line of the manifest.
-fn add_listed<F: Folder>(
+fn add_listed<R: Threads + Sync, F: Folder, G: Gate + Sync>(
+    workers: &Workers<'_, R, G>,
     alloc: Global,
     tables: &Tables,
     production: &Production,
@@ -69,14 +72,16 @@ fn add_listed<F: Folder>(
     folder: &mut F,
     manifest: &mut Vec<u8>,
 ) -> Result<(), FolderRefusal>
-    requires { All (CanBeMade production.now tables.now.matter) list.now }
+    requires made { All (CanBeMade production.now tables.now.matter) list.now }
     ensures { let rows = map (row_of production.now tables.now.matter) list.now in
         Adds rows (F.shows folder.old) manifest.old.items result
         (F.shows folder.new) manifest.new.items }
 {
-    for file in list {
-        let row = file_row(alloc, tables, production, file)?;
-        add_file(alloc, &row, folder, manifest)?;
+    let mut from = 0;
+    while from < list.len() {
+        let batch = made_batch(workers, alloc, tables, production, list, from)?;
+        add_files(alloc, batch.files.as_slice(), folder, manifest)?;
+        from = batch.end;
     }
     Ok(())
 }
@@ -99,12 +104,17 @@ fn add_manifest<F: Folder>(
     put_file(alloc, folder, path.as_str(), manifest)
 }
 
-// Writes the volume of a production whose files can be written.
-fn add_volume<F: Folder>(
+/// Writes the volume of a production whose files can be written, whether tables keep it or not. With
+/// `Ok` exactly these files were added, in this order, and the answer has their number and the digest
+/// of the manifest. After a refusal the files added are a prefix of the volume, the last one perhaps
+/// in part. Its images are made as `press` makes them.
+pub fn add_volume<R: Threads + Sync, F: Folder, G: Gate + Sync>(
+    rt: &R,
     alloc: Global,
     tables: &Tables,
     production: &Production,
     folder: &mut F,
+    gate: &G,
 ) -> Result<Pressed, FolderRefusal>
     requires { CanBePressed production.now tables.now.matter }
     ensures told { let files = volume_of production.now tables.now.matter in
@@ -117,7 +127,9 @@ fn add_volume<F: Folder>(
 {
     let list = list_files(alloc, tables, production)?;
     let mut manifest = Vec::new(alloc);
+    let workers = Workers { rt, gate };
     add_listed(
+        &workers,
         alloc,
         tables,
         production,
@@ -141,12 +153,17 @@ fn add_volume<F: Folder>(
 /// matter that keeps the production and agrees on it gives the same bytes. Each image is read, as
 /// TIFF 6.0 says, as the burned page or the slip sheet that it was made of, and as no other page.
 ///
-///     let pressed = press(alloc, &tables, &production, &mut folder)?;
-pub fn press<F: Folder>(
+/// Sixteen images are made at a time, each by a job of its own (`strips_of`) that enters the gate. It
+/// returns if the threads that it joins do.
+///
+///     let pressed = press(&rt, alloc, &tables, &production, &mut folder, &OpenGate)?;
+pub fn press<R: Threads + Sync, F: Folder, G: Gate + Sync>(
+    rt: &R,
     alloc: Global,
     tables: &Tables,
     production: &Production,
     folder: &mut F,
+    gate: &G,
 ) -> Result<Pressed, PressRefusal>
     requires { Keeps tables.now.matter production.now }
     ensures told { let files = volume_of production.now tables.now.matter in
@@ -170,7 +187,7 @@ pub fn press<F: Folder>(
 {
     tables.know_valid();
     written_is_read();
-    match add_volume(alloc, tables, production, folder) {
+    match add_volume(rt, alloc, tables, production, folder, gate) {
         Ok(pressed) => Ok(pressed),
         Err(refusal) => Err(press_refusal(refusal)),
     }

@@ -1,16 +1,18 @@
 // The list of the files of a volume before its manifest, in order. It alone goes through the items;
 // writing, finding and the manifest go through the list.
-ghost use Rattle.std.specs.Prelude.{◌≡◌, ◌≤◌, ◌<◌, ◌+◌, ◌^◌, IfOk, None, length};
+ghost use Rattle.std.specs.Prelude.{◌≡◌, ◌≤◌, ◌<◌, ◌+◌, ◌^◌, IfOk, None, Some, length};
 ghost use Rattle.std.specs.Result.{OnOk};
+ghost use Rattle.bp_matter.specs.Matter.{Matter};
 ghost use Rattle.bp_matter.specs.declared.rows.Production.{Production};
 ghost use Rattle.bp_freeze.specs.Seeing.{page_count};
 ghost use Rattle.bp_press.specs.Contents.{ground_of, part_of};
 ghost use Rattle.bp_press.specs.Files.{item_files};
 ghost use Rattle.bp_press.specs.Needs.{CanBePressed};
-ghost use Rattle.bp_press.specs.Pressing.{CanAllBePlaced, CanBePlaced, files_from, images_in, placed_at};
+ghost use Rattle.bp_press.specs.Pressing.{AreSheetsFew, CanAllBePlaced, CanBePlaced, HasFewLabels, files_from, images_in, placed_at};
 ghost use Rattle.bp_press.specs.Volume.{files_before, placed_items};
 ghost use Rattle.bp_press.specs.VolumeFiles.{IsListed, Lists};
 
+use crate::load_rows::label_count;
 use bp_core::{Basis, DocNo, OutOfMemory, Treatment};
 use bp_matter::{Item, Production, Tables};
 use std::alloc::Global;
@@ -25,11 +27,12 @@ pub(crate) enum VolumeFile<'p> {
         place: u64,
         page: u32,
     },
-    // The sheet of an item that is withheld on a ground.
+    // A sheet of an item that is withheld on a ground. Its sheets are counted from 0.
     Sheet {
         item: &'p Item,
         place: u64,
         basis: Basis,
+        sheet: u32,
     },
     Text {
         item: &'p Item,
@@ -49,7 +52,7 @@ pub(crate) fn page_count(tables: &Tables, doc: DocNo) -> u32
     tables.docs[doc.0 as usize - 1].pages
 }
 
-#[tactic(auto, using(crate::proofs::ListLemmas::image_count))]
+#[tactic(auto, using(crate::proofs::ListLemmas::image_count, crate::proofs::ListLemmas::sheet_count))]
 // How many images an item has.
 pub(crate) fn image_count(tables: &Tables, production: &Production, item: &Item) -> u32
     requires { CanBePlaced production.now.request tables.now.matter item.now }
@@ -59,7 +62,7 @@ pub(crate) fn image_count(tables: &Tables, production: &Production, item: &Item)
     match item.treatment {
         Treatment::Produce => page_count(tables, item.doc),
         Treatment::Redact => page_count(tables, item.doc),
-        Treatment::Withhold(_) => 1,
+        Treatment::Withhold(_) => label_count(item) as u32,
     }
 }
 
@@ -111,6 +114,7 @@ fn list_item<'p>(
     requires from { 1 ≤ item.now.doc.0 }
     requires to { item.now.doc.0 ≤ length tables.now.matter.docs }
     requires places { place + 2 ^ 32 < 2 ^ 64 }
+    requires sheets { AreSheetsFew item.now (ground_of item.now.treatment) }
     ensures { (f : Production) → let m = tables.now.matter in
         let p = placed_at f m item.now place in
         CanBePlaced f.request m item.now
@@ -131,6 +135,7 @@ fn list_images<'p>(
     requires from { 1 ≤ item.now.doc.0 }
     requires to { item.now.doc.0 ≤ length tables.now.matter.docs }
     requires places { place + 2 ^ 32 < 2 ^ 64 }
+    requires sheets { AreSheetsFew item.now (ground_of item.now.treatment) }
     ensures { (f : Production) → let m = tables.now.matter in
         let p = placed_at f m item.now place in
         CanBePlaced f.request m item.now
@@ -139,11 +144,37 @@ fn list_images<'p>(
     match item.treatment {
         Treatment::Produce => list_pages(tables, item, place, list),
         Treatment::Redact => list_pages(tables, item, place, list),
-        Treatment::Withhold(basis) => {
-            list.push(VolumeFile::Sheet { item, place, basis })?;
-            Ok(())
-        }
+        Treatment::Withhold(basis) => list_sheets(item, place, basis, list),
     }
+}
+
+// Lists the sheets of an item that is withheld on a ground, one for each of its labels.
+fn list_sheets<'p>(
+    item: &'p Item,
+    place: u64,
+    basis: Basis,
+    list: &mut Vec<VolumeFile<'p>>,
+) -> Result<(), OutOfMemory>
+    requires sheets { HasFewLabels item.now }
+    requires places { place + 2 ^ 32 < 2 ^ 64 }
+    requires withheld { ground_of item.now.treatment ≡ Some basis }
+    ensures { (f : Production) (m : Matter)
+        → let p = placed_at f m item.now place in
+        CanBePlaced f.request m item.now
+        → OnOk result (Lists f m list.old.items (images_in f.request p) list.new.items) }
+{
+    let count = label_count(item) as u32;
+    let mut sheet = 0;
+    while sheet < count {
+        list.push(VolumeFile::Sheet {
+            item,
+            place,
+            basis,
+            sheet,
+        })?;
+        sheet += 1;
+    }
+    Ok(())
 }
 
 // Lists the images of the pages of an item that isn't withheld.

@@ -65,6 +65,32 @@ fn what_is_covered_changes_no_file(rt: HostRuntime) {
     are_told(&rt, rt.alloc(), TWO_MATTERS);
 }
 
+// The jobs of the two images of the first matter, of which each waits for the other to begin.
+const TWO_IMAGES: &str = "files
+file V/load.dat þBEGDOCþ%14þBEGATTACHþ%14þAUTHORþ%0aþA1þ%14þþ%14þSmithþ%0aþA2þ%14þþ%14þþ%0a
+file V/load.opt A1,,a.tif,Y%0aA2,,b.tif,Y%0a
+file V/words.csv A1,1,8,8,16,8,Smith%0a
+image V/a.tif plain 200 64 32 8 8 8 8
+image V/b.tif plain 200 8 1 0 0 0 0
+begin 1
+call 1 AddStaff Ito second 2 = staff 2
+import V = 2 2
+call 1 SetCall 1 yes redact - = done
+call 1 PutBox 1 1 1 8 8 16 8 PI = done
+call 1 HoldField 1 AUTHOR PI = done
+call 2 Confirm 1 = done
+call 1 SetCall 2 yes WP - = done
+call 1 PutEntry 2 2019-03-04 Ng Ortiz Note = done
+call 2 Confirm 2 = done
+call 1 Freeze R V1 AB- 4 1 2 AUTHOR = produced 1:1-1 2:2-2
+meet R = 2
+";
+
+#[test]
+fn two_images(rt: HostRuntime) {
+    are_told(&rt, rt.alloc(), TWO_IMAGES);
+}
+
 // The same, where the fifth append fails.
 const STOPPED: &str = "files
 file V/load.dat þBEGDOCþ%14þBEGATTACHþ%14þAUTHORþ%0aþA1þ%14þþ%14þSmithþ%0aþA2þ%14þþ%14þþ%0a

@@ -4,10 +4,11 @@ use bp_keep::{Keeper, MemKeeper};
 use bp_matter::Tables;
 use std::alloc::Global;
 use std::process::Abort;
+use std::thread::Threads;
 
 /// Each line of the script is told as it says.
-pub fn are_told(rt: &impl Abort, alloc: Global, script: &str) {
-    match differing(alloc, script) {
+pub fn are_told<R: Abort + Threads + Sync>(rt: &R, alloc: Global, script: &str) {
+    match differing(rt, alloc, script) {
         Ok(line) => assert_eq!(rt; line.as_str(), "none"),
         Err(_) => assert!(rt; false, "out of memory"),
     }

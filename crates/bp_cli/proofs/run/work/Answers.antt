@@ -6,9 +6,10 @@ use Rattle.bp_cli.specs.Burn.{burn_seen}
 use Rattle.bp_cli.specs.Words.{word_bytes}
 use Rattle.bp_cli.specs.Endings.{world}
 use Rattle.std.specs.Str.{chars}
-use Rattle.bp_cli.specs.Commands.{CommandLine, burn, init, import, produce, press, log, check, command_seen, command_of, ReadsAndWorks, ReadsAsOften}
+use Rattle.bp_cli.specs.Commands.{CommandLine, burn, init, import, produce, press, log, check, claw, command_seen, command_of, ReadsAndWorks, ReadsAsOften}
 use Rattle.bp_cli.proofs.BurnLemmas.{burn_reads}
 use Rattle.bp_cli.specs.Check.{check_seen}
+use Rattle.bp_cli.specs.Claw.{claw_seen}
 use Rattle.bp_cli.proofs.CheckLemmas.{check_reads}
 use Rattle.bp_cli.proofs.WorkLemmas.{never_read, words_lacked, words_refused}
 use Rattle.bp_cli.proofs.run.work.Goals as goal
@@ -94,6 +95,14 @@ returns-in-Some-Check-clause-works g c =
     subst (λ (o : Option CommandLine). ReadsAndWorks o before c.check_files.result after) is
     (check_reads (check_seen c.in-Some-Check.asked) (g.S.Source.shows c.args.source.now) (g.S.Source.shows c.check_files.new.source) keeper folder c.check_files.result c.check_files.ensures)
 
+pub returns-in-Some-Claw-clause-works : goal.returns-in-Some-Claw-clause-works
+returns-in-Some-Claw-clause-works g c =
+    let before = world (g.S.Source.shows c.args.source.now) (g.K.Keeper.shows c.args.keeper.now) (g.F.Folder.shows c.args.folder.now) in
+    let after = world (g.S.Source.shows c.claw_volume.new.source) (g.K.Keeper.shows c.claw_volume.new.keeper) (g.F.Folder.shows c.claw_volume.new.folder) in
+    let found : c.in_ok-command_in.field-0 ≡ Some (commands.Claw c.in-Some-Claw.asked) = c.in-Some-Claw.is ∙ ap (λ (x : Command). Some x) c.in-Some-Claw.field-0-is in
+    let is : Some (claw (claw_seen c.in-Some-Claw.asked)) ≡ command_of (word_bytes c.args.words.now) = ap (option_map command_seen) (sym found) ∙ c.in_ok-command_in.ensures in
+    subst (λ (o : Option CommandLine). ReadsAndWorks o before c.claw_volume.result after) is c.claw_volume.ensures.works
+
 -- ---- how often it read
 
 pub returns-in_err-command_in-clause-reads : goal.returns-in_err-command_in-clause-reads
@@ -131,3 +140,9 @@ returns-in-Some-Check-clause-reads g c =
     let found : c.in_ok-command_in.field-0 ≡ Some (commands.Check c.in-Some-Check.asked) = c.in-Some-Check.is ∙ ap (λ (x : Command). Some x) c.in-Some-Check.field-0-is in
     let is : Some (check (check_seen c.in-Some-Check.asked)) ≡ command_of (word_bytes c.args.words.now) = ap (option_map command_seen) (sym found) ∙ c.in_ok-command_in.ensures in
     subst (λ (o : Option CommandLine). ReadsAsOften o (g.S.Source.reads c.args.source.now) (g.S.Source.reads c.check_files.new.source)) is tt
+
+pub returns-in-Some-Claw-clause-reads : goal.returns-in-Some-Claw-clause-reads
+returns-in-Some-Claw-clause-reads g c =
+    let found : c.in_ok-command_in.field-0 ≡ Some (commands.Claw c.in-Some-Claw.asked) = c.in-Some-Claw.is ∙ ap (λ (x : Command). Some x) c.in-Some-Claw.field-0-is in
+    let is : Some (claw (claw_seen c.in-Some-Claw.asked)) ≡ command_of (word_bytes c.args.words.now) = ap (option_map command_seen) (sym found) ∙ c.in_ok-command_in.ensures in
+    subst (λ (o : Option CommandLine). ReadsAsOften o (g.S.Source.reads c.args.source.now) (g.S.Source.reads c.claw_volume.new.source)) is c.claw_volume.ensures.reads

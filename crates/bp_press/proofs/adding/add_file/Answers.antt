@@ -10,4 +10,5 @@ returns-in_err-add_line g c =
 
 pub returns : goal.returns
 returns g c =
-    adds_put c.args.row.now _ _ _ _ _ c.put_file.result _ _ c.as_str.ensures.characters c.as_slice.ensures c.as_slice-2.ensures c.in_ok-add_line.ensures c.put_file.ensures
+    adds_put c.args.file.now.row _ c.args.file.now.row.bytes _ _ _ c.put_file.result _ _ c.as_str.ensures.characters refl c.as_slice.ensures
+    (c.in_ok-add_line.ensures c.args.file.now.row.bytes c.requires) c.put_file.ensures

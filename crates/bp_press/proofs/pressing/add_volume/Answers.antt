@@ -4,8 +4,8 @@ use Rattle.bp_press.proofs.ItemLemmas.{on_err}
 use Rattle.bp_press.proofs.PressLemmas.{few_files, files_cut, gathered, lent_listed, manifest_cut, nothing_pressed, told-is, volume_end}
 use Rattle.bp_press.proofs.pressing.add_volume.Goals as goal
 
-pub add_listed-requires : goal.add_listed-requires
-add_listed-requires g c = (lent_listed c.args.production.now c.args.tables.now.matter _ _ _ c.as_slice.ensures.value c.in_ok-list.ensures).made
+pub add_listed-requires-clause-made : goal.add_listed-requires-clause-made
+add_listed-requires-clause-made g c κs within = (lent_listed c.args.production.now c.args.tables.now.matter _ _ _ c.as_slice.ensures.value c.in_ok-list.ensures).made
 
 pub file_count-requires : goal.file_count-requires
 file_count-requires g c =

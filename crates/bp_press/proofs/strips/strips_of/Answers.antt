@@ -4,7 +4,7 @@ use denote.Param.Send.{sendable}
 use Rattle.std.proofs.Crossing.{crosses}
 use Rattle.bp_press.specs.Jobs.{strip_by}
 use Rattle.bp_press.specs.declared.jobs.Job.{Job}
-use Rattle.bp_press.proofs.JobLemmas.{strips_done}
+use Rattle.bp_press.proofs.JobLemmas.{all_done}
 use Rattle.bp_press.proofs.ThreadLemmas.{bytes_send, job_sync, tables_sync}
 use Rattle.bp_press.proofs.strips.strips_of.Goals as goal
 
@@ -22,7 +22,7 @@ returns g c =
     let made = c.in_ok-made.made.items in
     let lent = c.as_slice-list.ensures in
     let long : length made ≡ length c.args.jobs.now = search rules in
-    strips_done (strip_by m) c.args.jobs.now made c.all_strips.result c.all_strips.ensures long
+    all_done (strip_by m) c.args.jobs.now made c.all_strips.result c.all_strips.ensures long
     (λ k d e less.
     let met : (j : Job) → IfOk (slice_index_or made k e) (λ strip. strip ≡ strip_by m (slice_index_or c.as_slice-list.result.now k j)) =
     (c.in_ok-made.ensures.each k e (subst (λ (jobs : List Job). k < length jobs) (sym lent) less)).1.met in

@@ -18,6 +18,11 @@ list_item-requires-clause-places c =
     let whole : c.loop-item.rest.now ≡ c.in-Some.item.now ∷ c.in-Some.others.now = search rules in
     (fit_turn _ _ _ _ _ _ whole c.loop-item.invariant.fit).1.0
 
+pub list_item-requires-clause-sheets : goal.list_item-requires-clause-sheets
+list_item-requires-clause-sheets c =
+    let whole : c.loop-item.rest.now ≡ c.in-Some.item.now ∷ c.in-Some.others.now = search rules in
+    (fit_turn _ _ _ _ _ _ whole c.loop-item.invariant.fit).0.sheets
+
 pub image_count-requires : goal.image_count-requires
 image_count-requires c =
     let whole : c.loop-item.rest.now ≡ c.in-Some.item.now ∷ c.in-Some.others.now = search rules in

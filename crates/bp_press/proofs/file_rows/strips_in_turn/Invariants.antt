@@ -1,0 +1,7 @@
+use Rattle.std.proofs.Common.{◌≡◌, map, take}
+use Rattle.bp_press.specs.Jobs.{strip_by}
+use Rattle.bp_press.proofs.file_rows.strips_in_turn.Given as goal
+
+-- the strips so far are those of the first jobs
+abbrev pub invariant-loop-job : goal.invariant-loop-job
+invariant-loop-job l = l.strips.items ≡ map (strip_by l.tables.matter) (take l.job-index l.jobs)

@@ -54,6 +54,7 @@ PARTS = {
     "office": Part("examples/office.sh", 10, OFFICE, desks=1),
     "deliver": Part("examples/deliver.sh", 10, [("curl", "curl")], desks=1),
     "check": Part("examples/check.sh", 10, OFFICE, desks=1),
+    "claw": Part("examples/claw.sh", 10, OFFICE, desks=1),
     "report": Part("tools/tests/matter_report.py", 10),
     "batch": Part("tools/tests/make_batch.py", 30),
     "page": Part("desk_page/tests/run.sh", 20),

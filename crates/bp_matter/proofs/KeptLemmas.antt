@@ -18,7 +18,7 @@ use Rattle.bp_t6.specs.Strips.{SaysFault, page_of}
 use Rattle.bp_t6.specs.Written.{strip_of, white_line}
 use Rattle.bp_t6.proofs.StripLemmas.{lines_to-read}
 use Rattle.bp_matter.specs.declared.kept_page.Frame.{Frame}
-use Rattle.bp_matter.specs.Images.{strip, is_grid, lines_of, in_frame, image_kept, IsKept, CodesOf}
+use Rattle.bp_matter.specs.Images.{strip, is_grid, lines_of, in_frame, image_kept, IsKept, IsReadFrom, CodesOf}
 use Rattle.bp_matter.proofs.ImageLemmas.{StripLaw, its_strip, lines_again, lines_taken, no_lines, other_strip, page_lines, plain_page}
 
 -- ---- read and coded again
@@ -164,3 +164,22 @@ taken_is_kept frame bytes across down is =
     let taken = lines_taken frame.width frame.height bytes lines (there (lines_of frame.width frame.height bytes) [] is) in
     let plain = plain_page frame.width frame.height lines taken.0 in
     record { page = record { sides = plain.sides; xres = across; yres = down; grid = plain.grid }; strip = taken.1 }
+
+-- lines that were read from a strip and coded again are a page in the frame
+anew_page : (frame : Frame) (bytes written : List ℕ) → IsTrue (sides_are_allowed frame.width frame.height) → FitsRes frame.xres → FitsRes frame.yres → (so : CodesOf frame.width frame.height bytes written)
+    → IsPage (in_frame frame so.lines)
+anew_page frame bytes written sides across down so = record { sides = sides; xres = across; yres = down; grid = so.grid }
+
+-- what was written of them is kept
+pub anew_is_kept : StripLaw → (frame : Frame) (bytes written kept : List ℕ) → IsTrue (sides_are_allowed frame.width frame.height) → FitsRes frame.xres → FitsRes frame.yres → CodesOf frame.width frame.height bytes written → kept ≡ written
+    → IsKept (image_kept frame kept) kept
+anew_is_kept law frame bytes written kept sides across down so same =
+    coded_is_kept law (in_frame frame so.lines) frame kept (anew_page frame bytes written sides across down so) refl (same ∙ so.codes)
+
+-- and seen as the page that was read
+pub anew_is_read : StripLaw → (frame : Frame) (bytes written kept : List ℕ) → IsTrue (sides_are_allowed frame.width frame.height) → FitsRes frame.xres → FitsRes frame.yres → CodesOf frame.width frame.height bytes written → kept ≡ written
+    → IsReadFrom frame bytes (image_kept frame kept)
+anew_is_read law frame bytes written kept sides across down so same =
+    let page = anew_page frame bytes written sides across down so in
+    subst (IsReadFrom frame bytes) (sym (coded_is law (in_frame frame so.lines) frame kept page refl (same ∙ so.codes)))
+    (record { page = page; framed = refl; reads = so.reads })

@@ -83,6 +83,21 @@ pub record IsKept (p : Image) (bytes : List ℕ) : Type 0 where
   pub page : IsPage p
   pub strip : bytes ≡ strip_of p
 
+-- a page in a frame whose lines are read from a strip
+-- by ITU-T T.6, 2.2.3
+pub record IsReadFrom (frame : Frame) (bytes : List ℕ) (p : Image) : Type 0 where
+  pub page : IsPage p
+  pub framed : p ≡ in_frame frame p.rows
+  pub reads : StripReads (bits_of High bytes) frame.width frame.height p.rows
+
+-- the page that is read from a strip, or that none is
+abbrev pub GivesRead : Frame → List ℕ → Option Image → Type 0
+GivesRead frame bytes None =
+    (lines : List (List Bool))
+    → StripReads (bits_of High bytes) frame.width frame.height lines
+    → ⊥
+GivesRead frame bytes (Some p) = IsReadFrom frame bytes p
+
 -- ---- the steps of a check
 
 -- lines of these sides that are read from the bytes, and the strip that they have

@@ -37,7 +37,7 @@ pub(crate) fn is_strip(
 }
 
 // The strip of the rows that are read from these bytes; None where they break a rule of T.6.
-fn coded_again(
+pub(crate) fn coded_again(
     alloc: Global,
     width: u32,
     height: u32,

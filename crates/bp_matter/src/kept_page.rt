@@ -1,11 +1,12 @@
 // A page kept as its strip.
-ghost use Rattle.std.specs.Prelude.{◌≡◌, ◌<◌, ◌^◌, IfOk, length};
+ghost use Rattle.std.specs.Prelude.{◌≡◌, ◌<◌, ◌^◌, IfOk, IsTrue, length};
 ghost use Rattle.bp_rows.specs.Image.{IsPage};
+ghost use Rattle.bp_rows.specs.Limits.{sides_are_allowed};
 ghost use Rattle.bp_t6.specs.Written.{strip_of};
-ghost use Rattle.bp_matter.specs.Images.{in_frame, lines_of};
+ghost use Rattle.bp_matter.specs.Images.{GivesRead, in_frame, lines_of};
 ghost use Rattle.bp_matter.specs.Reading.{Gives};
 
-use crate::images::is_strip;
+use crate::images::{coded_again, is_strip};
 use crate::read_fault::ReadFault;
 use bp_codes::Fill;
 use bp_core::{Bytes, OutOfMemory, Refusal};
@@ -68,6 +69,24 @@ impl KeptPage {
         ensures { IfOk result (λ kept. kept ≡ page.now) }
     {
         hold(alloc, framed_strip(alloc, page)?)
+    }
+
+    /// The page in this frame that a strip holds, in whatever spelling of T.6, with the first bit the
+    /// highest of its byte. Its rows are read and coded anew one at a time, without pixels. None where
+    /// one of them breaks a rule.
+    pub fn of_strip(
+        alloc: Global,
+        frame: Frame,
+        bytes: &[u8],
+    ) -> Result<Option<KeptPage>, OutOfMemory>
+        requires sides { IsTrue (sides_are_allowed frame.width frame.height) }
+        requires short { length bytes.now < 2 ^ 32 }
+        ensures { IfOk result (GivesRead frame bytes.now) }
+    {
+        match strip_anew(alloc, frame, bytes)? {
+            None => Ok(None),
+            Some(strip) => Ok(Some(hold(alloc, strip)?)),
+        }
     }
 
     /// The page in this frame whose strip these bytes are, as a kept row has them. They are copied, and
@@ -159,6 +178,23 @@ fn framed_strip(alloc: Global, page: &Page) -> Result<FramedStrip, OutOfMemory>
         unit: page.unit(),
     };
     Ok(FramedStrip { frame, strip })
+}
+
+// The strip of the rows that are read from these bytes, in this frame, where they are read.
+fn strip_anew(alloc: Global, frame: Frame, bytes: &[u8]) -> Result<Option<FramedStrip>, OutOfMemory>
+    requires sides { IsTrue (sides_are_allowed frame.width frame.height) }
+    requires short { length bytes.now < 2 ^ 32 }
+    ensures { IfOk result (GivesRead frame bytes.now) }
+{
+    strip_law();
+    match coded_again(alloc, frame.width, frame.height, bytes)? {
+        None => Ok(None),
+        Some(written) => {
+            // As behind the coder's bytes, there is room behind these.
+            let strip = Bytes::from_vec(Vec::from_slice(alloc, written.as_slice())?);
+            Ok(Some(FramedStrip { frame, strip }))
+        }
+    }
 }
 
 // These bytes, where they are the strip of a page in this frame.

@@ -116,7 +116,7 @@ pub fn add_volume<R: Threads + Sync, F: Folder, G: Gate + Sync>(
     folder: &mut F,
     gate: &G,
 ) -> Result<Pressed, FolderRefusal>
-    requires { CanBePressed production.now tables.now.matter }
+    requires pressed { CanBePressed production.now tables.now.matter }
     ensures told { let files = volume_of production.now tables.now.matter in
         IfOk result (λ pressed. pressed ≡ pressed_of files) }
     ensures files { let files = volume_of production.now tables.now.matter in

@@ -15,8 +15,8 @@ returns-in_err-replacement-clause-cut g c =
     on_err c.from_residual.result OutOfMemory _
     (nothing-replaced c.args.production.now c.args.notice.now c.args.volume.now c.args.tables.now.matter (g.F.Folder.shows c.args.folder.now)) (search rules)
 
-pub add_volume-requires : goal.add_volume-requires
-add_volume-requires g c sync sync_g =
+pub add_volume-requires-clause-pressed : goal.add_volume-requires-clause-pressed
+add_volume-requires-clause-pressed g c κs within =
     subst (λ (f : Production). CanBePressed f c.args.tables.now.matter) (sym c.in_ok-replacement.ensures)
     (replaced-pressed c.args.tables.now.matter c.know_valid.ensures c.args.production.now c.requires.kept c.args.notice.now c.requires.fits c.args.volume.now c.requires.named)
 

@@ -9,7 +9,7 @@ add_listed-requires-clause-made g c κs within = (lent_listed c.args.production.
 
 pub file_count-requires : goal.file_count-requires
 file_count-requires g c =
-    few_files c.args.production.now c.args.tables.now.matter _ c.requires (lent_listed c.args.production.now c.args.tables.now.matter _ _ _ c.as_slice-3.ensures.value c.in_ok-list.ensures)
+    few_files c.args.production.now c.args.tables.now.matter _ c.requires.pressed (lent_listed c.args.production.now c.args.tables.now.matter _ _ _ c.as_slice-3.ensures.value c.in_ok-list.ensures)
 
 pub returns-in_err-list-clause-cut : goal.returns-in_err-list-clause-cut
 returns-in_err-list-clause-cut g c =

@@ -6,8 +6,8 @@ use Rattle.bp_press.proofs.ReadLemmas.{read-back}
 use Rattle.bp_press.proofs.SameLemmas.{volume-same}
 use Rattle.bp_press.proofs.pressing.press.Goals as goal
 
-pub add_volume-requires : goal.add_volume-requires
-add_volume-requires g c sync sync_g = kept-pressed c.args.tables.now.matter c.know_valid.ensures c.args.production.now c.requires
+pub add_volume-requires-clause-pressed : goal.add_volume-requires-clause-pressed
+add_volume-requires-clause-pressed g c κs within = kept-pressed c.args.tables.now.matter c.know_valid.ensures c.args.production.now c.requires
 
 pub returns-in-Ok-clause-alike : goal.returns-in-Ok-clause-alike
 returns-in-Ok-clause-alike g c = λ other keeps agree.

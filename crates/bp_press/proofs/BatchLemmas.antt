@@ -1,5 +1,5 @@
 -- Files that are made together: the jobs of their images, and their strips.
-use Rattle.std.proofs.Common.{◌≡◌, ℕ, suc, ◌+◌, ◌-◌, ◌<◌, ◌≤◌, Bool, true, false, List, [], ◌∷◌, ◌++◌, length, map, flat_map, filter, take, drop, get_or, All, Option, Some, None, Result, refl, sym, ap, ap₂, subst, ◌∙◌, arith, append-nil, inl, inr, length-append}
+use Rattle.std.proofs.Common.{◌≡◌, ℕ, suc, ◌+◌, ◌-◌, ◌<◌, ◌≤◌, true, false, List, [], ◌∷◌, ◌++◌, length, map, flat_map, filter, take, drop, get_or, All, Option, Some, None, Result, refl, sym, ap, subst, ◌∙◌, arith, append-nil, inl, inr, length-append}
 use Rattle.std.specs.Prelude.{IfOk, IsTrue, is_some, slice_range, unwrap_or}
 use Rattle.std.proofs.Math.Seq.{take-suc}
 use Rattle.std.proofs.lemmas.Bool.{cases_Bool}
@@ -12,7 +12,6 @@ use Rattle.bp_rows.specs.Image.{Image, white_image}
 use Rattle.bp_rows.specs.Limits.{sides_are_imported}
 use Rattle.bp_rows.specs.declared.resolution.Unit.TheVariants.{Inch}
 use Rattle.bp_burn.specs.Band.{slip_resolution}
-use Rattle.bp_burn.specs.Drawn.{has_glyphs}
 use Rattle.bp_tiff.specs.Tiff.{tiff_of}
 use Rattle.bp_tiff.specs.declared.form.Form.TheVariants.{G4}
 use Rattle.bp_freeze.specs.Log.{label_in}
@@ -25,7 +24,6 @@ use Rattle.bp_matter.specs.declared.rows.Request.{Request}
 use Rattle.bp_press.specs.Batches.{HasImages, HasJob, IsDigested, is_image, jobs_by, made_by, page_job, row_made, sheet_job}
 use Rattle.bp_press.specs.Contents.{image_in, produced_page, slip_sheet, stamps_on}
 use Rattle.bp_press.specs.Jobs.{IsCodable, page_of, strip_by}
-use Rattle.bp_press.specs.Needs.{IsLabelled}
 use Rattle.bp_press.specs.VolumeFiles.{CanBeMade, bytes_in, row_of}
 use Rattle.bp_press.specs.declared.batches.MadeFile.{MadeFile}
 use Rattle.bp_press.specs.declared.jobs.Job.{Job}

@@ -1,6 +1,6 @@
 -- What jobs make, and the list of what threads made.
-use Rattle.std.proofs.Common.{◌≡◌, ℕ, ◌+◌, ◌<◌, zero, suc, List, [], ◌∷◌, ◌++◌, length, map, get_or, All, Option, Some, None, Result, Ok, Err, refl, sym, ap, ap₂, subst, ◌∙◌, arith, eqb}
-use Rattle.std.specs.Prelude.{IfOk, IsTrue, is_some, slice_index_or, unwrap_or}
+use Rattle.std.proofs.Common.{◌≡◌, ℕ, ◌+◌, ◌<◌, suc, List, [], ◌∷◌, length, map, get_or, Option, Some, None, Result, Ok, Err, refl, sym, ap, ap₂, subst, ◌∙◌, arith, eqb}
+use Rattle.std.specs.Prelude.{IfOk, IsTrue, unwrap_or}
 use Rattle.bp_core.specs.Sorted.{two_keys}
 use Rattle.bp_core.specs.declared.refusals.OutOfMemory.{OutOfMemory}
 use Rattle.bp_rows.specs.Image.{Image, IsPage, white_image}

@@ -1,5 +1,5 @@
 -- The images that jobs make.
-use Rattle.std.specs.Prelude.{◌≡◌, ◌+◌, ℕ, IsTrue, List, Option, is_some}
+use Rattle.std.specs.Prelude.{◌+◌, ℕ, IsTrue, List, is_some}
 use Rattle.bp_rows.specs.Image.{Image}
 use Rattle.bp_t6.specs.Written.{strip_of}
 use Rattle.bp_rows.specs.declared.resolution.Unit.TheVariants.{Inch}

@@ -1,4 +1,4 @@
-use Rattle.std.proofs.Common.{rules, ◌≡◌, ◌<◌, true, [], length, refl, arith}
+use Rattle.std.proofs.Common.{rules, ◌≡◌, ◌<◌, true, [], length, arith}
 use Rattle.bp_press.specs.declared.volume_files.VolumeFile.TheVariants.{Dat}
 use Rattle.bp_press.proofs.BatchLemmas.{jobs_begin, jobs_few, jobs_more}
 use Rattle.bp_press.proofs.batches.next_batch.Goals as goal

@@ -1,4 +1,4 @@
-use Rattle.std.proofs.Common.{ap, ◌≡◌, ◌++◌, ◌∙◌, List, ℕ, subst}
+use Rattle.std.proofs.Common.{ap, ◌≡◌, ◌++◌, List, ℕ, subst}
 use Rattle.std.specs.Prelude.{OnOk}
 use Rattle.bp_outside.specs.Folder.{file}
 use Rattle.bp_press.specs.Manifest.{manifest_line}

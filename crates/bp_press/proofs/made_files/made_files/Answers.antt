@@ -1,9 +1,7 @@
-use Rattle.std.proofs.Common.{rules, ◌≡◌, ◌<◌, List, length, sym, subst}
-use Rattle.std.specs.Prelude.{IfOk, slice_index_or}
+use Rattle.std.proofs.Common.{rules, ◌≡◌, length}
 use denote.Param.Send.{sendable}
 use Rattle.std.proofs.Crossing.{crosses}
 use Rattle.bp_press.specs.Batches.{made_by}
-use Rattle.bp_press.specs.declared.volume_files.VolumeFile.{VolumeFile}
 use Rattle.bp_press.proofs.JobLemmas.{all_done}
 use Rattle.bp_press.proofs.ThreadLemmas.{bytes_sync, job_sync, made_file_send, production_sync, tables_sync, volume_file_sync}
 use Rattle.bp_press.proofs.made_files.made_files.Goals as goal

@@ -1,6 +1,6 @@
 // What is pressed, by the mouse or by keys, and what it does.
 import { Keys, listKeys } from './keys.js'
-import { act, the } from './messages.js'
+import { act, asItStands, behind, the } from './messages.js'
 import { NotNow } from './review.js'
 import { progressOf } from './states.js'
 
@@ -66,7 +66,7 @@ export function listen({ review, paper, boxes, documents, call, held, second }) 
     leaveField: () => the('sheet').focus(),
   }, boxes, act)
   documents.begin()
-  act(() => held.readNames())()
+  behind(() => held.readNames())()
 }
 
 function focusOn(field) {
@@ -82,7 +82,7 @@ function showKeys() {
 
 async function lookAgain(review) {
   await review.look()
-  return `Document ${review.doc.doc} as it stands now.`
+  return asItStands(review.doc.doc)
 }
 
 async function openByNumber(review) {

@@ -33,11 +33,11 @@ export class Desk {
     return this.#inTurn(() => this.#exchange(path, { method: 'GET' }))
   }
 
-  // `unknown` is what to say where no desk answered
-  make(path, members, unknown = 'It isn’t known whether this was done: look again (L).') {
+  // `unknown` is what to say where no desk answered; a call on a document has it said by what keeps it in mind
+  make(path, members, unknown = '') {
     const request = { method: 'POST', body: JSON.stringify(members) }
     return this.#inTurn(() => this.#exchange(path, request)).catch((why) => {
-      if (why instanceof NoAnswer) why.message += ` ${unknown}`
+      if (why instanceof NoAnswer) why.message = `${why.message} ${unknown}`.trim()
       throw why
     })
   }

@@ -7,8 +7,8 @@ const REST = 150 // milliseconds
 const SPARE = 3 // rows beyond each edge
 
 export class Documents {
-  constructor(review, { list, tall, count, act }) {
-    Object.assign(this, { review, list, tall, count, act })
+  constructor(review, { list, tall, count, act, behind }) {
+    Object.assign(this, { review, list, tall, count, behind })
     this.drawn = new Map()
     this.isAsking = false
     list.addEventListener('scroll', () => this.draw())
@@ -47,8 +47,12 @@ export class Documents {
       this.drawn.delete(number)
     }
     for (let number = from; number <= to; number += 1) if (!this.drawn.has(number)) this.addRow(number)
+    this.askSoon()
+  }
+
+  askSoon() {
     clearTimeout(this.resting)
-    this.resting = setTimeout(this.act(() => this.ask()), REST)
+    this.resting = setTimeout(this.behind(() => this.ask()), REST)
   }
 
   addRow(number) {
@@ -100,6 +104,7 @@ export class Documents {
     else if (top + height > scrollTop + clientHeight) this.list.scrollTop = top + 2 * height - clientHeight
     this.redraw(number)
     this.list.setAttribute('aria-activedescendant', `document_${number}`)
+    this.askSoon() // what failed before: a desk answers now
   }
 
   press(event) {
@@ -116,13 +121,22 @@ export class Documents {
     if (this.isAsking) return null
     this.isAsking = true
     try {
-      for (let number = this.nextUntold(); number !== undefined; number = this.nextUntold()) {
-        await this.review.lookAt(number)
-      }
+      for (let number = this.nextUntold(); number !== undefined; number = this.nextUntold()) await this.lookAt(number)
     } finally {
       this.isAsking = false
     }
     return null
+  }
+
+  // why it failed may be said nowhere, so the row tells that it did
+  async lookAt(number) {
+    try {
+      await this.review.lookAt(number)
+    } catch (why) {
+      const row = this.drawn.get(number)
+      if (row !== undefined) row.querySelector('.state').textContent = 'no answer'
+      throw why
+    }
   }
 
   nextUntold() {

@@ -5,9 +5,9 @@ import { inShort, signOf } from './states.js'
 const MOST_ASKED = 12
 
 export class Family {
-  constructor(review, { place, act }) {
+  constructor(review, { place, act, behind }) {
     Object.assign(this, { review, place, act })
-    review.addEventListener('doc', act(({ detail }) => this.show(detail)))
+    review.addEventListener('doc', behind(({ detail }) => this.show(detail)))
     review.addEventListener('row', ({ detail }) => this.redraw(detail))
   }
 

@@ -8,7 +8,7 @@ import { Documents } from './documents.js'
 import { EntryForm } from './entry_form.js'
 import { Family } from './family.js'
 import { HeldFields } from './held_fields.js'
-import { act, reasonOf, say, the } from './messages.js'
+import { act, behind, keepUnsure, reasonOf, say, the } from './messages.js'
 import { Paper } from './paper.js'
 import { People } from './people.js'
 import { Productions } from './productions.js'
@@ -23,7 +23,7 @@ function build(review) {
     sheet: the('sheet'), paper: the('paper'), ink: the('ink'), over: the('over'), size: the('size'),
   })
   const boxes = new Boxes(review, paper, { list: the('boxes'), basis: the('basis'), showWords: the('show_words'), act })
-  const documents = new Documents(review, { list: the('documents'), tall: the('tall'), count: the('count'), act })
+  const documents = new Documents(review, { list: the('documents'), tall: the('tall'), count: the('count'), act, behind })
   const call = new CallForm(review, { form: the('call'), known: the('designations'), act })
   const held = new HeldFields(review, { form: the('hold'), list: the('held'), known: the('field_names'), act })
   const entry = new EntryForm(review, { form: the('entry'), act })
@@ -31,7 +31,7 @@ function build(review) {
     dialog: the('ask'), summary: the('asked'), yes: the('yes'), no: the('no'),
     confirm: the('confirm'), back: the('back'), act,
   })
-  new Family(review, { place: the('family'), act })
+  new Family(review, { place: the('family'), act, behind })
   new People(review.desk, {
     dialog: the('people'), form: the('person'), handed: the('handed'), newKey: the('new_key'), show: the('show_people'),
     close: the('close_people'), act,
@@ -42,6 +42,7 @@ function build(review) {
     names: () => held.names, act,
   })
   review.addEventListener('doc', ({ detail }) => showHead(detail))
+  review.addEventListener('unsure', ({ detail }) => keepUnsure(detail))
   review.addEventListener('page', act(({ detail }) => showPlace(review, detail)))
   review.unsent = () => [
     ...(call.isUnsent() ? ['the call'] : []),

@@ -3,6 +3,7 @@
 
 const LETTERS = 'abcdefghijkmnpqrstuvwxyz23456789' // 32, without l and o, which look like 1 and 0
 const GROUPS = 5 // of five letters: 125 bits
+const UNKNOWN = 'It isn’t known whether this was done: take the person in once more, under a name that tells the two apart.'
 
 // 25 letters in groups of five
 function makeKey() {
@@ -43,7 +44,7 @@ export class People {
     const key = makeKey()
     try {
       const digest = await digestOf(key)
-      const { staff } = await this.desk.make('/staff', { name: name.value, role: role.value, digest })
+      const { staff } = await this.desk.make('/staff', { name: name.value, role: role.value, digest }, UNKNOWN)
       this.tell(`${name.value} is staff ${staff}. Hand this key over; it is shown this once:`, key)
     } catch (why) {
       // the dialog stands before what is said on the page

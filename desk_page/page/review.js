@@ -1,5 +1,7 @@
 // The review as it stands in this window: which document and page are open, and what the desk told of them. It tells the
-// panels by events: `doc` when the open document was looked at, `page` when a page was read, `row` for any document told.
+// panels by events: `doc` when the open document was looked at, `page` when a page was read, `row` for any document told,
+// `unsure` when a call may have been made or not, and when its document was looked at again.
+import { NoAnswer } from './desk.js'
 import { readTiff } from './tiff.js'
 
 // The window isn't ready for what was pressed.
@@ -22,6 +24,7 @@ export class Review extends EventTarget {
     this.pages = new Map() // pages read, the latest last
     this.words = new Map()
     this.isShown = false // the open page stands on the screen, so that calls may be made
+    this.unsure = new Set() // the documents with a call that may have been made or not
     this.undoing = null // the confirmed document that is about to be edited
     this.unsent = () => [] // what a panel holds that wasn't sent
   }
@@ -57,6 +60,7 @@ export class Review extends EventTarget {
     const doc = await this.desk.see(`/docs/${number}`)
     this.rows.set(number, doc)
     this.tell('row', doc)
+    if (this.unsure.delete(number)) this.tell('unsure', { docs: [...this.unsure], seen: number })
     return doc
   }
 
@@ -133,9 +137,24 @@ export class Review extends EventTarget {
     if (!this.isShown) throw new NotNow('The document isn’t on the screen yet. Press again.')
     const { doc } = this.doc
     this.warnOfConfirmed(what)
-    await this.desk.make(`/docs/${doc}/${what}`, members)
-    if (this.doc.doc === doc) await this.look()
-    else await this.lookAt(doc)
+    await this.make(doc, what, members)
+    try {
+      if (this.doc.doc === doc) await this.look()
+      else await this.lookAt(doc)
+    } catch (why) {
+      why.message = `It was done, but document ${doc} wasn’t told anew: look again (L). ${why.message}`
+      throw why
+    }
+  }
+
+  // Where no desk answers, the call may have been made or not, until its document was looked at again.
+  async make(doc, what, members) {
+    try {
+      await this.desk.make(`/docs/${doc}/${what}`, members)
+    } catch (why) {
+      if (why instanceof NoAnswer) this.tell('unsure', { docs: [...this.unsure.add(doc)] })
+      throw why
+    }
   }
 
   // An edit takes a confirmation away: it is made at the second press alone.

@@ -18,13 +18,22 @@ ALONE = ["--headless=new", "--no-sandbox", "--disable-gpu", "--disable-dev-shm-u
          "--disable-extensions", "--no-proxy-server", "--host-resolver-rules=MAP * ~NOTFOUND, EXCLUDE 127.0.0.1"]
 
 
+# what is told where a page is left while something is asked of it
+LEFT = ("Inspected target navigated or closed", "Execution context was destroyed", "Cannot find context")
+
+
+class Left(RuntimeError):
+    """The page was left, or is loaded anew."""
+
+
 class Socket:
     """As much of a websocket as the protocol needs: texts both ways."""
 
     def __init__(self, url):
         host, _, path = url.removeprefix("ws://").partition("/")
         name, port = host.split(":")
-        self.peer = socket.create_connection((name, int(port)), timeout=120)
+        # an answer may take minutes where others have the processors
+        self.peer = socket.create_connection((name, int(port)), timeout=600)
         key = base64.b64encode(secrets.token_bytes(16)).decode()
         self.peer.sendall(
             f"GET /{path} HTTP/1.1\r\nHost: {host}\r\nUpgrade: websocket\r\nConnection: Upgrade\r\n"
@@ -83,7 +92,7 @@ class Chromium:
         except BaseException:
             self.close()
             raise
-        self.count, self.log, self.requests = 0, [], []
+        self.count, self.log, self.requests, self.under_way = 0, [], [], set()
         for part in ("Page", "Runtime", "Log", "Network"):
             self(part + ".enable")
         self("Emulation.setDeviceMetricsOverride", width=size[0], height=size[1], deviceScaleFactor=points, mobile=False)
@@ -109,7 +118,8 @@ class Chromium:
             told = json.loads(self.socket.receive())
             if told.get("id") == self.count:
                 if "error" in told:
-                    raise RuntimeError(told["error"])
+                    kind = Left if told["error"]["message"].startswith(LEFT) else RuntimeError
+                    raise kind(told["error"])
                 return told["result"]
             self.note(told)
 
@@ -125,6 +135,10 @@ class Chromium:
             self.log.append(json.dumps(event["params"]["args"]))
         elif event["method"] == "Network.requestWillBeSent":
             self.requests.append(event["params"]["request"])
+            self.under_way.add(event["params"]["requestId"])
+        elif event["method"] in ("Network.responseReceived", "Network.loadingFailed"):
+            # the end of an answer that the page doesn't read, as of a 502, is never told
+            self.under_way.discard(event["params"]["requestId"])
 
     def js(self, text):
         """The value of an expression; a promise is waited for."""
@@ -134,17 +148,34 @@ class Chromium:
         return told["result"].get("value")
 
     def until(self, text, seconds=60):
-        """Waits until an expression holds."""
+        """Waits until an expression holds; a page may be loaded anew meanwhile."""
         end = time.time() + seconds
         while time.time() < end:
-            if self.js(text):
-                return
+            try:
+                if self.js(text):
+                    return
+            except Left:
+                pass
             time.sleep(0.05)
         raise RuntimeError(f"never: {text}")
 
+    def rest(self, seconds=1):
+        """Waits until each request has its answer, and the page has asked for nothing for so long."""
+        end, asked, since = time.time() + 60, -1, 0
+        while time.time() < end:
+            self.js("0")  # events come with an answer
+            if self.under_way or len(self.requests) != asked:
+                asked, since = len(self.requests), time.time()
+            elif time.time() - since >= seconds:
+                return
+            time.sleep(0.05)
+        raise RuntimeError(f"never at rest: {self.requests[-1]['url']}")
+
     def go(self, url):
+        self.js("window.is_left = true")
+        self.under_way.clear()
         self("Page.navigate", url=url)
-        self.until("document.readyState === 'complete'")
+        self.until("window.is_left === undefined && document.readyState === 'complete'")
 
     def key(self, key, modifiers=0):
         """A key pressed and let go. Modifiers: 1 Alt, 2 Ctrl, 8 Shift."""

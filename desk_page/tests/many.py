@@ -27,7 +27,7 @@ def main():
         window.until("document.getElementById('title').textContent === 'Document 1'")
         took = time.time() - start
         window.until("document.querySelectorAll('#tall .state').length > 12")
-        time.sleep(3)
+        window.rest(2)
         calls = lambda: sum("/desk/" in request["url"] for request in window.requests)
         opened, rows = calls(), window.js("document.querySelectorAll('#tall .row').length")
         print(f"9,996 documents: open after {took:.1f} s and {opened} calls, with {rows} rows in the list")
@@ -36,7 +36,7 @@ def main():
         window.js("document.getElementById('documents').scrollTop = 1e9")
         window.until("document.getElementById('document_9996') !== null")
         window.until("document.getElementById('document_9996').querySelector('.state').textContent === 'not called'")
-        time.sleep(2)
+        window.rest(2)
         print(f"the end of the list: {calls() - opened} calls more")
         failed += calls() - opened > 40
         window.key("o")

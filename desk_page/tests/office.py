@@ -74,11 +74,14 @@ class Office:
             self.make_matter()
             self.open_desk()
             self.start_nginx()
-            for name, role, key in (("Ellis", "Reviewer", ELLIS), ("Marlow", "Second", MARLOW)):
-                self.take_in(name, role, key)
+            self.take_in_all()
         except BaseException:
             self.close()
             raise
+
+    def take_in_all(self):
+        for name, role, key in (("Ellis", "Reviewer", ELLIS), ("Marlow", "Second", MARLOW)):
+            self.take_in(name, role, key)
 
     def take_in(self, name, role, key):
         self.ask(LEAD, "POST", "/staff", dict(name=name, role=role, digest=digest(key)))

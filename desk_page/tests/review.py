@@ -25,11 +25,28 @@ def check(what, holds, more=""):
     print("ok         " if holds else "NOT AS DUE ", what, "" if holds else more, flush=True)
 
 
+# All that the page says, in its order: what stands at a moment may have taken the place of other words just before.
+HEARD = """window.heard = { said: [], denied: [], frozen: [] }
+document.addEventListener('DOMContentLoaded', () => {
+  for (const [place, texts] of Object.entries(heard)) {
+    const note = ({ addedNodes }) => texts.push(...Array.from(addedNodes, (node) => node.textContent))
+    new MutationObserver((all) => all.forEach(note)).observe(document.getElementById(place), { childList: true })
+  }
+})"""
+
+
 class Person(Chromium):
     """Who works at the page."""
 
+    def __init__(self, *words, **more):
+        super().__init__(*words, **more)
+        self("Page.addScriptToEvaluateOnNewDocument", source=HEARD)
+
     def enter(self, url, key):
         self.go(url)
+        self.come(key)
+
+    def come(self, key):
         self.click("#key")
         self.type(key)
         self.key("Enter")
@@ -38,19 +55,22 @@ class Person(Chromium):
     def text(self, name):
         return self.js(f"document.getElementById({name!r}).textContent")
 
-    def does(self, work, words):
-        """Does something, and waits for what is said of it."""
-        self.js("document.getElementById('said').textContent = ''")
-        work()
-        self.until(f"document.getElementById('said').textContent.includes({json.dumps(words)})", 30)
+    def heard(self, place="said"):
+        return self.js(f"heard.{place}")
 
-    def says(self, what, work, words):
+    def does(self, work, words, place="said"):
+        """Does something, and waits until that is said of it."""
+        before = len(self.heard(place))
+        work()
+        self.until(f"heard.{place}.slice({before}).some((text) => text.includes({json.dumps(words)}))")
+
+    def says(self, what, work, words, place="said"):
         """A check of what is said."""
         try:
-            self.does(work, words)
+            self.does(work, words, place)
             check(what, True)
-        except RuntimeError:
-            check(what, False, self.text("said"))
+        except RuntimeError as why:
+            check(what, False, (why, self.heard(place)[-5:]))
 
     def press(self, keys):
         for key in keys:
@@ -171,19 +191,13 @@ def try_keys(person, office):
     for key, words in (("nobody", "KeyUnknown"), ("clé", "plain keyboard")):
         person.click("#key")
         person.type(key)
-        person.key("Enter")
-        person.until("document.getElementById('denied').textContent !== ''", 30)
-        check(f"the key {key} is refused in words", words in person.text("denied"), person.text("denied"))
+        person.says(f"the key {key} is refused in words", lambda: person.key("Enter"), words, "denied")
         person.until("!document.querySelector('#enter button').disabled")
 
 
 def try_looking(person, office, shots):
     person.shot(os.path.join(shots, "enter.png"))
-    # on the page that refused two keys
-    person.click("#key")
-    person.type(ELLIS)
-    person.key("Enter")
-    person.until("document.getElementById('title').textContent === 'Document 1'")
+    person.come(ELLIS)  # on the page that refused two keys
     person.until("document.querySelectorAll('#tall .state').length === 12 && "
                  "[...document.querySelectorAll('#tall .state')].every((it) => it.textContent === 'not called')")
     check("12 documents, with what stands of each", person.text("count") == "12 documents")
@@ -204,9 +218,8 @@ def try_looking(person, office, shots):
     person.size("0.33")
     canvas_is("page 2 at a third", person, 1, 2)
     person.key("0")
-    for _ in range(50):
-        if person.text("place") == "page 3 of 3":
-            break
+    end = time.time() + 60
+    while person.text("place") != "page 3 of 3" and time.time() < end:
         person.key(" ")
         time.sleep(0.1)
     check("Space reads on to page 3", person.text("place") == "page 3 of 3", person.text("place"))
@@ -403,13 +416,72 @@ def try_second(person, office, shots):
     person.shot(os.path.join(shots, "review.png"))
 
 
+# What the page does by itself after a while waits until `let_go`; and who reads the list moves it.
+HELD = """(() => {
+  const held = []
+  window.setTimeout = (work) => held.push(work)
+  window.let_go = () => held.splice(0).forEach((work) => work())
+  window.scroll_list = () => document.getElementById('documents').dispatchEvent(new Event('scroll'))
+})()"""
+
+
+UNSURE = "It isn’t known whether a call of yours on document 1 was made: look again (L)."
+
+
 def try_without_desk(person, office):
+    person.go(office.url)
+    person.js(HELD)
+    person.come(MARLOW)
+    person.rest()  # the family was looked at; most rows weren't
+    row = lambda: person.js("document.querySelector('#document_5 .state').textContent")
     office.close_desk()
+    person.says("a look that nobody pressed for tells why it failed, where nothing else stands", lambda: person.js("let_go()"),
+                "No desk is open")
+    check("and its row tells that it did", row() == "no answer", row())
     person.says("without a desk", lambda: person.key("l"), "No desk is open")
     person.says("a call without a desk", lambda: person.press("y"), "look again")
-    if office.program:
-        office.open_desk()
-        person.says("a desk again", lambda: person.key("l"), "as it stands now")
+    try_unsure(person)
+    office.open_desk()
+    if not office.program:
+        office.take_in_all()  # a stand-in forgets
+    person.open(2)
+    person.says("a desk again", lambda: person.key("l"), "Document 2 as it stands now.")
+    check("another document's look leaves the words too", person.text("said").endswith(UNSURE), person.text("said"))
+    person.says("its own look takes them away", lambda: person.open(1), "Document 1 as it stands now.")
+    check("and nothing is unsure any more", UNSURE not in person.text("said"), person.text("said"))
+    person.js("let_go()")
+    person.rest()
+    check("the rows without an answer are asked for again", row() not in ("", "no answer"), row())
+    try_no_look(person)
+
+
+def try_unsure(person):
+    """That a call may have been made stands beside whatever comes after it."""
+    said, before = len(person.heard()), len(person.requests)
+    for _ in range(3):
+        person.js("scroll_list()")
+        person.js("let_go()")
+        person.rest()
+    asked = [request["url"] for request in person.requests[before:]]
+    check("looks that nobody pressed for fail behind it", len(asked) == 3 and all(url.endswith("/docs/5") for url in asked), asked)
+    check("and leave its words", len(person.heard()) == said and person.text("said").endswith(UNSURE), person.heard()[said - 1 :])
+    person.does(lambda: person.key("l"), "No desk is open")
+    check("a look that was pressed for, and fails, has them too", person.text("said").endswith(UNSURE), person.text("said"))
+    person.does(lambda: person.press("b"), "A new box")
+    check("and so has what needs no desk", person.text("said").endswith(UNSURE), person.text("said"))
+    person.key("Escape")
+
+
+def try_no_look(person):
+    """A call is made, and then no look comes."""
+    person.js("window.whole = window.fetch; window.fetch = (path, request) =>"
+              " request.method === 'GET' ? Promise.reject(new TypeError('cut off')) : whole(path, request)")
+    person.says("a call that was made is told so, though no look follows", lambda: person.press("yp"), "It was done, but document 1")
+    person.rest()
+    check("it isn't told as unsure", "It isn’t known" not in person.text("said"), person.text("said"))
+    person.js("window.fetch = window.whole")
+    person.says("and stands, by the next look", lambda: person.key("l"), "as it stands now")
+    check("as it was made", "Produce, responsive" in person.text("state"), person.text("state"))
 
 
 def try_secrets(person, key, office):
@@ -426,10 +498,8 @@ def try_secrets(person, key, office):
 
 def ask_production(person, words):
     """Presses Freeze, and waits for what the dialog tells."""
-    person.js("document.getElementById('frozen').textContent = ''")
-    person.click("#freeze > button")
     try:
-        person.until(f"document.getElementById('frozen').textContent.includes({json.dumps(words)})", 30)
+        person.does(lambda: person.click("#freeze > button"), words, "frozen")
         return True
     except RuntimeError:
         return False
@@ -489,9 +559,7 @@ def try_productions(person, ellis, office, shots):
         person.js("document.querySelector('#find').elements.id.value = ''")
         person.click("#find [name=id]")
         person.type(name)
-        person.click("#find button")
-        person.until("document.getElementById('frozen').textContent !== ''", 30)
-        check(f"a look at {name}", words in person.text("frozen"), person.text("frozen"))
+        person.says(f"a look at {name}", lambda: person.click("#find button"), words, "frozen")
     person.key("Escape")
 
 
@@ -590,7 +658,6 @@ def main():
         try_large_letters(office, shots)
         try_people(marlow, office, shots)
         try_productions(marlow, ellis, office, shots)
-        marlow.enter(office.url, MARLOW)
         try_without_desk(marlow, office)
         try_secrets(marlow, MARLOW, office)
         if office.program:

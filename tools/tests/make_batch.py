@@ -8,6 +8,7 @@ Needs what make_batch needs. Where another Debian package that makes inputs isn'
 last lines say which. Words: names of tests (`make_batch.py Scans`), as unittest takes them; none: all.
 """
 import csv
+import glob
 import os
 import re
 import shutil
@@ -641,7 +642,9 @@ class Refusals(Case):
             # where the tests run in the background of a shell, SIGINT is ignored by what they start
             running = subprocess.Popen([MAKE, self.folder, os.path.join(self.room, "OUT"), "--jobs", "1"], stderr=subprocess.PIPE,
                                        preexec_fn=lambda: signal.signal(signal.SIGINT, signal.SIG_DFL))
-            time.sleep(3)
+            end = time.monotonic() + 60
+            while not glob.glob(os.path.join(self.room, ".OUT.*", "*")) and running.poll() is None and time.monotonic() < end:
+                time.sleep(0.05)  # until it writes
             running.send_signal(number)
             running.communicate(timeout=60)
             self.assertEqual(running.returncode, 128 + number)

@@ -1,0 +1,69 @@
+#!/bin/sh
+# The press of letter pages by sixteen images at a time, as press.sh makes them: on one processor (taskset) and on all that there
+# are, beside the script with public tools (press_peer.sh) in as many processes (xargs -P); the memory beside the tables; two
+# volumes at once, each into a folder of its own; and the growth up to 20,000 pages. A time is on the clock, that of a run with
+# several volumes less that of a run with one, the least of all rounds; it tells little where other work runs beside.
+# Words: how many pages, 2,000 where none is given; how often each is run, 3 where none is given.
+# Needs rt on PATH, python3, taskset (Debian: util-linux), and of Debian netpbm.
+set -eu
+here=$(CDPATH='' cd -- "$(dirname -- "$0")" && pwd)
+bench=$here/../crates/bp_bench/out/bp_bench
+letter=$here/../examples/letter.tif
+pages=${1:-2000}
+rounds=${2:-3}
+processors=$(nproc)
+words=300
+
+stop() { echo "threads.sh: $1" >&2; exit 1; }
+
+for tool in taskset tifftopnm python3; do
+    command -v "$tool" > /dev/null || stop "needs $tool"
+done
+scratch=$(mktemp -d)
+trap 'rm -rf "$scratch"' EXIT
+(cd "$here/../crates/bp_bench" && rt run -- codes white index 1) > "$scratch/build.log" 2>&1 || { cat "$scratch/build.log"; exit 1; }
+out=$scratch/out
+tifftopnm -quiet "$letter" > "$scratch/letter.pbm"
+
+# processors, pages: processor and wall seconds of a volume, and MB
+volume_on() {
+    python3 "$here/cost.py" "$rounds" 2 "$out" taskset -c "$1" "$bench" press "$letter" "$2" "$words" 1 "$out" -- \
+        taskset -c "$1" "$bench" press "$letter" "$2" "$words" 3 "$out"
+}
+
+set -- $(volume_on 0 "$pages") $(volume_on "0-$((processors - 1))" "$pages")
+one=$2 all=$5
+awk -v n="$pages" -v p="$processors" -v time="$1" -v one="$2" -v all="$5" -v spent="$4" 'BEGIN {
+    printf "%d letter pages: %.2f s on one processor (%.2f ms of it a page, at most 4), %.2f s on %d: ", n, one, 1000 * time / n, all, p
+    printf "%.2f times as fast, %.2f of a linear speed-up (at least 0.85); %.2f ms of processor time a page\n",
+        one / all, one / all / p, 1000 * spent / n }'
+
+cat > "$scratch/peers.sh" << END
+#!/bin/sh
+seq $processors | xargs -P $processors -I{} "$here/press_peer.sh" "$scratch/letter.pbm" $((100 / processors)) "$scratch/peer/{}"
+END
+chmod +x "$scratch/peers.sh"
+set -- $(python3 "$here/cost.py" "$rounds" 1 "$scratch/peer" -- "$scratch/peers.sh")
+awk -v n=$((100 / processors * processors)) -v wall="$2" -v all="$all" -v pages="$pages" 'BEGIN {
+    printf "%d letter pages by public tools in as many processes: %.2f s, %.1f ms a page; press %.3f of it\n",
+        n, wall, 1000 * wall / n, (all / pages) / (wall / n) }'
+
+# one volume, and two at once: all but the making of the tables
+cat > "$scratch/two.sh" << END
+#!/bin/sh
+"$bench" press "$letter" $pages $words \$1 "$out/a" > /dev/null & first=\$!
+"$bench" press "$letter" $pages $words \$1 "$out/b" > /dev/null
+wait \$first
+END
+chmod +x "$scratch/two.sh"
+set -- $(python3 "$here/cost.py" "$rounds" 2 "$out" "$scratch/two.sh" 1 -- "$scratch/two.sh" 3)
+awk -v all="$all" -v two="$2" 'BEGIN { printf "two volumes at once: %.2f s, %.2f times one\n", two, two / all }'
+
+for count in 100 1000 5000 20000; do
+    set -- $(volume_on "0-$((processors - 1))" "$count") \
+        $(python3 "$here/cost.py" 1 1 "$out" "$bench" press "$letter" "$count" "$words" 0 "$out" -- \
+            "$bench" press "$letter" "$count" "$words" 1 "$out")
+    awk -v n="$count" -v wall="$2" -v time="$1" -v memory="$6" 'BEGIN {
+        printf "%6d letter pages: %.2f s, %.3f ms a page; %.2f ms of processor time a page; %.1f MB beside the tables\n",
+            n, wall, 1000 * wall / n, 1000 * time / n, memory }'
+done

@@ -13,6 +13,7 @@ pub mod CountLemmas
 pub mod PlanLemmas
 pub mod DatFactLemmas
 pub mod PageFactLemmas
+pub mod StripLemmas
 pub mod TextFactLemmas
 pub mod ValueFactLemmas
 pub mod RecordFactLemmas

@@ -2,16 +2,18 @@
 use Rattle.std.proofs.Common.{append_assoc, arith, ◌≡◌, ℕ, Bool, true, false, cond, Ok, Err, List, [], ◌∷◌, ◌++◌, refl, sym, ap, ◌∙◌, subst, encode_utf8, encode_utf8_all}
 use Rattle.std.specs.Str.{chars, all_scalars, IsUtf8}
 use Rattle.std.proofs.lemmas.Str.{chars-encodes, encodes-append}
+use Rattle.std.proofs.lemmas.Bool.{and_parts}
 use Rattle.bp_core.specs.Answers.{IfRule}
 use Rattle.bp_core.specs.Rules.{page_limit_rule}
 use Rattle.bp_core.specs.declared.refusals.Refusal.{Refusal}
 use Rattle.bp_core.specs.declared.refusals.Refusal.TheVariants as calls
+use Rattle.bp_matter.specs.Written.{image_written}
 use Rattle.bp_rows.specs.Image.{Image}
 use Rattle.bp_rows.specs.Limits.{sides_are_imported}
 use Rattle.bp_tiff.specs.Read.{TiffFault, TiffReads}
 use Rattle.bp_import.specs.Importing.{Comes}
 use Rattle.bp_import.specs.Refusals.{refused_at}
-use Rattle.bp_import.specs.Scans.{BytesAnswer, Scan, at_line, scan_with}
+use Rattle.bp_import.specs.Scans.{BytesAnswer, Scan, at_line, comes_in, scan_with}
 use Rattle.bp_import.specs.declared.refusals.ImportRefusal.{ImportRefusal}
 
 -- the page is refused
@@ -37,6 +39,12 @@ page_taken n bytes page w h fits wide high reads tests is = record {
   gives = sym (ap (λ b. cond b (Ok (scan_with bytes page)) (Err (at_line n (page_limit_rule page.width page.height))))
       (sym (ap (λ x. sides_are_imported x h) wide ∙ ap (λ y. sides_are_imported page.width y) high) ∙ sym tests ∙ is));
 }
+
+-- a page that was read and comes in
+pub page_came : (n : ℕ) (bytes : List ℕ) (page : Image) → TiffReads bytes page → comes_in page ≡ true → BytesAnswer n bytes (Ok (scan_with bytes page))
+page_came n bytes page reads comes =
+    page_taken n bytes page page.width page.height (sides_are_imported page.width page.height) refl refl reads refl
+    (and_parts (sides_are_imported page.width page.height) (image_written page) comes).0
 
 -- or not
 pub page_too_large : (n : ℕ) (bytes : List ℕ) (page : Image) (w h : ℕ) (fits : Bool) (given : ImportRefusal)

@@ -12,5 +12,6 @@ pub mod Records
 pub mod Refusals
 pub mod Scans
 pub mod Steps
+pub mod Strips
 pub mod Tables
 pub mod WordPages

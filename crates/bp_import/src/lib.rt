@@ -14,6 +14,7 @@ mod plans;
 mod records;
 mod refusals;
 mod scans;
+mod strips;
 mod tables;
 mod word_pages;
 

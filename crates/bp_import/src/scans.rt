@@ -8,6 +8,7 @@ ghost use Rattle.bp_import.specs.Scans.{BytesAnswer, GivesImages, LineAnswers, c
 use crate::digest::FilesDigest;
 use crate::files::{IMAGE, path_below, read_file};
 use crate::refusals::ImportRefusal;
+use crate::strips::page_of_one_strip;
 use bp_core::{ListOf, Refusal, Rule, RuleKind, Text, path_of};
 use bp_load::OptLine;
 use bp_matter::KeptPage;
@@ -124,12 +125,17 @@ fn at_line(refusal: Refusal, number: u32) -> ImportRefusal
     }
 }
 
-// The page of the bytes at line `number`, kept as its strip. Its pixels are let go.
+// The page of the bytes at line `number`, kept as its strip. Where it doesn't stand in one strip of
+// Group 4, its pixels are had and let go; and so the rule that a file breaks is told by `read_tiff`
+// alone.
 fn keep_page(alloc: Global, bytes: &[u8], number: u32) -> Result<KeptPage, ImportRefusal>
     ensures answer { Comes (λ page. scan_with bytes.now page) (BytesAnswer number bytes.now) result }
     ensures fits { IfOk result (λ page. IsTrue (comes_in page)) }
     ensures calm { IfErr result IsCalm }
 {
+    if let Some(page) = page_of_one_strip(alloc, bytes)? {
+        return Ok(page);
+    }
     let page = read_page(alloc, bytes, number)?;
     Ok(KeptPage::of(alloc, &page)?)
 }

@@ -160,7 +160,9 @@ fn put_replacement<R: Threads + Sync, F: Folder>(
         (F.shows folder.old) result (F.shows folder.new) }
 {
     tables.know_valid();
-    let pressed = replace(rt, alloc, tables, production, volume, notice, folder, &OpenGate)?;
+    let pressed = replace(
+        rt, alloc, tables, production, volume, notice, folder, &OpenGate,
+    )?;
     Ok(replacement_line(alloc, volume, production, pressed)?)
 }
 

@@ -1,6 +1,6 @@
 -- Lemmas of claw: from what loading the tables, reading the notice and replacing gave to the outcome of
 -- the command.
-use Rattle.std.proofs.Common.{ℕ, ◌≡◌, ◌+◌, Bool, true, false, cond, not, List, [], ◌∷◌, ◌++◌, Option, Some, None, Result, Ok, Err, refl, sym, ap, ap₂, subst, ◌∙◌, inl, inr}
+use Rattle.std.proofs.Common.{ℕ, ◌≡◌, ◌≤◌, ◌+◌, Bool, true, false, cond, not, List, [], ◌∷◌, ◌++◌, length, Option, Some, None, Result, Ok, Err, refl, sym, ap, subst, ◌∙◌, inl, inr}
 use Rattle.std.specs.FinMap as map
 use Rattle.std.specs.Prelude.{IfSome}
 use Rattle.std.specs.Result.{IsErr, IsErrAnd}
@@ -10,11 +10,12 @@ use Rattle.bp_core.specs.Paths.{path_in}
 use Rattle.bp_core.specs.Rules.{bare_rule, not_produced_rule, notice_twice_rule, rule_at_line}
 use Rattle.bp_core.specs.declared.kept.Row.{Row}
 use Rattle.bp_core.specs.declared.rules.Rule.{Rule}
-use Rattle.bp_core.specs.declared.rules.RuleKind.{RuleKind}
 use Rattle.bp_core.specs.declared.rules.RuleKind.TheVariants as kinds
 use Rattle.csv.specs.Reading.{default_config, records, strip_bom}
 use Rattle.bp_outside.specs.Folder.{FolderView}
-use Rattle.bp_outside.specs.Source.{FileMap, SourceView}
+use Rattle.bp_outside.specs.Source.{FileMap, ReadOver, SourceView, after_read}
+use Rattle.bp_outside.specs.declared.refusals.ReadRefusal.{ReadRefusal}
+use Rattle.bp_outside.specs.declared.refusals.ReadRefusal.TheVariants as reads
 use Rattle.bp_import.specs.Importing.{after_kind}
 use Rattle.bp_keep.specs.Keeper.{KeeperView}
 use Rattle.bp_matter.specs.KeptRows.{rows_of}
@@ -24,7 +25,6 @@ use Rattle.bp_matter.specs.Valid.{IsValid}
 use Rattle.bp_matter.specs.declared.rows.Production.{Production}
 use Rattle.bp_freeze.specs.Freezing.{kept_production}
 use Rattle.bp_freeze.specs.Refusals.{first_rule, is_taken, unless}
-use Rattle.bp_press.specs.Pressed.{pressed_of}
 use Rattle.bp_rules.specs.Loading.{LoadsTables}
 use Rattle.bp_rules.specs.declared.refusals.MatterRefusal.{MatterRefusal}
 use Rattle.bp_rules.specs.declared.refusals.MatterRefusal.TheVariants as refusals
@@ -36,16 +36,17 @@ use Rattle.bp_claw.specs.declared.notices.Claim.{Claim}
 use Rattle.bp_claw.proofs.AgreeLemmas.{replacement-same}
 use Rattle.bp_cli.specs.declared.stops.Stop.{Stop}
 use Rattle.bp_cli.specs.declared.stops.Stop.TheVariants as stops
-use Rattle.bp_cli.specs.Burn.{path_refused}
-use Rattle.bp_cli.specs.Claw.{ClawAlike, ClawAsked, ClawOutcome, ShowSameBut, claw_gives, file_gives, notice_gives, replaced_unless, replacement_done}
-use Rattle.bp_cli.specs.Clawing.{LacksToReplace, PutsFiles, PutsReplacement, ReadsFile, ReplacesAfter, ReplacesBy, StopsAt, all_added, none_added, some_added}
+use Rattle.bp_cli.specs.declared.burn.TheConstants.{FILE_LIMIT}
+use Rattle.bp_cli.specs.Claw.{ClawAsked, ClawOutcome, ShowSameBut, claw_gives, file_gives, notice_gives, replaced_unless, replacement_done}
+use Rattle.bp_cli.specs.Clawing.{PutsReplacement, ReadsFile, ReplacesAfter, ReplacesBy, StopsAt, all_added, none_added, some_added}
 use Rattle.bp_cli.specs.Commands.{claw, uses_of, IsOutcome, ReadsAndWorks}
 use Rattle.bp_cli.specs.Endings.{Ending, Ends, Outcome, World, done, partly, refused, untouched, wholly, world}
 use Rattle.bp_cli.specs.Kept.{MatterAnswers, OfTwo}
-use Rattle.bp_cli.specs.NamedFiles.{FileAnswers, FileAt, FileNamed, file_read}
+use Rattle.bp_cli.specs.NamedFiles.{FileAnswers}
 use Rattle.bp_cli.specs.Press.{kept_gives}
-use Rattle.bp_cli.specs.Stops.{StopsForMatter}
-use Rattle.bp_cli.proofs.KeptLemmas.{as_loaded, by_stop, calm_by, kept_matter, kept_rule, load_calls, load_calm, load_left, read_itself}
+use Rattle.bp_cli.specs.Stops.{StopsForMatter, read_stop}
+use Rattle.bp_cli.proofs.KeptLemmas.{as_loaded, by_stop, kept_matter, kept_rule, load_calls, load_calm, load_left, read_itself}
+use Rattle.bp_cli.proofs.NamedFileLemmas.{absent_at, at_path, bytes_at, long_at, one_file, some_file}
 
 -- claw over what is known, with the rows as they were loaded
 abbrev known : SourceView → KeeperView → KeeperView → FolderView → World
@@ -68,22 +69,16 @@ claw_reads asked s s' before mid folder folder' loads r loaded works = record {
   calls = load_calls (uses_of (claw asked)) before mid loads refl loaded;
 }
 
--- ---- a file that is read has one answer
+-- ---- the file of the notice
 
-some_named : (told : Option FileMap) (path : Option (List ℕ)) → (answer : Result (List ℕ) Rule) × FileNamed told path answer
-some_named told None = (Err path_refused, refl)
-some_named None (Some path) = (file_read None, record { found = None; there = tt; read = refl })
-some_named (Some files) (Some path) = (file_read (map.get files path), record { found = map.get files path; there = refl; read = refl })
+pub file_came : (named path : List ℕ) (before after : SourceView) (bytes : List ℕ) → path_in named ≡ Some path → length bytes ≤ FILE_LIMIT → IfSome before.files (λ files. map.get files path ≡ Some bytes) → after ≡ before → ReadsFile named before (Ok bytes) after
+file_came named path before after bytes is short there stays = (at_path before.files named path (Ok bytes) is (bytes_at before.files path bytes short there), stays)
 
-pub some_named_file : (told : Option FileMap) (named : List ℕ) → (answer : Result (List ℕ) Rule) × FileAnswers told named answer
-some_named_file told named = some_named told (path_in named)
-
-one_named : (files : FileMap) (path : Option (List ℕ)) (a b : Result (List ℕ) Rule) → FileNamed (Some files) path a → FileNamed (Some files) path b → a ≡ b
-one_named files None a b x y = x ∙ sym y
-one_named files (Some path) a b x y = sym x.read ∙ ap file_read (sym x.there ∙ y.there) ∙ y.read
-
-pub one_named_file : (files : FileMap) (named : List ℕ) (a b : Result (List ℕ) Rule) → FileAnswers (Some files) named a → FileAnswers (Some files) named b → a ≡ b
-one_named_file files named a b x y = one_named files (path_in named) a b x y
+pub file_unread : (named path : List ℕ) (before after : SourceView) (refusal : ReadRefusal) → path_in named ≡ Some path → IfSome before.files (ReadOver path FILE_LIMIT (Err refusal)) → after ≡ after_read before (Err refusal) → ReadsFile named before (Err (read_stop refusal)) after
+file_unread named path before after reads.Absent is there left = (at_path before.files named path (Err (bare_rule kinds.FileAbsent)) is (absent_at before.files path there), left)
+file_unread named path before after reads.TooLong is there left = (at_path before.files named path (Err (bare_rule kinds.FileTooLong)) is (long_at before.files path there), left)
+file_unread named path before after reads.Failed is there left = left
+file_unread named path before after reads.OutOfMemory is there left = left
 
 -- ---- rules that raise no count
 
@@ -154,7 +149,7 @@ load_stops : (asked : ClawAsked) (s : SourceView) (before mid : KeeperView) (fol
     → ClawWorks asked s before mid folder (Err stop) s folder
 load_stops asked s before mid folder (refusals.Rule rule) loaded stop is =
     subst (λ (x : Stop). ClawWorks asked s before mid folder (Err x) s folder) (sym is)
-    (let found = some_named_file s.files asked.notice in
+    (let found = some_file s.files asked.notice in
     record {
       outcome = record { tables = Err rule; loaded = loaded.rule; kept = kept_rule mid.rows rule loaded.told_after; file = found.0; found = found.1; gives = refl };
       source = load_calm s rule.kind loaded.rule;
@@ -217,10 +212,11 @@ file_stops asked s s' before mid folder tables stops.FolderFault valid loaded re
 file_stops asked s s' before mid folder tables stops.KeeperFault valid loaded read = absurd read
 
 pub file_refused : (asked : ClawAsked) (s s' : SourceView) (before mid : KeeperView) (folder : FolderView) (tables : Shown) (stop : Stop) (r : Ending) → IsValid tables.matter → LoadsTables before (Ok tables) mid → ReadsFile asked.notice s (Err stop) s'
-    → r ≡ Err stop → ClawEnds asked s before mid folder r s' folder
-file_refused asked s s' before mid folder tables stop r valid loaded read is =
+    → IsErr r → IsErrAnd r (λ x. x ≡ stop) → ClawEnds asked s before mid folder r s' folder
+file_refused asked s s' before mid folder tables stop r valid loaded read is same =
     claw_reads asked s s' before mid folder folder (Ok tables) r loaded
-    (subst (λ e. ClawWorks asked s before mid folder e s' folder) (sym is) (file_stops asked s s' before mid folder tables stop valid loaded read))
+    (by_stop (λ e. ClawWorks asked s before mid folder e s' folder) (λ x. x ≡ stop) r is same
+    (λ x at. subst (λ (y : Stop). ClawWorks asked s before mid folder (Err y) s' folder) (sym at) (file_stops asked s s' before mid folder tables stop valid loaded read)))
 
 -- ---- the file was read
 
@@ -320,7 +316,7 @@ pub claw_one : (asked : ClawAsked) (files : FileMap) (rows : List Row) (o o' : O
     → ClawOutcome asked (Some files) (Some rows) o → ClawOutcome asked (Some files) (Some rows) o' → o ≡ o'
 claw_one asked files rows o o' one x y =
     sym x.gives ∙ ap (λ (t : Result Matter Rule). claw_gives asked t x.file) (one x.tables y.tables x.kept y.kept)
-    ∙ ap (claw_gives asked y.tables) (one_named_file files asked.notice x.file y.file x.found y.found) ∙ y.gives
+    ∙ ap (claw_gives asked y.tables) (one_file files asked.notice x.file y.file x.found y.found) ∙ y.gives
 
 same_notice : (asked : ClawAsked) (files : FileMap) (m n : Matter) (f : Production) (bytes : List ℕ) (answer : Result (List Claim) Rule) → notice_of bytes ≡ answer → kept_production m.productions asked.id ≡ Some f
     → FileAnswers (Some files) asked.notice (Ok bytes) → ShowSameBut asked files m n → notice_gives asked.volume m f answer ≡ notice_gives asked.volume n f answer

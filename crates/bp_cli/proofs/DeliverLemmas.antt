@@ -1,8 +1,7 @@
 -- Lemmas of delivering: from what loading the tables, reading the file of grants, opening the desk and
 -- serving the door gave to how the work of deliver ends.
-use Rattle.std.proofs.Common.{ℕ, ◌≡◌, ◌≤◌, ◌<◌, ◌+◌, ◌++◌, ◌==◌, if◌then◌else◌, Bool, true, false, List, [], ◌∷◌, length, Option, Some, None, Result, Ok, Err, refl, sym, ap, subst, ◌∙◌, arith}
-use Rattle.std.proofs.lemmas.Bool.{le-ltb, lt-ltb}
-use Rattle.std.specs.Prelude.{IfSome, IsSomeAnd, not, is_none, nat_le}
+use Rattle.std.proofs.Common.{ℕ, ◌≡◌, ◌≤◌, ◌+◌, ◌++◌, ◌==◌, if◌then◌else◌, Bool, true, false, List, [], ◌∷◌, length, Option, Some, None, Result, Ok, Err, refl, sym, ap, subst, ◌∙◌, arith}
+use Rattle.std.specs.Prelude.{IfSome, not, is_none, nat_le}
 use Rattle.std.specs.FinMap as map
 use Rattle.std.specs.List.{list_any}
 use Rattle.std.specs.Result.{IsErr, IsErrAnd}
@@ -26,7 +25,7 @@ use Rattle.bp_matter.specs.Valid.{IsValid}
 use Rattle.bp_freeze.specs.Freezing.{kept_production}
 use Rattle.bp_outside.specs.Door.{DoorView}
 use Rattle.bp_outside.specs.Out.{OutView}
-use Rattle.bp_outside.specs.Source.{FileMap, ReadOver, SourceView, after_read}
+use Rattle.bp_outside.specs.Source.{ReadOver, SourceView, after_read}
 use Rattle.bp_outside.specs.declared.refusals.ReadRefusal.{ReadRefusal}
 use Rattle.bp_outside.specs.declared.refusals.ReadRefusal.TheVariants as reads
 use Rattle.bp_receiver.specs.EventServing.{DeliversDoor, desk_view}
@@ -49,12 +48,13 @@ use Rattle.bp_cli.specs.Burn.{path_refused}
 use Rattle.bp_cli.specs.Burning.{NamesPath}
 use Rattle.bp_cli.specs.Words.{is_bad_word, word_of}
 use Rattle.bp_cli.specs.declared.deliver.TheConstants.{DELIVER_WORDS}
-use Rattle.bp_cli.specs.Deliver.{DeliverAsked, DeliverEnds, Delivers, DeliversNothing, FileAnswers, FileAt, FileNamed, deliver_named, deliver_of, deliver_with, delivered_line, desk_with, file_read, nobody, office, opened_by, unsaid, with_opened}
+use Rattle.bp_cli.specs.Deliver.{DeliverAsked, DeliverEnds, Delivers, DeliversNothing, deliver_named, deliver_of, deliver_with, delivered_line, desk_with, nobody, office, opened_by, unsaid, with_opened}
 use Rattle.bp_cli.specs.Delivering.{DeliversAnyhow, DeliversWith, HoldsGrants, ReadsGrants, touched}
 use Rattle.bp_cli.specs.Endings.{Ending, KeeperLeft}
+use Rattle.bp_cli.specs.NamedFiles.{FileNamed}
 use Rattle.bp_cli.specs.Stops.{StopsFor, StopsForMatter, read_stop}
-use Rattle.bp_cli.proofs.BurnLemmas.{longer}
 use Rattle.bp_cli.proofs.KeptLemmas.{as_loaded, by_stop, keeps_matter, kept_matter, kept_rule, load_calm, load_left}
+use Rattle.bp_cli.proofs.NamedFileLemmas.{absent_at, at_path, bytes_at, long_at, some_file}
 
 -- a fact that doesn't depend on what is there
 pub if_some : {A : Type 0} (found : Option A) (P : Type 0) → P → IfSome found (λ _. P)
@@ -142,52 +142,6 @@ turn_rule m grants n (new ∷ rows) =
 
 calm_of : (r : Result (List Grant) Rule) (rule : Rule) → HasGrantRule r → r ≡ Err rule → (source : SourceView) → source ≡ after_kind source rule.kind
 calm_of r rule is broken = λ source. grant_rule_calm source rule.kind (subst HasGrantRule broken is)
-
--- ---- the file of grants
-
--- what some file answers
-some_file_at : (told : Option FileMap) (named : Option (List ℕ)) → (file : Result (List ℕ) Rule) × FileNamed told named file
-some_file_at told None = (Err path_refused, refl)
-some_file_at None (Some path) = (Err (bare_rule kinds.FileAbsent), record { found = None; there = tt; read = refl })
-some_file_at (Some files) (Some path) = (file_read (map.get files path), record { found = map.get files path; there = refl; read = refl })
-
-some_file : (told : Option FileMap) (named : List ℕ) → (file : Result (List ℕ) Rule) × FileAnswers told named file
-some_file told named = some_file_at told (path_in named)
-
--- over told files there is one answer
-one_file_at : (files : FileMap) (named : Option (List ℕ)) (a b : Result (List ℕ) Rule) → FileNamed (Some files) named a → FileNamed (Some files) named b → a ≡ b
-one_file_at files None a b x y = x ∙ sym y
-one_file_at files (Some path) a b x y = sym x.read ∙ ap file_read (sym x.there ∙ y.there) ∙ y.read
-
-pub one_file : (files : FileMap) (named : List ℕ) (a b : Result (List ℕ) Rule) → FileAnswers (Some files) named a → FileAnswers (Some files) named b → a ≡ b
-one_file files named a b x y = one_file_at files (path_in named) a b x y
-
-abbrev file_or : List ℕ → Bool → Result (List ℕ) Rule
-file_or bytes long = if long then Err (bare_rule kinds.FileTooLong) else Ok bytes
-
--- the bytes of a file that is short enough
-short_read : (bytes : List ℕ) → length bytes ≤ FILE_LIMIT → file_read (Some bytes) ≡ Ok bytes
-short_read bytes short =
-    ap (file_or bytes) (le-ltb FILE_LIMIT (length bytes) short)
-
-long_read : (found : Option (List ℕ)) → IsSomeAnd found (λ bytes. FILE_LIMIT < length bytes) → file_read found ≡ Err (bare_rule kinds.FileTooLong)
-long_read None long = absurd long
-long_read (Some bytes) long =
-    ap (file_or bytes) (lt-ltb FILE_LIMIT (length bytes) long)
-
--- the answer at a path that a word names
-at_path : (told : Option FileMap) (named path : List ℕ) (answer : Result (List ℕ) Rule) → path_in named ≡ Some path → FileAt path told answer → FileAnswers told named answer
-at_path told named path answer is file = subst (λ (o : Option (List ℕ)). FileNamed told o answer) (sym is) file
-
-bytes_at : (told : Option FileMap) (path bytes : List ℕ) → length bytes ≤ FILE_LIMIT → IfSome told (λ files. map.get files path ≡ Some bytes) → FileAt path told (Ok bytes)
-bytes_at told path bytes short there = record { found = Some bytes; there = there; read = short_read bytes short }
-
-absent_at : (told : Option FileMap) (path : List ℕ) → IfSome told (λ files. map.get files path ≡ None) → FileAt path told (Err (bare_rule kinds.FileAbsent))
-absent_at told path there = record { found = None; there = there; read = refl }
-
-long_at : (told : Option FileMap) (path : List ℕ) → IfSome told (λ files. IsSomeAnd (map.get files path) (λ bytes. FILE_LIMIT < length bytes)) → FileAt path told (Err (bare_rule kinds.FileTooLong))
-long_at None path long = record { found = Some (longer FILE_LIMIT).0; there = tt; read = long_read (Some (longer FILE_LIMIT).0) (longer FILE_LIMIT).1 }
-long_at (Some files) path long = record { found = map.get files path; there = refl; read = long_read (map.get files path) long }
 
 -- ---- reading it
 

@@ -9,14 +9,15 @@ use Rattle.bp_outside.specs.Out.{OutView}
 use Rattle.bp_outside.specs.Source.{FileMap, SourceView}
 use Rattle.bp_receiver.specs.Events.{Holding}
 use Rattle.bp_cli.specs.declared.stops.Stop.TheVariants as stops
-use Rattle.bp_cli.specs.Deliver.{DeliverAsked, DeliverEnded, DeliverEnds, DeliverPromises, DeliverRanShort, DeliverWasCut, DeliversOver, FileAnswers, InputsServe, Office, Opens, OpensOver, deliver_statuses, opening_of, with_opened}
+use Rattle.bp_cli.specs.Deliver.{DeliverAsked, DeliverEnded, DeliverEnds, DeliverPromises, DeliverRanShort, DeliverWasCut, DeliversOver, InputsServe, Office, Opens, OpensOver, deliver_statuses, opening_of, with_opened}
 use Rattle.bp_cli.specs.Delivering.{DeliversWith}
 use Rattle.bp_cli.specs.Endings.{Ending, status_of, text_of}
+use Rattle.bp_cli.specs.NamedFiles.{FileAnswers}
 use Rattle.bp_cli.specs.Kept.{MatterAnswers}
 use Rattle.bp_cli.specs.Printing.{Prints, whole, cut, lacking, instead}
 use Rattle.bp_cli.specs.Runs.{IsAmong}
 use Rattle.bp_cli.proofs.AlikeLemmas.{RowsLaw, matter_one}
-use Rattle.bp_cli.proofs.DeliverLemmas.{one_file}
+use Rattle.bp_cli.proofs.NamedFileLemmas.{one_file}
 use Rattle.bp_cli.proofs.RunLemmas.{never_rose}
 use Rattle.bp_cli.proofs.StatusLemmas.{among_three, among_two, cut_part, is_broken, is_done, is_keeper_fault, is_source_fault, lacking_part, out_rose, out_sure, rose_at, whole_of}
 

@@ -36,7 +36,8 @@ use Rattle.bp_cli.specs.declared.serve.TheConstants.{MAX_CONNECTIONS, MAX_DESKS,
 use Rattle.bp_cli.specs.declared.statuses.TheConstants.{DONE, WORDS_REFUSED, RULE_BROKEN, SOURCE_FAULT, FOLDER_FAULT, KEEPER_FAULT, OUT_OF_MEMORY, OUT_FAULT}
 use Rattle.bp_cli.specs.declared.words.TheConstants.{MAX_DIGITS}
 use Rattle.bp_cli.specs.Produce.{width_of}
-use Rattle.bp_cli.specs.Deliver.{deliver_of, delivered_line, file_read, opening_of}
+use Rattle.bp_cli.specs.Deliver.{deliver_of, delivered_line, opening_of}
+use Rattle.bp_cli.specs.NamedFiles.{file_read}
 use Rattle.bp_cli.specs.declared.deliver.TheConstants.{DELIVER_WORDS}
 use Rattle.bp_cli.specs.Serve.{serve_of}
 

@@ -13,6 +13,7 @@ mod InitLemmas
 mod KeptLemmas
 mod LabelLemmas
 mod LeadLemmas
+mod NamedFileLemmas
 mod OperandLemmas
 mod PrintingLemmas
 mod ProduceLemmas

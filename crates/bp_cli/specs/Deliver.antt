@@ -1,15 +1,11 @@
 -- The command `deliver`: its line, what its desk opens with, and what delivering comes to.
-use Rattle.std.specs.Prelude.{ℕ, ◌≡◌, ◌≢◌, ◌==◌, true, nat_lt, Option, Some, None, Result, Ok, Err, List, [], ◌∷◌, ◌++◌, length, codes, IfSome, if◌then◌else◌}
+use Rattle.std.specs.Prelude.{ℕ, ◌≡◌, ◌≢◌, ◌==◌, true, Option, Some, None, Result, Ok, Err, List, [], ◌∷◌, ◌++◌, length, codes, IfSome, if◌then◌else◌}
 use Rattle.std.specs.Fmt.{decimal}
-use Rattle.std.specs.FinMap as map
 use Rattle.std.specs.List.{list_any}
 use Rattle.std.specs.Str.{bytes_eq, chars}
 use Rattle.bp_core.specs.Counts.{risen}
-use Rattle.bp_core.specs.Paths.{path_in}
-use Rattle.bp_core.specs.Rules.{bare_rule}
 use Rattle.bp_core.specs.declared.kept.Row.{Row}
 use Rattle.bp_core.specs.declared.rules.Rule.{Rule}
-use Rattle.bp_core.specs.declared.rules.RuleKind.TheVariants as kinds
 use Rattle.bp_import.specs.Importing.{after_kind}
 use Rattle.bp_keep.specs.Keeper.{KeeperView, SameRows}
 use Rattle.bp_matter.specs.Matter.{Matter}
@@ -25,14 +21,13 @@ use Rattle.bp_receiver.specs.Granting.{grant_each}
 use Rattle.bp_receiver.specs.Laws.{EventsLaw, WantLaw}
 use Rattle.bp_receiver.specs.declared.grants.Grant.{Grant}
 use Rattle.bp_rules.specs.Steps.{AtMostOnce, KeepsRows}
-use Rattle.bp_cli.specs.declared.burn.TheConstants.{FILE_LIMIT}
 use Rattle.bp_cli.specs.declared.deliver.DeliverLine.{DeliverLine}
 use Rattle.bp_cli.specs.declared.deliver.TheConstants.{DELIVER_WORDS}
 use Rattle.bp_cli.specs.declared.statuses.TheConstants.{DONE, RULE_BROKEN, SOURCE_FAULT, KEEPER_FAULT, OUT_OF_MEMORY, OUT_FAULT}
 use Rattle.bp_cli.specs.declared.stops.Stop.TheVariants as stops
-use Rattle.bp_cli.specs.Burn.{path_refused}
 use Rattle.bp_cli.specs.Endings.{Ending, KeeperLeft, failed_source, line_of, status_of, text_of}
 use Rattle.bp_cli.specs.Kept.{CanBeLoaded, MatterAnswers}
+use Rattle.bp_cli.specs.NamedFiles.{FileAnswers}
 use Rattle.bp_cli.specs.Printing.{failed_out}
 use Rattle.bp_cli.specs.Runs.{IsAmong, PrintsPart}
 use Rattle.bp_cli.specs.Serve.{is_connections}
@@ -72,30 +67,6 @@ deliver_with doors words =
 abbrev pub deliver_of : ℕ → List (List ℕ) → Option DeliverAsked
 deliver_of doors words =
     if length words == DELIVER_WORDS then deliver_with doors words else None
-
--- ---- its file
-
--- what is read where a file stands or doesn't
-abbrev pub file_read : Option (List ℕ) → Result (List ℕ) Rule
-file_read None = Err (bare_rule kinds.FileAbsent)
-file_read (Some bytes) =
-    if nat_lt FILE_LIMIT (length bytes) then Err (bare_rule kinds.FileTooLong) else Ok bytes
-
--- what is read at a path, over the files that are told; where they aren't, over some
-pub record FileAt (path : List ℕ) (told : Option FileMap) (answer : Result (List ℕ) Rule)
-    : Type 0 where
-  pub found : Option (List ℕ)
-  pub there : IfSome told (λ files. map.get files path ≡ found)
-  pub read : file_read found ≡ answer
-
--- what is read at the path that a word names, if it names one
-abbrev pub FileNamed : Option FileMap → Option (List ℕ) → Result (List ℕ) Rule → Type 0
-FileNamed told None answer = answer ≡ Err path_refused
-FileNamed told (Some path) answer = FileAt path told answer
-
--- the same of the word
-abbrev pub FileAnswers : Option FileMap → List ℕ → Result (List ℕ) Rule → Type 0
-FileAnswers told named answer = FileNamed told (path_in named) answer
 
 -- ---- what its desk opens with
 

@@ -12,8 +12,9 @@ use Rattle.bp_receiver.specs.declared.grants.Grant.{Grant}
 use Rattle.bp_rules.specs.Steps.{AtMostOnce}
 use Rattle.bp_cli.specs.declared.stops.Stop.{Stop}
 use Rattle.bp_cli.specs.declared.stops.Stop.TheVariants as stops
-use Rattle.bp_cli.specs.Deliver.{DeliverAsked, DeliverEnds, FileAnswers, Office, office, records_of, with_opened}
+use Rattle.bp_cli.specs.Deliver.{DeliverAsked, DeliverEnds, Office, office, records_of, with_opened}
 use Rattle.bp_cli.specs.Endings.{Ending, failed_source}
+use Rattle.bp_cli.specs.NamedFiles.{FileAnswers}
 
 -- ---- the file of grants
 

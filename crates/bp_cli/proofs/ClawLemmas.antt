@@ -234,8 +234,8 @@ met asked s s' before mid folder tables bytes rule valid loaded read gives calm 
 pub not_kept : (asked : ClawAsked) (s s' : SourceView) (before mid : KeeperView) (folder : FolderView) (tables : Shown) (bytes : List ℕ) → IsValid tables.matter → LoadsTables before (Ok tables) mid → ReadsFile asked.notice s (Ok bytes) s'
     → kept_production tables.matter.productions asked.id ≡ None → ClawEnds asked s before mid folder (Err (stops.Broken (bare_rule kinds.NoProduction))) s' folder
 not_kept asked s s' before mid folder tables bytes valid loaded read none =
-    claw_reads asked s s' before mid folder folder (Ok tables) _ loaded
-    (met asked s s' before mid folder tables bytes (bare_rule kinds.NoProduction) valid loaded read (ap (kept_gives _) none) refl)
+    claw_reads asked s s' before mid folder folder (Ok tables) (Err (stops.Broken (bare_rule kinds.NoProduction))) loaded
+    (met asked s s' before mid folder tables bytes (bare_rule kinds.NoProduction) valid loaded read (ap (kept_gives (λ f. notice_gives asked.volume tables.matter f (notice_of bytes))) none) refl)
 
 -- what the replacement of a production comes to
 abbrev due : ClawAsked → Matter → Production → List Claim → Outcome
@@ -275,7 +275,7 @@ files_work asked s s' before mid folder folder' tables bytes f notice (Err stops
 files_work asked s s' before mid folder folder' tables bytes f notice (Err stops.OutOfMemory) valid loaded read gives puts =
     let files = replacement_of f notice asked.volume tables.matter in
     let left = load_left before mid (Ok tables) before.faults loaded loaded.faults in
-    let comes = λ none. outcome_of asked s before mid tables (Ok bytes) (due asked tables.matter f notice) valid loaded read.0 (gives ∙ ap (λ (o : Option Rule). replaced_unless o asked.volume f files) none) in
+    let comes : replace_rule tables.matter f asked.volume notice ≡ None → ClawOutcome asked s.files mid.rows (due asked tables.matter f notice) = λ none. outcome_of asked s before mid tables (Ok bytes) (due asked tables.matter f notice) valid loaded read.0 (gives ∙ ap (λ (o : Option Rule). replaced_unless o asked.volume f files) none) in
     elim puts [
       | none_added same ↦ untouched read.1 left same
       | some_added none part ↦ partly _ files None (comes none) read.1 left part

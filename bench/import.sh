@@ -1,14 +1,15 @@
 #!/bin/sh
 # An import beside the sum of its parts: processor time of `read_batch` and `step_import` over a made batch of letter pages
 # at 300 dots an inch (Group 4, 376 words each), beside that of reading each image file, digesting it, reading its page and
-# coding its strip; then the growth up to 450 pages;
-# and of 1,000 to 10,000 documents of one small page, which is to grow in a line. A time is the least of three runs.
-# A word: how many letter pages, 200 where none is given. Needs rt on PATH and python3.
+# coding its strip; the same of pages in one strip, as most scanners write them, which come in without pixels; then the growth
+# up to 450 pages, and of 1,000 to 10,000 documents of one small page, which is to grow in a line. A time is the least of three runs.
+# A word: how many letter pages, 200 where none is given. Needs rt on PATH, python3 and tiffcp (Debian: libtiff-tools).
 set -eu
 here=$(CDPATH='' cd -- "$(dirname -- "$0")" && pwd)
 bench=$here/../crates/bp_bench/out/bp_bench
 letter=$here/../examples/letter.tif
 pages=${1:-200}
+command -v tiffcp > /dev/null || { echo "import.sh: needs tiffcp (Debian: libtiff-tools)" >&2; exit 1; }
 scratch=$(mktemp -d)
 trap 'rm -rf "$scratch"' EXIT
 (cd "$here/../crates/bp_bench" && rt run -- codes white index 1) > "$scratch/build.log" 2>&1 || { cat "$scratch/build.log"; exit 1; }
@@ -42,14 +43,21 @@ print(f"{least:.4f} {most / 1024:.0f}")' "$bench" "$1" "$scratch" "$2" 1
 # name, pages, image, words a page, pages a document
 make() { python3 "$here/make_import.py" "$scratch/$1" "$2" "$3" "$4" "$5"; }
 
-for count in "$pages" 300 450; do
-    make "L$count" "$count" "$letter" 376 3
+# pages, image, what its pages are: import beside its parts
+beside_parts() {
+    count=$1 what=$3
+    make "L$count" "$count" "$2" 376 3
     set -- $(cost_of import_parts "L$count") $(cost_of import "L$count")
-    awk -v n="$count" -v parts="$1" -v whole="$3" -v memory="$4" 'BEGIN {
-        printf "%5d letter pages: parts %.2f s, import %.2f s, %.3f times; %.2f ms and %.2f MB a page\n",
-            n, parts, whole, whole / parts, 1000 * whole / n, memory / n }'
+    awk -v n="$count" -v what="$what" -v parts="$1" -v whole="$3" -v memory="$4" 'BEGIN {
+        printf "%5d %s: parts %.2f s, import %.2f s, %.3f times; %.2f ms and %.2f MB a page\n",
+            n, what, parts, whole, whole / parts, 1000 * whole / n, memory / n }'
     rm -rf "$scratch/L$count"
-done
+}
+
+# letter.tif has strips of 64 rows
+tiffcp -c g4 -r 3300 "$letter" "$scratch/one_strip.tif"
+beside_parts "$pages" "$scratch/one_strip.tif" "letter pages in one strip"
+for count in "$pages" 300 450; do beside_parts "$count" "$letter" "letter pages"; done
 for count in 1000 2000 5000 10000; do
     make "S$count" "$count" "$scratch/small.tif" 4 1
     set -- $(cost_of import "S$count")

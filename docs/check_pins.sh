@@ -3,9 +3,9 @@
 # cites a constant follows it, also to a wrong value. Prints each constant of crates/*/src that a file of specs/ cites
 # (by its import from a module TheConstants) and that no worked example pins, and ends with status 1 where there is one.
 #
-# A pin is a line of proofs/*Examples*.antt whose type says `NAME ≡ VALUE`, or, where the limit stands as a bound,
-# `is_most NAME VALUE ≡ true` (an example at the limit and just past it). A table (a constant of an array's type) needs
-# none: a law says of it what it must hold.
+# A pin is a line of proofs/*Examples*.antt whose type says `NAME ≡ VALUE`, or the same of a list of names and one of as
+# many numbers, or, where the limit stands as a bound, `is_most NAME VALUE ≡ true` (an example at the limit and just past
+# it). A table (a constant of an array's type) needs none: a law says of it what it must hold.
 set -euo pipefail
 cd "$(dirname "$0")/.."
 
@@ -69,10 +69,19 @@ def cited_in(text, constants):
     return {key for name, key in names.items() if re.search(word(name), body)}
 
 
+LISTS = re.compile(r"\(((?:[A-Z][A-Z0-9_]*\s*∷\s*)+)\[\]\)\s*≡\s*\(((?:[0-9_]+\s*∷\s*)+)\[\]\)")
+
+
+# the names of each list that is the same as one of as many numbers
+def listed_in(text):
+    parts = lambda cells: [cell.strip() for cell in cells.split("∷") if cell.strip()]
+    return {name for names, numbers in LISTS.findall(text) if len(parts(names)) == len(parts(numbers)) for name in parts(names)}
+
+
 def pinned_in(text, constants):
-    names = names_in(text, constants)
+    names, listed = names_in(text, constants), listed_in(text)
     pin = r"%s\s*≡|\bis_most\s+%s\s+[0-9_]+\s*≡\s*true"
-    return {key for name, key in names.items() if re.search(pin % (word(name), word(name)), text)}
+    return {key for name, key in names.items() if name in listed or re.search(pin % (word(name), word(name)), text)}
 
 
 def main():

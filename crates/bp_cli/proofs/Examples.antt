@@ -38,6 +38,7 @@ use Rattle.bp_cli.specs.declared.words.TheConstants.{MAX_DIGITS}
 use Rattle.bp_cli.specs.Produce.{width_of}
 use Rattle.bp_cli.specs.Deliver.{deliver_of, delivered_line, opening_of}
 use Rattle.bp_cli.specs.NamedFiles.{file_read}
+use Rattle.bp_cli.specs.declared.claw.TheConstants.{CLAW_WORDS}
 use Rattle.bp_cli.specs.declared.deliver.TheConstants.{DELIVER_WORDS}
 use Rattle.bp_cli.specs.Serve.{serve_of}
 
@@ -381,6 +382,9 @@ deliver_option = refl
 
 deliver_words : DELIVER_WORDS ≡ 3
 deliver_words = refl
+
+claw_words : CLAW_WORDS ≡ 3
+claw_words = refl
 
 -- a file that isn't there is no file of grants; neither is one with a bad record
 grants_absent : (m : Matter) → opening_of (Ok m) (file_read None) ≡ Err (bare_rule kinds.FileAbsent)

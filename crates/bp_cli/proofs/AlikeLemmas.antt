@@ -39,8 +39,9 @@ use Rattle.bp_cli.specs.Burn.{BurnLine, BurnPaths, HasPage, BurnAlike, lacks_a_s
 use Rattle.bp_cli.specs.Commands.{CommandLine, Inputs, burn, init, import, produce, press, log, check, claw, uses_of, AreKnown, AlikeFor, ComesTo, IsOutcome, RowsAlike, ShowAlike}
 use Rattle.bp_cli.specs.Claw.{ClawOutcome, claw_gives}
 use Rattle.bp_cli.proofs.CheckLemmas.{check_one, some_check}
-use Rattle.bp_cli.proofs.ClawLemmas.{claw_alike, claw_one, some_named_file}
+use Rattle.bp_cli.proofs.ClawLemmas.{claw_alike, claw_one}
 use Rattle.bp_cli.proofs.KeptLemmas.{answers_loaded}
+use Rattle.bp_cli.proofs.NamedFileLemmas.{some_file as some_named_file}
 use Rattle.bp_cli.proofs.ProduceLemmas.{same_frozen, same_logged, same_pressed, some_rows}
 use Rattle.bp_cli.proofs.RunLemmas.{AlikeOutcome}
 

@@ -32,7 +32,7 @@ pub fn put_volume<R: Threads + Sync, F: Folder>(
     production: &Production,
     folder: &mut F,
 ) -> Result<Bytes, Stop>
-    requires { Keeps tables.now.matter production.now }
+    requires kept { Keeps tables.now.matter production.now }
     ensures { let volume = volume_of production.now tables.now.matter in
         PutsVolume production.now volume (F.shows folder.old) result (F.shows folder.new) }
 {

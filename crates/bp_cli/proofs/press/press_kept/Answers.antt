@@ -37,8 +37,8 @@ returns-in-None g c =
     (rows_rule false (press_gives (chars c.args.id.now)) before mid folder c.in_ok-tables.tables (bare_rule NoProduction) c.know_valid.ensures c.in_ok-tables.ensures.loaded
     (ap (kept_gives (λ f. volume_done f (volume_of f m) None)) none) (λ source. refl))
 
-pub put_volume-requires : goal.put_volume-requires
-put_volume-requires g c =
+pub put_volume-requires-clause-kept : goal.put_volume-requires-clause-kept
+put_volume-requires-clause-kept g c κs within =
     let m = c.in_ok-tables.tables.matter in
     c.found_is_kept.ensures m c.in_ok-id.id c.in-Some.production.now (some_found m.productions c.in_ok-id.id c.in_ok-id.id c.production.result c.in-Some.production c.production.ensures refl c.in-Some.is)
 

@@ -18,8 +18,8 @@ returns-in_err-production g c =
     c.in_ok-tables.tables c.freeze_for_lead.new.tables.matter c.in_err-production.field-0.0 residual.result
     c.know_valid.ensures c.in_ok-tables.ensures.loaded c.in_err-production.ensures residual.ensures.0 residual.ensures.1
 
-pub put_volume-requires : goal.put_volume-requires
-put_volume-requires g c =
+pub put_volume-requires-clause-kept : goal.put_volume-requires-clause-kept
+put_volume-requires-clause-kept g c κs within =
     let froze = c.in_ok-production.ensures in
     let f = c.in_ok-production.production in
     subst (λ (m : Matter). Keeps m f) (sym froze.matter) (c.a_freeze_keeps.ensures.its_own c.in_ok-tables.tables.matter c.args.request f froze.answer)

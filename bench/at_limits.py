@@ -1,8 +1,9 @@
 #!/usr/bin/env python3
-"""The limits of docs/STATUSES.md and docs/FORMATS.md at their size and one above: at_limits.py PROGRAM [journal]. Prints a
+"""The limits of docs/STATUSES.md and docs/FORMATS.md at their size and one above: at_limits.py PROGRAM [PART..]. Prints a
 line of a table for each: what it is, status, line, seconds on the clock, and the peak of memory in MB. Ends with status 1
-where a status or a line isn't what is due. With `journal` also a desk of 1,048,576 calls, which takes some minutes. Takes
-the ports 48201 and 48202. Needs 2 GB where temporary files stand.
+where a status or a line isn't what is due. Parts are burns, imports, largest_matter, productions, requests, delivered, desks,
+which all run where none is named, and journal, desks of 1,048,576 calls, which takes some minutes. Takes the ports 48201 to
+48216. Needs 2 GB where temporary files stand.
 """
 import hashlib
 import os
@@ -21,6 +22,7 @@ import fuzz_matter as matters
 import fuzz_pages as pages
 
 KEY, MB = days.KEYS[0], 1024
+days.LIMIT = 900  # seconds: a large file, a machine with other work
 DIGEST = days.DIGESTS[0]
 failed = 0
 
@@ -205,14 +207,14 @@ def requests(room):
         body = b"{" + b" " * (1048574 + more) + b"}"
         head = f"POST /docs/1/back HTTP/1.1\r\nDesk-Key: {KEY}\r\nContent-Length: {len(body)}\r\n\r\n".encode()
         asked.append((f"a body of {len(body):,} bytes", head + body))
-        for length in (200, 201):
-            asked.append((f"a date of {length} bytes", post("/docs/1/entry", {"date": "x" * length, "author": "", "recipients": "", "description": ""})))
-        for length in (1000, 1001):
-            asked.append((f"a description of {length:,} bytes", post("/docs/1/entry", {"date": "", "author": "", "recipients": "", "description": "x" * length})))
-        for length in (40, 41):
-            asked.append((f"a designation of {length} characters", post("/docs/1/call", {"responsive": True, "treatment": "Redact", "designation": "X" * length})))
-        for number in (1000, 1001):
-            asked.append((f"a box of number {number:,}", post("/docs/1/box", {"num": number, "page": 1, "left": 0, "top": 0, "width": 8, "height": 1, "basis": "PI"})))
+    for length in (200, 201):
+        asked.append((f"a date of {length} bytes", post("/docs/1/entry", {"date": "x" * length, "author": "", "recipients": "", "description": ""})))
+    for length in (1000, 1001):
+        asked.append((f"a description of {length:,} bytes", post("/docs/1/entry", {"date": "", "author": "", "recipients": "", "description": "x" * length})))
+    for length in (40, 41):
+        asked.append((f"a designation of {length} characters", post("/docs/1/call", {"responsive": True, "treatment": "Redact", "designation": "X" * length})))
+    for number in (1000, 1001):
+        asked.append((f"a box of number {number:,}", post("/docs/1/box", {"num": number, "page": 1, "left": 0, "top": 0, "width": 8, "height": 1, "basis": "PI"})))
     staff = [post("/staff", {"name": f"m{k}", "role": "Reviewer", "digest": hashlib.sha256(b"%d" % k).hexdigest()}) for k in range(1000)]
     room.fresh()
     days.write_rows(room.folder, matters.rows_of(matter))
@@ -228,6 +230,60 @@ def requests(room):
             print(f"| {what} | {status[9:12]} | `{body[:76]}` | {time.monotonic() - began:.3f} | |" + ("" if got == due else " NOT AS DUE"))
         failed += got != due
     room.end(process, f"`serve`, these and the {len(staff):,} of the staff", 0, f"served {calls}")
+
+
+def delivered(room):
+    """1,000 grants and one more; files of grants, notices and volumes at the limit of a file."""
+    matter = matters.begun(DIGEST)
+    matter.batches.append((DIGEST, 1, 1, "B"))
+    matter.docs.append({"parent": 1, "pages": 1, "batch": 1, "id": "D", "values": []})
+    matter.pages[1, 1], matter.words[1, 1] = pages.Page(8, 1, [[]]), []
+    matter.calls[1] = (1, 1, 0, True, "Produce", "")
+    matter.staff += [("Receiver", k.to_bytes(32, "big"), f"r{k}") for k in range(2, 1001)]
+    matter.docs += [dict(matter.docs[0], parent=k) for k in (2, 3)]
+    matter.batches[0] = (DIGEST, 3, 3, "B")
+    for k in (2, 3):
+        matter.pages[k, 1], matter.words[k, 1], matter.calls[k] = pages.Page(8, 1, [[]]), [], matter.calls[1]
+    for k in (1, 2):
+        matters.freeze(matter, {"id": f"R{k}", "volume": f"V{k}", "prefix": "AB-", "width": 4, "from": k, "to": k, "fields": []})
+    room.fresh()
+    days.write_rows(room.folder, matters.rows_of(matter))
+    volume = days.volume_of(matter, matter.productions[0])
+    batches.write_folder(room.folder, volume)
+    pairs = [f"{k},R{1 + (k == 1001)}" for k in range(2, 1001)] + ["2,R2", "3,R2"]
+    for count in (1000, 1001):
+        room.write("grants.csv", "".join(pair + "\n" for pair in pairs[:count]).encode())
+        words = ("deliver", "1", "grants.csv")
+        if count == 1001:
+            room.check_refused("`deliver`, 1,001 grants", matters.Rule(35, 9, 1001, line=1001), *words)
+            continue
+        process = room.start(words)
+        days.ask(48201, f"GET /docs/1 HTTP/1.1\r\nDesk-Key: {KEY}\r\n\r\n".encode(), time.monotonic())
+        room.end(process, "`deliver`, 1,000 grants", 0, "delivered 1")
+    for more in (0, 1):
+        size = batches.MOST + more
+        name = f"{size:,} bytes"
+        room.write("grants.csv", b"2,R1\n".ljust(size, b"\n"))
+        if more:
+            room.check_refused(f"`deliver`, a file of grants of {name}", matters.Rule(55), "deliver", "1", "grants.csv")
+        else:
+            process = room.start(("deliver", "1", "grants.csv"))
+            days.ask(48201, f"GET /docs/1 HTTP/1.1\r\nDesk-Key: {KEY}\r\n\r\n".encode(), time.monotonic())
+            room.end(process, f"`deliver`, a file of grants of {name}", 0, "delivered 1")
+        room.write("notice.csv", b"1,AC,,,,\n".ljust(size, b"\n"))
+        words = ("claw", "R1", "V9", "notice.csv")
+        if more:
+            room.check_refused(f"`claw`, a notice of {name}", matters.Rule(55), *words)
+        else:
+            room.check(f"`claw`, a notice of {name}", 0, "^replacement V9 labels AB-0001 to AB-0001 files 6 manifest .*", *words)
+        for path, rule in ((f"V1/DATA/V1.{kind}", rule) for kind, rule in (("DAT", 0), ("OPT", 1))):
+            room.write(path, volume[path].ljust(size, b"\n"))
+            words = ("check", "V1/DATA/V1.DAT", "V1/DATA/V1.OPT")
+            if more:
+                room.check_refused(f"`check`, the file {path[-3:]} of {name}", matters.Rule(55, rule), *words)
+            else:
+                room.check(f"`check`, the file {path[-3:]} of {name}", 0, "checked documents 1 images 1 files 0", *words)
+            room.write(path, volume[path])
 
 
 def desks(room):
@@ -287,6 +343,13 @@ def ask_often(port, count, data, due):
             sys.exit(f"call {k} at {port}: {got!r}")
 
 
+PARTS = (burns, imports, largest_matter, productions, requests, delivered, desks)
+
+
+def chosen(names):
+    return [part for part in (*PARTS, journal) if part.__name__ in names] or PARTS
+
+
 def main():
     if len(sys.argv) > 1 and sys.argv[1] == "ask":
         ask_often(int(sys.argv[2]), int(sys.argv[3]), bytes.fromhex(sys.argv[4]), bytes.fromhex(sys.argv[5]))
@@ -296,11 +359,8 @@ def main():
     room = Room(sys.argv[1])
     print("| What | Status | Line or body | Seconds | MB |\n|---|---|---|---|---|")
     try:
-        if sys.argv[2:] == ["journal"]:
-            journal(room)
-        else:
-            for part in (burns, imports, largest_matter, productions, requests, desks):
-                part(room)
+        for part in chosen(sys.argv[2:]):
+            part(room)
     finally:
         shutil.rmtree(room.folder)
     sys.exit(1 if failed else 0)

@@ -122,7 +122,7 @@ def told_otherwise(program, chunk, kept, job):
         with open(place, "w", encoding="utf-8", newline="") as file:
             file.writelines(f"{asked} = {due}\n" for asked, due in chunk)
         try:
-            done = subprocess.run([program, place], capture_output=True, timeout=60 + len(chunk) / 100)
+            done = subprocess.run([program, place], capture_output=True, timeout=days.LIMIT + len(chunk) / 100)
             out = done.stdout.decode("utf-8", "replace")
         except subprocess.TimeoutExpired:
             done, out = None, "no end"

@@ -19,7 +19,7 @@ import fuzz_pages as pages
 import web_model
 from fuzz_tools import Rule, damaged
 
-LIMIT = 60
+LIMIT = int(os.environ.get("FUZZ_SECONDS", "60"))
 TABLE = ("CREATE TABLE IF NOT EXISTS kept (kind INTEGER NOT NULL CHECK (kind BETWEEN 0 AND 255), "
          "k1 INTEGER NOT NULL CHECK (k1 BETWEEN 0 AND 4294967295), k2 INTEGER NOT NULL CHECK (k2 BETWEEN 0 AND 4294967295), "
          "body BLOB NOT NULL, PRIMARY KEY (kind, k1, k2)) STRICT")

@@ -153,7 +153,7 @@ def check_no_trace(folder, claims):
     )
     said = shown + read(folder, NEW, "DATA", f"{NEW}-LOG.CSV").decode() + read(folder, NEW, "DATA", f"{NEW}.DAT").decode()
     secrets = {word for document in claims for word in words[document] if len(word) > 3 and word not in said}
-    expect(len(secrets) > 100, "the named documents have too few words of their own")
+    expect(len(secrets) > 50, "the named documents have too few words of their own")
     for folder_at, _, files in os.walk(os.path.join(folder, NEW)):
         for name in files:
             data = read(folder_at, name)

@@ -1,14 +1,27 @@
 // The volume of a kept production.
+ghost use Rattle.std.specs.Prelude.{IfSome};
+ghost use Rattle.bp_freeze.specs.Keeping.{Keeps};
+
 use anyhow::{Result, bail};
 use bp_core::{Bytes, Text};
-use bp_matter::Tables;
+use bp_matter::{Production, Tables};
 use bp_outside::Folder;
 use bp_press::{OpenGate, file_of, press};
 use std::alloc::Global;
 use std::thread::Threads;
 
-/// Writes the volume of the production of this id: its number of files.
 #[tactic(auto, using(crate::proofs::VolumeLemmas::found_is_kept))]
+// The production of this id.
+fn production_in<'a>(tables: &'a Tables, id: &Text) -> Option<&'a Production>
+    ensures { IfSome result (λ production. Keeps tables.now.matter production.now) }
+{
+    match tables.production(id) {
+        Some(production) => Some(production),
+        None => None,
+    }
+}
+
+/// Writes the volume of the production of this id: its number of files.
 pub fn write_volume<R: Threads + Sync, F: Folder>(
     rt: &R,
     alloc: Global,
@@ -16,7 +29,7 @@ pub fn write_volume<R: Threads + Sync, F: Folder>(
     id: &Text,
     folder: &mut F,
 ) -> Result<u64> {
-    let Some(production) = tables.production(id) else {
+    let Some(production) = production_in(tables, id) else {
         bail!("no production has the id");
     };
     match press(rt, alloc, tables, production, folder, &OpenGate) {

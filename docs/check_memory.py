@@ -2,6 +2,7 @@
 """Tests that want of memory is only handed on. A body that may answer that memory ran out could answer it by what it saw, and no
 contract would refuse that; so the sources are read: each place of the product that makes this answer must hand on one that it was
 given (an error of the allocator, or another call's), or be one of the places below, where a library or a call hides what it was.
+And what reads and covers the rows of a kept page has neither an allocator nor an answer, so that it can tell nothing of them.
 Prints each other place, and ends with status 1 where there is one. Tests, samples and benches are no part of the product."""
 import pathlib
 import re
@@ -37,6 +38,10 @@ MADE = {
     ("bp_web/src/requests.rt", "asked_in"): "the call of a body was refused, which wants memory alone",
     ("bp_web/src/router.rt", "add"): "matchit refused a route of the fixed table, which it does for want of memory",
 }
+
+# what sees pixels that are to be covered
+WALL = ("bp_t6/src/page_rows.rt", "bp_t6/src/row_code.rt", "bp_burn/src/covered_rows.rt")
+ANSWERS = re.compile(r"\b(?:Result|Option|Global|alloc|Allocator|OutOfMemory|AllocError)\b")
 
 NOT_PRODUCT = re.compile(r"^(bp_tests|bp_bench|bp_timing|bp_serving_time|bp_script|bp_day|bp_lines|bp_web_lines)")
 MAKES = re.compile(r"\b(?:\w+::)?OutOfMemory\b|\bAllocError\b")
@@ -99,6 +104,10 @@ def main():
                 used.add(key)
             else:
                 strange.append(f"crates/{below}:{number}: {name}: {line.strip()}")
+    for below in WALL:
+        for number, line, name, _ in functions(TOP / "crates" / below):
+            if ANSWERS.search(line.split("//")[0]):
+                strange.append(f"crates/{below}:{number}: {name}: behind the wall: {line.strip()}")
     for place in strange:
         print(place)
     for key in sorted(set(MADE) - used):

@@ -9,6 +9,7 @@ mod FigureLemmas
 pub mod InkLemmas
 mod LetterLemmas
 mod MakingLemmas
+mod OutLemmas
 mod RowLemmas
 mod SlipLemmas
 mod StripLemmas

@@ -9,13 +9,13 @@ use Rattle.bp_rows.specs.declared.resolution.Unit.TheVariants.{Inch}
 use Rattle.bp_rows.specs.Image.{Image, IsGrid, IsPage, grid_of, pixel, row_of, white_image}
 use Rattle.bp_rows.specs.Limits.{sides_are_allowed, sides_are_imported}
 use Rattle.bp_rows.proofs.GridLemmas.{cell-grid_of, cell-white, grid_of_is_grid, same_grids, white_is_grid}
-use Rattle.bp_t6.specs.SoFar.{AddedSoFar, HasAdded, ReadSoFar, ReadsPage, last_line, row_above}
+use Rattle.bp_t6.specs.SoFar.{AddedSoFar, HasAdded, last_line, row_above}
 use Rattle.bp_t6.specs.Written.{white_line}
 use Rattle.bp_t6.proofs.StripLemmas.{last-more}
 use Rattle.bp_burn.specs.Band.{band_texts, produced_of, slip_resolution}
 use Rattle.bp_burn.specs.Covered.{covered, covered_pixel}
 use Rattle.bp_burn.specs.Ink.{inked}
-use Rattle.bp_burn.specs.Strips.{HasStrip, band_rows, touches_above, touches_row}
+use Rattle.bp_burn.specs.Strips.{band_rows, touches_above, touches_row}
 use Rattle.bp_burn.proofs.BandLemmas.{five}
 use Rattle.bp_burn.proofs.ChangeLemmas.{changed_is_grid}
 use Rattle.bp_burn.proofs.StripLemmas.{or_false, produced_rows, untouched_row}
@@ -61,12 +61,6 @@ same_above p ink stamps (suc n) page down none =
     subst (λ (m : ℕ). last_line (white_line p.width) (take m (covered ink p stamps).rows) ≡ last_line (white_line p.width) (take m p.rows)) next
     (above_row p ink stamps n page (omega arith) above)
 
--- what is known after so many rows of making a strip
-pub record Making (width height : ℕ) (strip : List ℕ) (ink : Ink) (stamps : List Stamp) (row : ℕ) (reader : ReadSoFar) (writer : AddedSoFar) : Type 0 where
-  pub wide : writer.width ≡ width
-  pub reads : (p : Image) → HasStrip width height strip p → ReadsPage p row reader
-  pub added : (p : Image) → HasStrip width height strip p → HasAdded writer (take row (covered ink p stamps).rows)
-
 -- what is known after so many rows of a band were added
 pub record Adding (width : ℕ) (old writer : AddedSoFar) (rows : List (List Bool)) (row : ℕ) : Type 0 where
   pub wide : writer.width ≡ width
@@ -100,6 +94,14 @@ pub adding_all : (width : ℕ) (old writer : AddedSoFar) (rows : List (List Bool
 adding_all width old writer rows row so_far all lines held =
     let P : List (List Bool) → Type 0 = λ rs. HasAdded writer (lines ++ rs) in
     subst P (take_all row rows all) (so_far.added lines held)
+
+-- a white row is a page
+pub line_sides : (w : ℕ) → 0 < w → w ≤ 20000 → IsTrue (sides_are_allowed w 1)
+line_sides w some wide =
+    and_from (nat_lt 0 w && nat_le w 20000 && nat_lt 0 1 && nat_le 1 20032) (nat_le (w * 1) 200640000)
+    (and_from (nat_lt 0 w && nat_le w 20000 && nat_lt 0 1) (nat_le 1 20032)
+    (and_from (nat_lt 0 w && nat_le w 20000) (nat_lt 0 1) (and_from (nat_lt 0 w) (nat_le w 20000) (lt-ltb 0 w some) (le-leb w 20000 wide)) refl) refl)
+    (le-leb (w * 1) 200640000 (omega arith))
 
 -- white rows of the band's height are a page
 pub band_sides : (w : ℕ) → 0 < w → w ≤ 20000 → IsTrue (sides_are_allowed w 32)

@@ -3,4 +3,5 @@ pub mod Covered
 pub mod Drawn
 pub mod Figures
 pub mod Ink
+pub mod RowsOut
 pub mod Strips

@@ -3,15 +3,18 @@
 //! `burn` blackens boxes, and `burn_in_place` does so in the page that it is lent; `produced` covers
 //! boxes, all black or with the code of their ground in white, and adds the band with designation and
 //! label; `covered_runs` covers one row, as runs, and `produced_strip` makes the strip of the page that
-//! goes out of the page's strip, a row at a time; `slip_page` makes the sheet that stands for a withheld
+//! goes out of the page's strip, a row at a time, which `CoveredRows` reads and covers in room that was
+//! taken before; `slip_page` makes the sheet that stands for a withheld
 //! document. Their contracts cite `burned`, `covered`, `produced_of` and `slip_of`.
 #![tactic(auto)]
 
 mod band;
 mod burning;
+mod covered_rows;
 mod drawing;
 mod glyph_rows;
 mod letters;
+mod out_room;
 mod paper;
 mod room;
 mod slips;
@@ -20,7 +23,9 @@ mod strips;
 
 pub use band::{BAND_ROWS, produced};
 pub use burning::{burn, burn_in_place, burn_row};
+pub use covered_rows::{CoveredRow, CoveredRows};
 pub use glyph_rows::{glyph, has_glyphs};
+pub use out_room::OutRoom;
 pub use paper::SLIP_DOTS;
 pub use slips::{SLIP_HEIGHT, SLIP_WIDTH, slip_page};
 pub use stamps::covered_runs;

@@ -1,24 +1,23 @@
 // The strip of a page that goes out, made of the page's strip a row at a time.
-ghost use Rattle.std.specs.Prelude.{◌≡◌, ◌++◌, ◌∷◌, ◌<◌, ◌≤◌, ℕ, Bool, List, [], IfOk, IsTrue, OnOk, slice_range, take};
-ghost use Rattle.bp_rows.specs.Changes.{Shows};
-ghost use Rattle.bp_rows.specs.Image.{Image, IsPage, row_of};
+ghost use Rattle.std.specs.Prelude.{◌≡◌, ◌++◌, ◌∷◌, ◌<◌, ◌≤◌, Bool, List, [], IfOk, IsTrue, OnOk};
+ghost use Rattle.bp_rows.specs.Image.{Image};
 ghost use Rattle.bp_rows.specs.Limits.{sides_are_imported};
-ghost use Rattle.bp_t6.specs.SoFar.{HasAdded, row_above};
-ghost use Rattle.bp_t6.specs.Written.{row_code, strip_of};
+ghost use Rattle.bp_t6.specs.SoFar.{HasAdded, last_line};
+ghost use Rattle.bp_t6.specs.Written.{strip_of, white_line};
 ghost use Rattle.bp_burn.specs.Band.{produced_of};
 ghost use Rattle.bp_burn.specs.Covered.{covered};
 ghost use Rattle.bp_burn.specs.Drawn.{has_glyphs};
-ghost use Rattle.bp_burn.specs.Strips.{HasStrip, IsPageStrip, band_rows, has_row, touches_above, touches_row};
+ghost use Rattle.bp_burn.specs.RowsOut.{IsLine};
+ghost use Rattle.bp_burn.specs.Strips.{HasStrip, IsPageStrip, band_rows};
 
 use crate::band::{BAND_ROWS, draw_band};
+use crate::covered_rows::{CoveredRow, CoveredRows};
+use crate::out_room::OutRoom;
 use crate::paper::white_page;
 use crate::room::likely_size;
-use crate::stamps::covered_line;
-use bp_codes::Fill;
-use bp_core::{Bytes, Ink, OutOfMemory, Rect, Refusal, Stamp, StampList, Text};
+use bp_core::{Bytes, Ink, OutOfMemory, StampList, Text};
 use bp_rows::{MAX_WIDTH, Page};
-use bp_t6::laws::{code_law, rows_law, strip_size};
-use bp_t6::{StripRows, StripWriter};
+use bp_t6::StripWriter;
 use std::alloc::Global;
 
 /// The strip of the page that goes out, as `produced` makes it, of the strip of a page of these
@@ -46,7 +45,8 @@ pub fn produced_strip(
     writer.finish(alloc)
 }
 
-// The strip under way of the page covered. The reader of the page's strip ends with it.
+// The strip under way of the page covered. All room is taken before a row is read, and what adds a row
+// sees it covered.
 fn covered_strip(
     alloc: Global,
     ink: Ink,
@@ -61,20 +61,13 @@ fn covered_strip(
     ensures added { (p : Image) → HasStrip width height strip.now p
         → IfOk result (λ writer. HasAdded writer (covered ink p stamps.now).rows) }
 {
-    rows_law();
-    code_law();
-    strip_size();
-    let mut rows = StripRows::over(alloc, strip, Fill::High, width)?;
-    let mut writer = start_writer(alloc, likely_size(strip, width, height, stamps), width)?;
+    let room = OutRoom::take(alloc, width)?;
+    let mut writer = start_writer(alloc, likely_size(width, height, stamps), width)?;
+    let mut rows = CoveredRows::over(room, ink, strip, height, stamps);
     for row in 0..height {
-        let from = rows.at();
-        match rows.next_row() {
-            Ok(()) => {}
-            Err(Refusal::OutOfMemory) => return Err(OutOfMemory),
-            // The strip of a page breaks no rule.
-            Err(Refusal::Rule(_)) => unreachable!(),
-        }
-        add_covered(alloc, &mut writer, &rows, from, ink, row, stamps)?;
+        let _row = row;
+        rows.next();
+        add_row(&mut writer, rows.row())?;
     }
     Ok(writer)
 }
@@ -91,62 +84,19 @@ fn start_writer(alloc: Global, size: usize, width: u32) -> Result<StripWriter, O
     Ok(writer)
 }
 
-// Adds the row of a page that was read last, covered; in the page's strip its code begins at bit
-// `from`. Of a row that no stamp touches no runs are made. Where the row above isn't touched either its
-// code is the same, and is copied.
-fn add_covered(
-    alloc: Global,
-    writer: &mut StripWriter,
-    rows: &StripRows,
-    from: u64,
-    ink: Ink,
-    row: u32,
-    stamps: &StampList,
-) -> Result<(), OutOfMemory>
-    requires some { 0 < writer.old.width }
-    requires wide { writer.old.width ≤ MAX_WIDTH }
-    requires width { rows.now.width ≡ writer.old.width }
-    requires order { from ≤ rows.now.at }
+// Adds a row that is lent covered. Where its code is lent too, that is copied.
+fn add_row(writer: &mut StripWriter, row: CoveredRow<'_>) -> Result<(), OutOfMemory>
+    requires { (above : List Bool) × (line : List Bool) × IsLine writer.old.width above line row }
     ensures width { writer.new.width ≡ writer.old.width }
-    ensures added { (p : Image) → IsPage p → row < p.height
-        → p.width ≡ writer.old.width
-        → Shows rows.now.above rows.now.width (row_of p row)
-        → slice_range rows.now.bits from rows.now.at
-        ≡ row_code (row_above p row) (row_of p row)
-        → HasAdded writer.old (take row (covered ink p stamps.now).rows)
-        → OnOk result (HasAdded writer.new (take row (covered ink p stamps.now).rows
-        ++ row_of (covered ink p stamps.now) row ∷ [])) }
+    ensures added { (lines : List (List Bool)) (line : List Bool) → HasAdded writer.old lines
+        → IsLine writer.old.width (last_line (white_line writer.old.width) lines) line row.entry
+        → OnOk result (HasAdded writer.new (lines ++ line ∷ [])) }
 {
-    let marks = stamps.as_slice();
-    if touches_row(marks, row) {
-        let runs = rows.row_runs(alloc)?;
-        let line = covered_line(alloc, ink, &runs, row, stamps)?;
-        return writer.add_page_row(&line, 0);
+    match row {
+        CoveredRow::Painted(page) => writer.add_page_row(page, 0),
+        CoveredRow::Bare(places) => writer.add_places(places),
+        CoveredRow::Coded(places, code) => writer.add_code(places, &code),
     }
-    if touches_above(marks, row) {
-        return writer.add_read(rows);
-    }
-    writer.add_same(rows, from)
-}
-
-// Whether some stamp lies in the row above a row.
-fn touches_above(stamps: &[Stamp], row: u32) -> bool
-    ensures { result ≡ touches_above stamps.now row }
-{
-    0 < row && touches_row(stamps, row - 1)
-}
-
-// Whether some stamp lies in a row.
-fn touches_row(stamps: &[Stamp], row: u32) -> bool
-    ensures { result ≡ touches_row stamps.now row }
-{
-    stamps.iter().any(|stamp| has_row(&stamp.rect, row))
-}
-
-fn has_row(area: &Rect, row: u32) -> bool
-    ensures { result ≡ has_row area.now row }
-{
-    area.top <= row && row - area.top < area.height
 }
 
 // Adds the rows of the band.

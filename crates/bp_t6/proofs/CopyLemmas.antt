@@ -1,8 +1,8 @@
 -- Lemmas of codes that are copied: bits piece by piece, and the bits of a strip between which the code of a row of its page lies.
-use Rattle.std.proofs.Common.{ℕ, zero, suc, ◌+◌, ◌-◌, ◌*◌, ◌/◌, ◌%◌, ◌^◌, ◌<◌, ◌≤◌, ◌≡◌, Bool, false, Some, List, [], ◌∷◌, ◌++◌, length, drop, take, replicate, refl, ap, sym, ◌∙◌, subst, arith, append_assoc, length-append, length-drop, drop-cons, take-add}
+use Rattle.std.proofs.Common.{ℕ, zero, suc, ◌+◌, ◌-◌, ◌*◌, ◌/◌, ◌%◌, ◌^◌, ◌<◌, ◌≤◌, ◌≡◌, Bool, false, Some, List, [], ◌∷◌, ◌++◌, length, drop, take, replicate, refl, ap, sym, ◌∙◌, subst, arith, append_assoc, length-append, length-drop, drop-cons, take-take}
 use Rattle.std.specs.Prelude.{slice_get, slice_range}
 use Rattle.std.proofs.lemmas.Nat.{div_below, pow-add, pow_below, pow_pos}
-use Rattle.std.proofs.lemmas.List.{drop-drop, get_or-take, length-replicate, length-take, take-append-drop, take_at, take_more}
+use Rattle.std.proofs.lemmas.List.{drop-drop, drop-take, get_or-take, length-replicate, length-take, take-append-drop, take_at, take_more}
 use Rattle.bp_codes.specs.Ahead.{IsAhead}
 use Rattle.bp_codes.specs.Bits.{low_bits, number_of}
 use Rattle.bp_codes.proofs.AheadLemmas.{window_ahead}
@@ -19,16 +19,17 @@ use Rattle.bp_t6.proofs.StripLemmas.{last-more}
 
 -- ---- bits piece by piece
 
-pub one_piece : (bits : List Bool) (from at len : ℕ) → from ≤ at → slice_range bits from (at + len) ≡ slice_range bits from at ++ take len (drop at bits)
-one_piece bits from at len order =
-    let size : at + len - from ≡ at - from + len = omega arith in
-    let place : from + (at - from) ≡ at = omega arith in
-    ap (λ n. take n (drop from bits)) size
-    ∙ take-add (at - from) len (drop from bits)
-    ∙ ap (λ l. take (at - from) (drop from bits) ++ take len l) (drop-drop (at - from) from bits ∙ ap (λ n. drop n bits) place)
+pub length-range : (bits : List Bool) (from to : ℕ) → to ≤ length bits → length (slice_range bits from to) ≡ to - from
+length-range bits from to within = omega (arith, length-take (to - from) (drop from bits), length-drop from bits)
 
-pub no_piece : (bits : List Bool) (at : ℕ) → slice_range bits at at ≡ []
-no_piece bits at = let none : at - at ≡ 0 = omega arith in ap (λ n. take n (drop at bits)) none
+-- bits of some bits are bits of all
+pub piece_lies : (bits : List Bool) (from to at len : ℕ) → at + len ≤ to - from → take len (drop (from + at) bits) ≡ take len (drop at (slice_range bits from to))
+piece_lies bits from to at len fits =
+    let size : to - from ≡ at + (to - from - at) = omega arith in
+    sym (ap (λ n. take len (drop at (take n (drop from bits)))) size
+    ∙ ap (take len) (drop-take at (to - from - at) (drop from bits))
+    ∙ take-take len (to - from - at) (drop at (drop from bits)) (omega arith)
+    ∙ ap (take len) (drop-drop at from bits))
 
 -- the bit at a place
 pub bit_there : (bits : List Bool) (at : ℕ) (b : Bool) → slice_get bits at ≡ Some b → take 1 (drop at bits) ≡ b ∷ []

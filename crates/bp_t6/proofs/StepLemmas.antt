@@ -4,10 +4,7 @@ use Rattle.bp_core.specs.declared.rules.RuleKind.{RuleKind}
 use Rattle.bp_core.specs.declared.rules.RuleKind.TheVariants.{T6BadPlace}
 use Rattle.bp_codes.specs.CodeLists.{mode_codes}
 use Rattle.bp_t6.specs.declared.reading.Under.{Under}
-use Rattle.bp_t6.specs.declared.reading.Stop.{Stop}
-use Rattle.bp_t6.specs.declared.reading.Stop.TheVariants as answers
 use Rattle.bp_t6.specs.declared.run_reader.ReadFault.{ReadFault}
-use Rattle.std.specs.Result.{IsErrAnd}
 use Rattle.std.proofs.lemmas.List.{append-nil, drop-drop}
 use Rattle.bp_codes.specs.NextCode.{next_row}
 use Rattle.bp_t6.specs.Places.{Place, start, b1, b2}
@@ -20,7 +17,7 @@ use Rattle.bp_t6.specs.Coding.{IsNextFrom}
 use Rattle.bp_t6.specs.Turns.{Turns}
 use Rattle.bp_t6.specs.declared.near_reader.Near.{Near}
 use Rattle.bp_t6.specs.Near.{BeginsNear, near_mode}
-use Rattle.bp_t6.specs.Reading.{IfFault, place_under, IsUnder, Steps, ModeReads, ModeStops, VerticalStops, RowIsRead, RowStops, ModesRead}
+use Rattle.bp_t6.specs.Reading.{place_under, IsUnder, Steps, ModeReads, ModeStops, VerticalStops, RowIsRead, RowStops, ModesRead}
 use Rattle.bp_t6.proofs.PlaceLemmas.{b1_is, after_is, from_back, from_same, Stepped}
 use Rattle.bp_t6.proofs.LookLemmas.{row_found, row_length}
 use Rattle.bp_rows.proofs.ShownLemmas.{shows_white}
@@ -152,7 +149,7 @@ module _ (bits : List Bool) (width : ℕ) (above : List ℕ) (u : Under) where
         ];
       }
 
-  pub vertical_reads : (old new : List ℕ) (n at row : ℕ) (r : Result Under Stop) → get_or vertical_rows n 0 ≡ row → drop u.at bits ≡ code mode_codes row ++ drop at bits → IfOk r (λ v. v.at ≡ at)
+  pub vertical_reads : (old new : List ℕ) (n at row : ℕ) (r : Result Under ReadFault) → get_or vertical_rows n 0 ≡ row → drop u.at bits ≡ code mode_codes row ++ drop at bits → IfOk r (λ v. v.at ≡ at)
       → ((over px : List Bool) → Shows above width over → Shows old (u.right - 1) px → IfOk r (λ v. Steps over px new u v (Vertical n))) → IfOk r (λ v. ModeReads bits width above old new u v)
   vertical_reads old new n at row (Ok v) is reads there steps = λ over px shows_over shows.
       record {
@@ -163,10 +160,9 @@ module _ (bits : List Bool) (width : ℕ) (above : List ℕ) (u : Under) where
   vertical_reads old new n at row (Err e) is reads there steps = tt
 
 -- what is said of each fault
-pub of_fault : {P Q : ReadFault → Type 0} (r : Result Under Stop) → ((f : ReadFault) → P f → Q f) → IfErr r (λ stop. IfFault P stop) → IfErr r (λ stop. IfFault Q stop)
+pub of_fault : {P Q : ReadFault → Type 0} (r : Result Under ReadFault) → ((f : ReadFault) → P f → Q f) → IfErr r P → IfErr r Q
 of_fault (Ok v) h fault = tt
-of_fault (Err (answers.Fault f)) h fault = h f fault
-of_fault (Err answers.OutOfMemory) h fault = tt
+of_fault (Err f) h fault = h f fault
 
 -- ---- a mode looked up
 
@@ -196,14 +192,9 @@ missing_stops bits width above u f here is = record {
       subst (λ (n : ℕ). ModeFault over (place_under u) (drop u.at bits) f.kind n) none (ModeFault.missing (drop u.at bits) f.kind is);
 }
 
-pub at_most : (r : Result Under Stop) (at n : ℕ) → IfOk r (λ v. v.at ≡ at) → at ≤ n → IfOk r (λ v. v.at ≤ n)
+pub at_most : (r : Result Under ReadFault) (at n : ℕ) → IfOk r (λ v. v.at ≡ at) → at ≤ n → IfOk r (λ v. v.at ≤ n)
 at_most (Ok v) at n is h = omega arith
 at_most (Err e) at n is h = tt
-
--- `?` hands on the answer
-pub same_stop : {X : Type 0} (r : Result X Stop) (stop : Stop) (P : Stop → Type 0) → IsErrAnd r (λ s. s ≡ stop) → P stop → IfErr r P
-same_stop (Ok v) stop P is h = tt
-same_stop (Err e) stop P is h = subst P (sym is) h
 
 -- ---- a row under way
 
@@ -283,10 +274,6 @@ row_stops over bits first width above line u f shows_over so on low high stop =
           (subst (λ (n : ℕ). RowFault over (codes_of over start modes ++ drop u.at bits) f.kind n) count
           (stops modes (drop u.at bits) f.kind (f.bit - u.at) so.move (omega (arith, shows_over.long)) fault));
     }
-
-pub fault_of_row : (over bits : List Bool) (first width : ℕ) (above line : List ℕ) (u : Under) (stop : Stop) → Shows above width over → ModesRead over bits first line u → u.right ≤ width → first ≤ length bits → u.at ≤ length bits → IfFault (ModeStops bits width above u) stop → IfFault (RowStops over bits first) stop
-fault_of_row over bits first width above line u (answers.Fault f) shows_over so on low high fault = row_stops over bits first width above line u f shows_over so on low high fault
-fault_of_row over bits first width above line u answers.OutOfMemory shows_over so on low high fault = tt
 
 pub under_none : (above line : List ℕ) (width : ℕ) (u : Under) → line ≡ [] → u.right ≡ 0 → u.black ≡ false → u.from ≡ 0 → IsUnder above line width u
 under_none above line width u none right black from_is = record {

@@ -126,3 +126,16 @@ back_turns ts n turns = record {
   strict = λ k h. omega (arith, get_or_append_left ts (n ∷ []) 0 k (omega arith), get_or_append_left ts (n ∷ []) 0 (k + 1) h, turns.strict k (omega (arith, length_push ts n)));
   until = λ k h. omega (arith, get_or_append_left ts (n ∷ []) 0 k h, turns.until k (omega (arith, length_push ts n)));
 }
+
+-- each turn is no less than its position, so they are few
+turn_least : (ts : List ℕ) (n : ℕ) → Turns ts n → (k : ℕ) → k < length ts → k ≤ get_or ts k 0
+turn_least ts n turns zero h = omega arith
+turn_least ts n turns (suc k) h =
+    let next : k + 1 ≡ suc k = omega arith in
+    omega (arith, turns.strict k (omega arith), turn_least ts n turns k (omega arith), ap (λ j. get_or ts j 0) next)
+
+pub turns_few : (ts : List ℕ) (n : ℕ) → Turns ts n → length ts ≤ n + 1
+turns_few ts n turns = elim (cases_lt 0 (length ts)) [
+  | inl some ↦ omega (arith, turn_least ts n turns (length ts - 1) (omega arith), turns.until (length ts - 1) (omega arith))
+  | inr none ↦ omega arith
+]

@@ -1,5 +1,5 @@
 -- Strips under way, a line at a time: what was read so far, and what was added so far.
-use Rattle.std.specs.Prelude.{ℕ, ◌<◌, ◌≤◌, ◌≡◌, Bool, List, [], ◌∷◌, ◌++◌, length, drop, take, slice_index_or, Option, Some, None}
+use Rattle.std.specs.Prelude.{ℕ, ◌+◌, ◌<◌, ◌≤◌, ◌≡◌, Bool, List, [], ◌∷◌, ◌++◌, length, drop, take, slice_index_or, Option, Some, None}
 use Rattle.bp_core.specs.declared.refusals.Refusal.{Refusal}
 use Rattle.bp_core.specs.declared.refusals.Refusal.TheVariants as refusals
 use Rattle.bp_core.specs.declared.rules.Rule.{Rule as BrokenRule}
@@ -7,7 +7,7 @@ use Rattle.bp_codes.specs.declared.span.Fill.TheVariants.{High}
 use Rattle.bp_codes.specs.Bits.{bits_of}
 use Rattle.bp_rows.specs.declared.limits.TheConstants.{MAX_WIDTH}
 use Rattle.bp_rows.specs.Changes.{changes_of, Rises, Shows}
-use Rattle.bp_rows.specs.Image.{Image}
+use Rattle.bp_rows.specs.Image.{Image, IsPage}
 use Rattle.bp_rows.specs.Runs.{IsRuns}
 use Rattle.bp_t6.specs.Written.{row_code, white_line, strip_of}
 use Rattle.bp_t6.specs.Read.{RowReads}
@@ -109,9 +109,34 @@ pub record IsReader (bits : List Bool) (width row at : ℕ) (above : List ℕ) :
   pub over : List Bool
   pub shows : Shows above width over
 
+-- what a reader keeps that has room for the changes of two rows: one at each place, one at the end, and
+-- one that is taken back
+pub record IsRoomyReader (Reads : Type 0) (width above line : ℕ) : Type 0 where
+  pub reads : Reads
+  pub above_room : width + 2 ≤ above
+  pub line_room : width + 2 ≤ line
+
+-- the same room before the first row
+pub record IsRowRoom (width : ℕ) (places : List ℕ) (above line : ℕ) : Type 0 where
+  pub none : places ≡ []
+  pub above_room : width + 2 ≤ above
+  pub line_room : width + 2 ≤ line
+
+-- the bits of a row's code lie in the strip
+pub record LiesIn (bits : List Bool) (from to : ℕ) : Type 0 where
+  pub order : from ≤ to
+  pub within : to ≤ length bits
+
 -- over the strip of a page, of whose rows so many were read, and no rule was broken
 pub record ReadsPage (p : Image) (count : ℕ) (reader : ReadSoFar) : Type 0 where
   pub bits : reader.bits ≡ bits_of High (strip_of p)
   pub width : reader.width ≡ p.width
   pub fault : reader.fault ≡ None
   pub read : HasRead reader (take count p.rows)
+
+-- over the strip of a page, of whose rows one is left
+pub record HasNextRow (reader : ReadSoFar) : Type 0 where
+  pub page : Image
+  pub is : IsPage page
+  pub left : reader.row < page.height
+  pub reads : ReadsPage page reader.row reader

@@ -1,7 +1,6 @@
 // Lines coded, one below another.
-ghost use Rattle.std.specs.Prelude.{◌≡◌, ◌≤◌, ◌++◌, Bool, List, [], OnOk, OnErr, IfOk, length, slice_range};
+ghost use Rattle.std.specs.Prelude.{◌≡◌, ◌≤◌, ◌++◌, Bool, List, [], OnOk, OnErr, IfOk};
 ghost use Rattle.bp_codes.specs.CodeLists.{end_of_block};
-ghost use Rattle.bp_codes.specs.Span.{span_bits};
 ghost use Rattle.bp_rows.specs.Changes.{Rises, Shows};
 ghost use Rattle.bp_rows.specs.Packed.{packed_row};
 ghost use Rattle.bp_t6.specs.Marks.{Continues};
@@ -10,8 +9,8 @@ ghost use Rattle.bp_t6.specs.Written.{row_code};
 use crate::bit_copy::copy_bits;
 use crate::bit_writer::BitWriter;
 use crate::row::code_row;
+use crate::row_code::RowCode;
 use crate::tables::{CodeTables, put_end_of_block};
-use bp_codes::BitSpan;
 use bp_rows::MAX_WIDTH;
 use std::alloc::{AllocError, Global};
 use std::mem;
@@ -65,27 +64,17 @@ impl LineWriter {
         Ok(())
     }
 
-    /// Adds the line whose changing elements are lent, with the bits of a span from one place up to
-    /// another as its code. The list comes back with those of the line before. A refusal takes back
-    /// what was put.
-    pub fn copy(
-        &mut self,
-        line: &mut Vec<u32>,
-        span: &BitSpan,
-        from: u64,
-        to: u64,
-    ) -> Result<(), AllocError>
-        requires order { from ≤ to }
-        requires within { to ≤ length (span_bits span.now) }
+    /// Adds the line whose changing elements are lent, with these bits as its code. The list comes back
+    /// with those of the line before. A refusal takes back what was put.
+    pub fn copy(&mut self, line: &mut Vec<u32>, code: &RowCode) -> Result<(), AllocError>
         ensures width { self.new.width ≡ self.old.width }
         ensures above { OnOk result (self.new.above.items ≡ line.old.items) }
-        ensures copied { OnOk result (
-            self.new.out ≡ self.old.out ++ slice_range (span_bits span.now) from to) }
+        ensures copied { OnOk result (self.new.out ≡ self.old.out ++ code.now) }
         ensures out_kept { OnErr result (self.new.out ≡ self.old.out) }
         ensures above_kept { OnErr result (self.new.above.items ≡ self.old.above.items) }
     {
         let mark = self.out.mark();
-        if let Err(error) = copy_bits(&mut self.out, span, from, to) {
+        if let Err(error) = copy_bits(&mut self.out, code) {
             self.out.go_back(&mark);
             return Err(error);
         }

@@ -1,5 +1,5 @@
 // One mode of a row read.
-ghost use Rattle.std.specs.Prelude.{◌≡◌, ◌<◌, ◌≤◌, ◌+◌, ◌-◌, ◌*◌, ◌++◌, ℕ, Bool, List, IfOk, IfErr, IfSome, Ok, Some, length, drop, slice_index_or, not};
+ghost use Rattle.std.specs.Prelude.{◌≡◌, ◌<◌, ◌≤◌, ◌+◌, ◌-◌, ◌*◌, ◌++◌, ℕ, Bool, List, IfOk, IfErr, IfSome, Ok, Some, length, drop, slice_index_or, not, vec_len, vec_capacity};
 ghost use Rattle.bp_codes.specs.Ahead.{IsAhead};
 ghost use Rattle.bp_codes.specs.NextCode.{next_row};
 ghost use Rattle.bp_codes.specs.Span.{span_bits};
@@ -8,11 +8,11 @@ ghost use Rattle.bp_t6.specs.Modes.{code, vertical_rows, Vertical};
 ghost use Rattle.bp_rows.specs.Changes.{Shows, Rises};
 ghost use Rattle.bp_t6.specs.Coding.{IsNextFrom};
 ghost use Rattle.bp_t6.specs.Faults.{due_codes, mode_fault};
-ghost use Rattle.bp_t6.specs.Reading.{IfFault, IsUnder, Steps, ModeReads, ModeStops, VerticalStops};
+ghost use Rattle.bp_t6.specs.Reading.{IsUnder, Steps, ModeReads, ModeStops, VerticalStops};
 
 use crate::lengths::VERTICAL_REACH;
 use crate::missing::missing_kind;
-use crate::reading::{Stop, Under};
+use crate::reading::Under;
 use crate::row::{next_from, next_near};
 use crate::run_reader::{ReadFault, read_run};
 use crate::tables::CodeTables;
@@ -145,7 +145,8 @@ fn read_vertical(
     n: u32,
     at: u64,
     line: &mut Vec<u32>,
-) -> Result<Under, Stop>
+) -> Result<Under, ReadFault>
+    requires room { vec_len line.old + 2 ≤ vec_capacity line.old }
     requires wide { width ≤ MAX_WIDTH }
     requires above { Rises above.now width }
     requires on { under.right ≤ width }
@@ -157,17 +158,17 @@ fn read_vertical(
     ensures steps { (over px : List Bool) → Shows above.now width over
         → Shows line.old.items (under.right - 1) px
         → IfOk result (λ new. Steps over px line.new.items under new (Vertical n)) }
-    ensures fault { IfErr result (λ stop.
-        IfFault (λ f. VerticalStops width above.now under n f) stop) }
+    ensures fault { IfErr result (VerticalStops width above.now under n) }
+    ensures room { vec_capacity line.new ≡ vec_capacity line.old }
 {
     let right = (place_in(above, under.from, width) + 1 + n).saturating_sub(VERTICAL_REACH);
     if right <= under.right || width + 1 < right {
-        return Err(Stop::Fault(ReadFault {
+        return Err(ReadFault {
             kind: RuleKind::T6BadPlace,
             bit: under.at,
-        }));
+        });
     }
-    turn(line, right - 1)?;
+    turn(line, right - 1);
     Ok(go_over(above, width, under, right, at))
 }
 
@@ -182,7 +183,8 @@ fn read_horizontal(
     under: Under,
     at: u64,
     line: &mut Vec<u32>,
-) -> Result<Under, Stop>
+) -> Result<Under, ReadFault>
+    requires room { vec_len line.old + 2 ≤ vec_capacity line.old }
     requires ahead { IfSome ahead (λ word. IsAhead word (drop under.at (span_bits span.now))) }
     requires wide { width ≤ MAX_WIDTH }
     requires on { under.right ≤ width }
@@ -198,12 +200,13 @@ fn read_horizontal(
         IfOk result (λ new.
         ModeReads bits width above.now line.old.items line.new.items under new) }
     ensures fault { let bits = span_bits span.now in
-        IfErr result (λ stop. IfFault (λ f. ModeStops bits width above.now under f) stop) }
+        IfErr result (ModeStops bits width above.now under) }
+    ensures room { vec_capacity line.new ≡ vec_capacity line.old }
 {
     let from = under.right.saturating_sub(1);
     let first = match read_run(tables, span, ahead, under.at, at, under.black, width - from) {
         Ok(run) => run,
-        Err(fault) => return Err(Stop::Fault(fault)),
+        Err(fault) => return Err(fault),
     };
     let room = width - from - first.pixels;
     let second = match read_run(
@@ -216,22 +219,22 @@ fn read_horizontal(
         room,
     ) {
         Ok(run) => run,
-        Err(fault) => return Err(Stop::Fault(fault)),
+        Err(fault) => return Err(fault),
     };
     let middle = from + first.pixels;
     let end = middle + second.pixels;
     if end < under.right {
-        return Err(Stop::Fault(ReadFault {
+        return Err(ReadFault {
             kind: RuleKind::T6BadPlace,
             bit: under.at,
-        }));
+        });
     }
-    turn(line, middle)?;
-    turn(line, end)?;
+    turn(line, middle);
+    turn(line, end);
     Ok(go_on(above, width, under, end + 1, second.next))
 }
 
-/// The next mode of a row.
+/// The next mode of a row, in a line that has room for its turns. It takes no memory.
 #[inline(always)]
 pub fn read_mode(
     tables: &CodeTables,
@@ -240,7 +243,8 @@ pub fn read_mode(
     above: &[u32],
     under: Under,
     line: &mut Vec<u32>,
-) -> Result<Under, Stop>
+) -> Result<Under, ReadFault>
+    requires room { vec_len line.old + 2 ≤ vec_capacity line.old }
     requires wide { width ≤ MAX_WIDTH }
     requires above { Rises above.now width }
     requires on { under.right ≤ width }
@@ -253,12 +257,13 @@ pub fn read_mode(
         IfOk result (λ new.
         ModeReads bits width above.now line.old.items line.new.items under new) }
     ensures fault { let bits = span_bits span.now in
-        IfErr result (λ stop. IfFault (λ f. ModeStops bits width above.now under f) stop) }
+        IfErr result (ModeStops bits width above.now under) }
+    ensures room { vec_capacity line.new ≡ vec_capacity line.old }
 {
     let ahead = span.ahead(under.at);
     let ModeCode { row, next } = match next_mode(tables, span, ahead, under.at) {
         Ok(mode) => mode,
-        Err(fault) => return Err(Stop::Fault(fault)),
+        Err(fault) => return Err(fault),
     };
     if row == 0 {
         let right = place_in(above, under.from + 1, width) + 1;

@@ -47,6 +47,7 @@ fn turn_unless(line: &mut Vec<u32>, place: u32, stays: bool)
     requires { vec_len line.old < vec_capacity line.old }
     ensures stays { stays ≡ true → line.new.items ≡ line.old.items }
     ensures turns { stays ≡ false → line.new.items ≡ line.old.items ++ place ∷ [] }
+    ensures room { vec_capacity line.new ≡ vec_capacity line.old }
 {
     line.push_reserved(place);
     if stays {
@@ -86,6 +87,7 @@ pub fn read_near(
     ensures moves { IfSome result (λ new. under.right < new.right) }
     ensures on { IfSome result (λ new. new.right ≤ width) }
     ensures kept { result ≡ None → line.new.items ≡ line.old.items }
+    ensures room { vec_capacity line.new ≡ vec_capacity line.old }
     ensures steps { (over px : List Bool) → Shows above.now width over
         → Shows line.old.items (under.right - 1) px
         → IfSome result (λ new. Steps over px line.new.items under new (near_mode near.shift)) }

@@ -1,5 +1,5 @@
 // Modes read out of look-aheads at once.
-ghost use Rattle.std.specs.Prelude.{◌≡◌, ◌<◌, ◌≤◌, ◌+◌, ℕ, Bool, List, IfSome, None, length, drop};
+ghost use Rattle.std.specs.Prelude.{◌≡◌, ◌<◌, ◌≤◌, ◌+◌, ℕ, Bool, List, IfSome, None, length, drop, vec_capacity};
 ghost use Rattle.bp_codes.specs.Ahead.{IsAhead};
 ghost use Rattle.bp_codes.specs.Span.{span_bits};
 ghost use Rattle.bp_rows.specs.Changes.{Shows, Rises};
@@ -51,6 +51,7 @@ fn read_short_horizontal(
     ensures under { IfSome result (λ new. IsUnder above.now line.new.items width new) }
     ensures moves { IfSome result (λ new. under.right < new.right) }
     ensures kept { result ≡ None → line.new.items ≡ line.old.items }
+    ensures room { vec_capacity line.new ≡ vec_capacity line.old }
     ensures read { let bits = span_bits span.now in
         IfSome result (λ new.
         ModeReads bits width above.now line.old.items line.new.items under new) }
@@ -107,6 +108,7 @@ pub fn read_quick_modes(
     ensures next { result.at ≤ length (span_bits span.now) }
     ensures under { IsUnder above.now line.new.items width result }
     ensures moves { first.right ≤ result.right }
+    ensures room { vec_capacity line.new ≡ vec_capacity line.old }
     ensures read { let bits = span_bits span.now in
         (over : List Bool) (start : ℕ) → Shows above.now width over
         → ModesRead over bits start line.old.items first

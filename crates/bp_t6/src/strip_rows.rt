@@ -137,13 +137,6 @@ impl<'a> StripRows<'a> {
         self.at
     }
 
-    /// The strip.
-    pub(crate) fn span(&self) -> BitSpan<'a>
-        ensures { span_bits result ≡ self.now.bits }
-    {
-        self.span
-    }
-
     /// The places that show the row that was read last.
     pub(crate) fn places(&self) -> &[u32]
         ensures are { result.now ≡ self.now.above }

@@ -1,5 +1,5 @@
 // A strip written a row at a time.
-ghost use Rattle.std.specs.Prelude.{◌≡◌, ◌<◌, ◌≤◌, ◌++◌, ◌∷◌, ℕ, Bool, List, [], IfOk, OnOk, OnErr, length, sum, false, slice_index_or, slice_range};
+ghost use Rattle.std.specs.Prelude.{◌≡◌, ◌<◌, ◌≤◌, ◌++◌, ◌∷◌, ℕ, Bool, List, [], IfOk, OnOk, OnErr, length, sum, false, slice_index_or};
 ghost use Rattle.bp_rows.specs.Changes.{Shows};
 ghost use Rattle.bp_rows.specs.Image.{Image, row_of};
 ghost use Rattle.bp_rows.specs.Runs.{painted_runs};
@@ -7,6 +7,7 @@ ghost use Rattle.bp_t6.specs.SoFar.{HasAdded, last_line};
 ghost use Rattle.bp_t6.specs.Written.{row_code, strip_of, white_line};
 
 use crate::line_writer::LineWriter;
+use crate::row_code::RowCode;
 use crate::run_places::{copy_places, push_places};
 use crate::strip_rows::StripRows;
 use bp_core::{Bytes, OutOfMemory};
@@ -86,23 +87,33 @@ impl StripWriter {
         Ok(())
     }
 
-    /// Adds the row that a reader of rows of that width read last: as its code the bits of the strip
-    /// from this place up to where the reader stands, which are copied (`laws::code_law`). A refusal
-    /// leaves the writer.
-    pub fn add_same(&mut self, rows: &StripRows, from: u64) -> Result<(), OutOfMemory>
-        requires width { rows.now.width ≡ self.old.width }
-        requires order { from ≤ rows.now.at }
+    /// Adds the row that places show. A refusal leaves the writer.
+    pub fn add_places(&mut self, places: &[u32]) -> Result<(), OutOfMemory>
+        requires { (line : List Bool) × Shows places.now self.old.width line }
         ensures width { self.new.width ≡ self.old.width }
         ensures added { (lines : List (List Bool)) (line : List Bool) → HasAdded self.old lines
-            → Shows rows.now.above rows.now.width line
-            → slice_range rows.now.bits from rows.now.at
-            ≡ row_code (last_line (white_line self.old.width) lines) line
+            → Shows places.now self.old.width line
             → OnOk result (HasAdded self.new (lines ++ line ∷ [])) }
         ensures kept { OnErr result (self.new ≡ self.old) }
     {
-        copy_places(&mut self.places, rows.places(), self.lines.width)?;
-        let to = rows.at();
-        self.lines.copy(&mut self.places, &rows.span(), from, to)?;
+        copy_places(&mut self.places, places, self.lines.width)?;
+        self.lines.add(&mut self.places)?;
+        Ok(())
+    }
+
+    /// Adds the row that places show: as its code these bits, which are copied (`laws::code_law`). A
+    /// refusal leaves the writer.
+    pub fn add_code(&mut self, places: &[u32], code: &RowCode) -> Result<(), OutOfMemory>
+        requires { (line : List Bool) × Shows places.now self.old.width line }
+        ensures width { self.new.width ≡ self.old.width }
+        ensures added { (lines : List (List Bool)) (line : List Bool) → HasAdded self.old lines
+            → Shows places.now self.old.width line
+            → code.now ≡ row_code (last_line (white_line self.old.width) lines) line
+            → OnOk result (HasAdded self.new (lines ++ line ∷ [])) }
+        ensures kept { OnErr result (self.new ≡ self.old) }
+    {
+        copy_places(&mut self.places, places, self.lines.width)?;
+        self.lines.copy(&mut self.places, code)?;
         Ok(())
     }
 

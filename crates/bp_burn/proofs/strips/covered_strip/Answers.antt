@@ -1,63 +1,91 @@
-use Rattle.std.proofs.Common.{◌≡◌, ◌<◌, ◌≤◌, ◌+◌, ℕ, List, Bool, take, sym, ◌∙◌, subst, arith}
-use Rattle.std.specs.Prelude.{slice_range}
+use Rattle.std.proofs.Common.{◌≡◌, ◌<◌, ◌≤◌, ◌+◌, ℕ, List, Bool, take, sym, ap, ◌∙◌, subst, arith}
+use Rattle.std.specs.Prelude.{IsTrue}
 use Rattle.std.proofs.lemmas.List.{take_all}
-use Rattle.bp_rows.specs.Changes.{Shows}
+use Rattle.bp_codes.specs.declared.span.Fill.TheVariants.{High}
+use Rattle.bp_codes.specs.Bits.{bits_of}
 use Rattle.bp_rows.specs.Image.{Image, row_of}
-use Rattle.bp_t6.specs.SoFar.{HasAdded, ReadsPage, row_above}
-use Rattle.bp_t6.specs.Written.{row_code}
+use Rattle.bp_rows.specs.Limits.{sides_are_imported}
+use Rattle.bp_t6.specs.SoFar.{HasAdded, last_line, row_above}
+use Rattle.bp_t6.specs.Written.{white_line}
 use Rattle.bp_burn.specs.Covered.{covered, covered_pixel}
-use Rattle.bp_burn.specs.Strips.{HasStrip}
+use Rattle.bp_burn.specs.RowsOut.{IsLine, RowsOut}
+use Rattle.bp_burn.specs.Strips.{IsPageStrip}
 use Rattle.bp_burn.proofs.ChangeLemmas.{changed_is_grid}
-use Rattle.bp_burn.proofs.MakingLemmas.{one_row_more}
-use Rattle.bp_burn.proofs.strips.covered_strip.Goals.{In-Ok}
+use Rattle.bp_burn.proofs.MakingLemmas.{imported_width, one_row_more}
+use Rattle.bp_burn.proofs.OutLemmas.{line_out}
 use Rattle.bp_burn.proofs.strips.covered_strip.Goals as goal
 
--- the row that is read next of a page with this strip
-read_next : (c : goal.In-Ok) (p : Image) → HasStrip c.args.width c.args.height c.args.strip.now p
-    → Shows c.next_row.new.self.above c.next_row.new.self.width (row_of p c.loop-row.row) × ReadsPage p (c.loop-row.row + 1) c.next_row.new.self
-read_next c p has =
-    let row = c.loop-row.row in
-    let down : row < p.height = omega (arith, has.high, c.loop-row-test.true) in
-    let reads = c.loop-row.invariant.reads p has in
-    c.rows_law.ensures.line p row c.loop-row.rows c.next_row.new.self has.page down reads
-    c.in-Ok.ensures.bits c.in-Ok.ensures.width c.in-Ok.ensures.read (c.in-Ok.ensures.next (take row p.rows) reads.read)
+pub loop-row-init : goal.loop-row-init
+loop-row-init c =
+    let out : ℕ → RowsOut = λ w. record { bits = bits_of High c.args.strip.now; width = w; height = c.args.height; ink = c.args.ink; stamps = c.args.stamps.now; row = 0 } in
+    record {
+      are = c.over-rows.ensures ∙ ap out c.in_ok-room.ensures;
+      wide = c.in_ok-writer.ensures.width;
+      added = λ p has. c.in_ok-writer.ensures.none;
+    }
 
-pub add_covered-requires-clause-width : goal.add_covered-requires-clause-width
-add_covered-requires-clause-width c =
+pub take-requires-clause-some : goal.take-requires-clause-some
+take-requires-clause-some c = (imported_width c.args.width c.args.height c.requires.sides).0
+
+pub take-requires-clause-wide : goal.take-requires-clause-wide
+take-requires-clause-wide c = (imported_width c.args.width c.args.height c.requires.sides).1
+
+pub start_writer-requires-clause-some : goal.start_writer-requires-clause-some
+start_writer-requires-clause-some c = (imported_width c.args.width c.args.height c.requires.sides).0
+
+pub start_writer-requires-clause-wide : goal.start_writer-requires-clause-wide
+start_writer-requires-clause-wide c = (imported_width c.args.width c.args.height c.requires.sides).1
+
+pub over-requires-clause-sides : goal.over-requires-clause-sides
+over-requires-clause-sides c = subst (λ (w : ℕ). IsTrue (sides_are_imported w c.args.height)) (sym c.in_ok-room.ensures) c.requires.sides
+
+pub over-requires-clause-strip : goal.over-requires-clause-strip
+over-requires-clause-strip c = subst (λ (w : ℕ). IsPageStrip w c.args.height c.args.strip.now) (sym c.in_ok-room.ensures) c.requires.strip
+
+pub next-requires : goal.next-requires
+next-requires c =
+    let less : c.loop-row.row < c.args.height = c.loop-row-test.true in
+    subst (λ (o : RowsOut). o.row < o.height) (sym c.loop-row.invariant.are) less
+
+pub row-requires : goal.row-requires
+row-requires c =
+    let next = c.next.ensures ∙ ap (λ (o : RowsOut). record o { row = o.row + 1 }) c.loop-row.invariant.are in
+    omega (arith, ap (λ (o : RowsOut). o.row) next)
+
+pub add_row-requires : goal.add_row-requires
+add_row-requires c =
     let inv = c.loop-row.invariant in
-    let has = c.requires.strip.has in
-    c.next_row.ensures.width ∙ (inv.reads c.requires.strip.page has).width ∙ has.wide ∙ sym inv.wide
-
-pub add_covered-requires-clause-order : goal.add_covered-requires-clause-order
-add_covered-requires-clause-order c =
-    let row = c.loop-row.row in
     let p = c.requires.strip.page in
-    let has = c.requires.strip.has in
-    let down : row < p.height = omega (arith, has.high, c.loop-row-test.true) in
-    let order = c.code_law.ensures.order p row c.loop-row.rows c.next_row.new.self has.page down (c.loop-row.invariant.reads p has)
-    (read_next (goal.at.add_covered-requires-clause-order c).In-Ok p has).1 in
-    subst (λ (n : ℕ). n ≤ c.next_row.new.self.at) (sym c.at-from.ensures.at) order
+    let q = covered c.args.ink p c.args.stamps.now in
+    let row = c.loop-row.row in
+    let next = c.next.ensures ∙ ap (λ (o : RowsOut). record o { row = o.row + 1 }) inv.are in
+    let line = line_out c.args.width c.args.height c.args.strip.now c.args.ink c.args.stamps.now row c.next.new.self c.row.result next c.row.ensures p c.requires.strip.has in (
+      row_above q row,
+      row_of q row,
+      subst (λ (w : ℕ). IsLine w (row_above q row) (row_of q row) c.row.result) (sym inv.wide) line,
+    )
 
 pub loop-row-preserved : goal.loop-row-preserved
 loop-row-preserved c =
     let inv = c.loop-row.invariant in
     let row = c.loop-row.row in
-    let rows = c.next_row.new.self in
-    let next = read_next (goal.at.loop-row-preserved c).In-Ok in
+    let width = c.args.width in
+    let next = c.next.ensures ∙ ap (λ (o : RowsOut). record o { row = o.row + 1 }) inv.are in
     record {
-      wide = c.in_ok-add_covered.ensures.width ∙ inv.wide;
-      reads = λ p has. (next p has).1;
+      are = next;
+      wide = c.in_ok-add_row.ensures.width ∙ inv.wide;
       added = λ p has.
           let q = covered c.args.ink p c.args.stamps.now in
           let grid = changed_is_grid p (covered_pixel c.args.ink c.args.stamps.now) in
           let down : row < p.height = omega (arith, has.high, c.loop-row-test.true) in
-          let both = next p has in
-          let P : List (List Bool) → Type 0 = λ lines. HasAdded c.add_covered.new.writer lines in
-          let code : slice_range rows.bits c.at-from.result rows.at ≡ row_code (row_above p row) (row_of p row) =
-          subst (λ (n : ℕ). slice_range rows.bits n rows.at ≡ row_code (row_above p row) (row_of p row)) (sym c.at-from.ensures.at)
-          (c.code_law.ensures.code p row c.loop-row.rows rows has.page down (inv.reads p has) both.1) in
-          subst P (sym (one_row_more q row grid down))
-          (c.in_ok-add_covered.ensures.added p has.page down (has.wide ∙ sym inv.wide) both.0 code (inv.added p has));
+          let lines = take row q.rows in
+          let line = line_out width c.args.height c.args.strip.now c.args.ink c.args.stamps.now row c.next.new.self c.row.result next c.row.ensures p has in
+          let above : row_above q row ≡ last_line (white_line width) lines = ap (λ w. last_line (white_line w) lines) has.wide in
+          let own : IsLine width (last_line (white_line width) lines) (row_of q row) c.row.result =
+          subst (λ (over : List Bool). IsLine width over (row_of q row) c.row.result) above line in
+          let there = subst (λ (w : ℕ). IsLine w (last_line (white_line w) lines) (row_of q row) c.row.result) (sym inv.wide) own in
+          let P : List (List Bool) → Type 0 = λ all. HasAdded c.add_row.new.writer all in
+          subst P (sym (one_row_more q row grid down)) (c.in_ok-add_row.ensures.added lines (row_of q row) (inv.added p has) there);
     }
 
 pub returns-clause-added : goal.returns-clause-added

@@ -1,27 +1,34 @@
-use Rattle.std.proofs.Common.{arith, refl}
+use Rattle.std.proofs.Common.{List, ℕ, sym, subst, arith}
 use Rattle.bp_codes.specs.Span.{span_bits}
-use Rattle.bp_t6.specs.Reading.{IfFault, RowStops}
-use Rattle.bp_t6.proofs.StepLemmas.{same_stop, none_read, under_none, mode_more, row_end, fault_of_row}
+use Rattle.bp_t6.specs.Reading.{IsUnder, ModesRead}
+use Rattle.bp_t6.proofs.StepLemmas.{none_read, under_none, mode_more, row_end, row_stops}
 use Rattle.bp_t6.proofs.line_reader.read_row.Goals as goal
 
 pub loop-under-init : goal.loop-under-init
-loop-under-init c = record {
-  under = under_none c.args.above.now c.clear.new.self.items c.args.width _ c.clear.ensures.items refl refl refl;
-  within = c.requires.place;
-  read = λ over shows. none_read over (span_bits c.args.span.now) c.args.start c.clear.new.self.items _ c.clear.ensures.items refl refl refl;
-}
+loop-under-init c =
+    let first = c.first_under-under.ensures in
+    record {
+      under = under_none c.args.above.now c.clear.new.self.items c.args.width c.first_under-under.result c.clear.ensures.items first.right first.black first.from;
+      within = omega (arith, first.at, c.requires.place);
+      read = λ over shows. none_read over (span_bits c.args.span.now) c.args.start c.clear.new.self.items c.first_under-under.result c.clear.ensures.items first.right first.black first.at;
+    }
 
-pub returns-in_err-next-clause-fault : goal.returns-in_err-next-clause-fault
-returns-in_err-next-clause-fault c = λ over shows.
-    let fault = fault_of_row over (span_bits c.args.span.now) c.args.start c.args.width c.args.above.now c.loop-under.line.items c.loop-under.under _ shows (c.loop-under.invariant.read over shows) c.loop-under-test.true c.requires.place c.loop-under.invariant.within c.in_err-next.ensures.fault in
-    same_stop c.from_residual.result c.in_err-next.field-0.0 (IfFault (RowStops over (span_bits c.args.span.now) c.args.start)) c.from_residual.ensures.1 fault
+pub read_mode-requires-clause-under : goal.read_mode-requires-clause-under
+read_mode-requires-clause-under c =
+    subst (λ (ts : List ℕ). IsUnder c.args.above.now ts c.args.width c.loop-under.under) (sym c.make_room.ensures.kept) c.loop-under.invariant.under
+
+pub returns-in-Err-clause-fault : goal.returns-in-Err-clause-fault
+returns-in-Err-clause-fault c = λ over shows.
+    row_stops over (span_bits c.args.span.now) c.args.start c.args.width c.args.above.now c.loop-under.line.items c.loop-under.under c.in-Err.fault shows (c.loop-under.invariant.read over shows) c.loop-under-test.true c.requires.place c.loop-under.invariant.within c.in-Err.ensures.fault
 
 pub loop-under-preserved : goal.loop-under-preserved
 loop-under-preserved c = record {
   under = c.read_quick_modes-under.ensures.under;
   within = c.read_quick_modes-under.ensures.next;
-  read = λ over shows. c.read_quick_modes-under.ensures.read over c.args.start shows
-      (mode_more over (span_bits c.args.span.now) c.args.start c.args.width c.args.above.now c.loop-under.line.items c.read_mode.new.line.items c.loop-under.under c.in_ok-next.next shows (c.loop-under.invariant.read over shows) c.in_ok-next.ensures.read);
+  read = λ over shows.
+      let so = subst (λ (ts : List ℕ). ModesRead over (span_bits c.args.span.now) c.args.start ts c.loop-under.under) (sym c.make_room.ensures.kept) (c.loop-under.invariant.read over shows) in
+      c.read_quick_modes-under.ensures.read over c.args.start shows
+      (mode_more over (span_bits c.args.span.now) c.args.start c.args.width c.args.above.now c.make_room.new.line.items c.read_mode.new.line.items c.loop-under.under c.in-Ok.next shows so c.in-Ok.ensures.read);
 }
 
 pub returns-clause-read : goal.returns-clause-read

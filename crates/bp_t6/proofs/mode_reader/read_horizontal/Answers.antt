@@ -32,7 +32,7 @@ returns-clause-read c = λ over px shows_over shows.
     let start = c.saturating_sub-from.result in
     let reads = horizontal_bits bits c.args.width c.args.above.now u p.run q.run c.args.at c.in-Ok.run'.next c.in-Ok-read_run.run'.next c.requires.code p.codes q.codes in
     let place = c.go_on.ensures.right in let black = c.go_on.ensures.black in
-    let one = c.in_ok-turn.ensures in let two = c.in_ok-turn-2.ensures in
+    let one = c.turn.ensures in let two = c.turn-2.ensures in
     let last : c.go_on.result.right - 1 ≡ start + first + second = omega (arith, place) in
     record {
       mode = Horizontal p.run q.run;

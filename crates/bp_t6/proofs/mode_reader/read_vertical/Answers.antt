@@ -19,7 +19,7 @@ returns-then-right-under-clause-fault c = record {
 
 pub returns-clause-steps : goal.returns-clause-steps
 returns-clause-steps c = λ over px shows_over shows.
-    let v = c.go_over.result in let u = c.args.under in let put = c.in_ok-turn.ensures in
+    let v = c.go_over.result in let u = c.args.under in let put = c.turn.ensures in
     let place = c.go_over.ensures.right in
     let last : v.right - 1 ≡ c.saturating_sub-right.result - 1 = omega (arith, place) in
     vertical_steps c.args.above.now c.args.width over u shows_over (c.requires.under.from c.requires.on) c.args.line.now.items c.turn.new.line.items v c.args.n px c.requires.shift

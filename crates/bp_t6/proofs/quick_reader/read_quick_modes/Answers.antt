@@ -20,6 +20,7 @@ loop-left-init c =
       since = omega arith;
       far = omega arith;
       few = omega arith;
+      room = i.room;
       holds = held_less c.in-Some.word 57 56 bits (omega arith) (held_of c.in-Some.word bits c.in-Some.ensures.ahead);
       read = i.read;
     }
@@ -62,6 +63,7 @@ loop-left-preserved-in-Some-near_ahead c =
       since = omega (arith, i.since, e.moves);
       far = omega (arith, i.far, e.moves, c.loop-left-test.true);
       few = omega (arith, i.few);
+      room = omega (arith, i.room, e.room);
       holds = held_less word (n - near.len) (7 * (c.loop-left.left - 1)) (drop v.at bits) (omega (arith, begins.short, c.loop-left-test.true)) (subst (λ (bs : List Bool). Holds word (n - near.len) bs) rest held);
       read = λ over start shows read.
           mode_more over bits start c.args.width c.args.above.now c.loop-left.line.items c.read_near.new.line.items u v shows (i.read over start shows read)
@@ -88,6 +90,7 @@ loop-left-preserved c =
       since = omega (arith, i.since, e.moves);
       far = omega (arith, i.since, e.moves);
       few = omega arith;
+      room = omega (arith, i.room, e.room);
       holds = held_less word (57 - k) 28 (drop v.at bits) (omega (arith, e.short)) (subst (λ (bs : List Bool). Holds word (57 - k) bs) rest held);
       read = λ over start shows read.
           mode_more over bits start c.args.width c.args.above.now c.loop-left.line.items c.read_short_horizontal.new.line.items u v shows (i.read over start shows read) e.read;

@@ -1,4 +1,4 @@
-use Rattle.std.proofs.Common.{ℕ, ◌+◌, ◌-◌, ◌*◌, ◌<◌, ◌≤◌, List, Bool, length, drop}
+use Rattle.std.proofs.Common.{ℕ, ◌+◌, ◌-◌, ◌*◌, ◌<◌, ◌≤◌, ◌≡◌, List, Bool, length, drop, vec_capacity}
 use Rattle.bp_codes.specs.Span.{span_bits}
 use Rattle.bp_rows.specs.Changes.{Shows}
 use Rattle.bp_t6.specs.Near.{Holds}
@@ -15,6 +15,7 @@ invariant-loop-left l = record {
   since : l.since ≤ l.under.right;
   far : l.since + 1 ≤ l.under.right + l.left;
   few : l.left ≤ 8;
+  room : vec_capacity l.line ≡ vec_capacity l.fn.line;
   holds : Holds l.word (7 * l.left) (drop l.under.at (span_bits l.span));
   read : (over : List Bool) (start : ℕ) → Shows l.above l.width over → ModesRead over (span_bits l.span) start l.fn.line.items l.fn.first → ModesRead over (span_bits l.span) start l.line.items l.under;
 }
@@ -29,6 +30,7 @@ invariant-loop-word l = record {
   onward : 0 < l.under.right;
   within : l.under.at ≤ length (span_bits l.span);
   moves : l.fn.first.right ≤ l.under.right;
+  room : vec_capacity l.line ≡ vec_capacity l.fn.line;
   read : (over : List Bool) (start : ℕ) → Shows l.above l.width over → ModesRead over (span_bits l.span) start l.fn.line.items l.fn.first → ModesRead over (span_bits l.span) start l.line.items l.under;
 }
 

@@ -23,14 +23,14 @@ returns-clause-turns c =
           let at : c.len-count.result - 1 ≡ k = omega (arith, c.len-count.ensures) in
           let read = get_or_read ts (c.len-count.result - 1) w.index.result.now (omega arith) w.index.ensures 0 in
           let same : w.index.result.now ≡ get_or ts k 0 = read ∙ ap (λ j. get_or ts j 0) at in
-          omega (arith, c.requires.until k (omega arith), w.if-index-place.false))
+          omega (arith, c.requires.turns.until k (omega arith), w.if-index-place.false))
       | else-count-gt0-via-else-count-gt0 w ↦ (λ k e. absurd (omega (arith, w.if-count-gt0.false, c.len-count.ensures)))
     ] in
-    subst (λ (ps : List ℕ). Turns ps n) (sym c.in_ok-push.ensures.items) (turn_turns ts n c.requires last)
+    subst (λ (ps : List ℕ). Turns ps n) (sym c.push_reserved.ensures.items) (turn_turns ts n c.requires.turns last)
 
 pub returns-clause-colour : goal.returns-clause-colour
-returns-clause-colour c = turn_colour c.args.line.now.items c.push.new.self.items c.args.place c.in_ok-push.ensures.items
+returns-clause-colour c = turn_colour c.args.line.now.items c.push_reserved.new.self.items c.args.place c.push_reserved.ensures.items
 
 pub returns-clause-shows : goal.returns-clause-shows
 returns-clause-shows c = λ pixels shows.
-    subst (λ (ps : List ℕ). Shows ps c.args.place pixels) (sym c.in_ok-push.ensures.items) (turn_shows c.args.line.now.items c.args.place pixels shows)
+    subst (λ (ps : List ℕ). Shows ps c.args.place pixels) (sym c.push_reserved.ensures.items) (turn_shows c.args.line.now.items c.args.place pixels shows)

@@ -1,7 +1,7 @@
 use Rattle.std.proofs.Common.{◌∙◌, take, drop, ap, sym}
 use Rattle.bp_codes.specs.Span.{span_bits}
 use Rattle.bp_t6.proofs.CopyLemmas.{bit_there}
-use Rattle.bp_t6.proofs.bit_copy.piece_at.Goals as goal
+use Rattle.bp_t6.proofs.row_code.piece_at.Goals as goal
 
 pub returns-in-Some-clause-bits : goal.returns-in-Some-clause-bits
 returns-in-Some-clause-bits c =

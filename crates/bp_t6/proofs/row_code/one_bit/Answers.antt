@@ -1,5 +1,5 @@
 use Rattle.std.proofs.Common.{Bool, [], ◌∷◌, ap, sym}
-use Rattle.bp_t6.proofs.bit_copy.one_bit.Goals as goal
+use Rattle.bp_t6.proofs.row_code.one_bit.Goals as goal
 
 pub returns-then-bit-clause-bits : goal.returns-then-bit-clause-bits
 returns-then-bit-clause-bits c = ap (λ (b : Bool). b ∷ []) (sym c.if-bit.true)

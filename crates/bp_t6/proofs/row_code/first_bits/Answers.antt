@@ -1,6 +1,6 @@
 use Rattle.std.proofs.Common.{ℕ, ◌-◌, ◌/◌, ◌^◌, ◌<◌, ap, subst, sym, arith}
 use Rattle.bp_t6.proofs.CopyLemmas.{first_below, first_code, first_fits}
-use Rattle.bp_t6.proofs.bit_copy.first_bits.Goals as goal
+use Rattle.bp_t6.proofs.row_code.first_bits.Goals as goal
 
 pub overflow_cast-result-2 : goal.overflow_cast-result-2
 overflow_cast-result-2 c =

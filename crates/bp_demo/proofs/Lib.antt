@@ -1,0 +1,7 @@
+pub mod TextLemmas
+pub mod WordLemmas
+pub mod PageLemmas
+pub mod PileLemmas
+pub mod BatchLemmas
+pub mod CallLemmas
+mod Examples

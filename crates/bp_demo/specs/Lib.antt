@@ -1,0 +1,7 @@
+pub mod Draws
+pub mod Pages
+pub mod Documents
+pub mod Batch
+pub mod Calls
+pub mod Asked
+pub mod Frozen

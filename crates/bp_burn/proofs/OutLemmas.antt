@@ -167,19 +167,23 @@ front_none page places width line shows row =
 -- ---- rows added to the strip that goes out
 
 -- so many rows were read, covered and added
-pub record OutSoFar (width height : ℕ) (strip : List ℕ) (ink : Ink) (stamps : List Stamp) (row : ℕ) (rows : RowsOut) (writer : AddedSoFar) : Type 0 where
-  pub are : rows ≡ record { bits = bits_of High strip; width = width; height = height; ink = ink; stamps = stamps; row = row }
-  pub wide : writer.width ≡ width
-  pub added : (p : Image) → HasStrip width height strip p → HasAdded writer (take row (covered ink p stamps).rows)
+pub record OutSoFar (first : RowsOut) (row : ℕ) (rows : RowsOut) (writer : AddedSoFar) : Type 0 where
+  pub are : rows ≡ record first { row = row }
+  pub wide : writer.width ≡ first.width
+  pub added : (p : Image) → AreOf first p → HasAdded writer (take row (covered first.ink p first.stamps).rows)
 
 -- the row that was read last, at its own number
-pub line_out : (width height : ℕ) (strip : List ℕ) (ink : Ink) (stamps : List Stamp) (row : ℕ) (rows : RowsOut) (lent : CoveredRow)
-    → rows ≡ record { bits = bits_of High strip; width = width; height = height; ink = ink; stamps = stamps; row = row + 1 }
+pub line_out : (first : RowsOut) (row : ℕ) (rows : RowsOut) (lent : CoveredRow)
+    → rows ≡ record first { row = row + 1 }
     → ((p : Image) → AreOf rows p → IsLine rows.width (above_out rows p) (last_out rows p) lent)
-    → (p : Image) → HasStrip width height strip p → IsLine width (row_above (covered ink p stamps) row) (row_of (covered ink p stamps) row) lent
-line_out width height strip ink stamps row rows lent are line p has =
-    let out : RowsOut = record { bits = bits_of High strip; width = width; height = height; ink = ink; stamps = stamps; row = row + 1 } in
+    → (p : Image) → AreOf first p → IsLine first.width (row_above (covered first.ink p first.stamps) row) (row_of (covered first.ink p first.stamps) row) lent
+line_out first row rows lent are line p has =
+    let out : RowsOut = record first { row = row + 1 } in
     let back : row + 1 - 1 ≡ row = omega arith in
-    let these : AreOf rows p = subst (λ (o : RowsOut). AreOf o p) (sym are) (bits_of_strip width height strip p has) in
-    let there : IsLine width (above_out out p) (last_out out p) lent = subst (λ (o : RowsOut). IsLine o.width (above_out o p) (last_out o p) lent) are (line p these) in
-    subst (λ (n : ℕ). IsLine width (row_above (covered ink p stamps) n) (row_of (covered ink p stamps) n) lent) back there
+    let these : AreOf rows p = subst (λ (o : RowsOut). AreOf o p) (sym are) has in
+    let there : IsLine first.width (above_out out p) (last_out out p) lent = subst (λ (o : RowsOut). IsLine o.width (above_out o p) (last_out o p) lent) are (line p these) in
+    subst (λ (n : ℕ). IsLine first.width (row_above (covered first.ink p first.stamps) n) (row_of (covered first.ink p first.stamps) n) lent) back there
+
+-- before the first row
+pub at_first : (first : RowsOut) (n : ℕ) → first.row ≡ n → first ≡ record first { row = n }
+at_first first n is = ap (λ (k : ℕ). record first { row = k }) is

@@ -34,6 +34,11 @@ pub record HasBits (width height : ℕ) (bits : List Bool) (p : Image) : Type 0 
 abbrev pub AreOf : RowsOut → Image → Type 0
 AreOf rows p = HasBits rows.width rows.height rows.bits p
 
+-- rows of some page
+pub record HasPage (rows : RowsOut) : Type 0 where
+  pub page : Image
+  pub are : AreOf rows page
+
 -- the row that was read last, covered
 abbrev pub last_out : RowsOut → Image → List Bool
 last_out rows p = row_of (covered rows.ink p rows.stamps) (rows.row - 1)

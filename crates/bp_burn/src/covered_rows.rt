@@ -99,6 +99,27 @@ impl<'a> CoveredRows<'a> {
         }
     }
 
+    /// The width of the page in pixels.
+    pub fn width(&self) -> u32
+        ensures { result ≡ self.now.width }
+    {
+        self.line.width()
+    }
+
+    /// The height of the page in pixels.
+    pub fn height(&self) -> u32
+        ensures { result ≡ self.now.height }
+    {
+        self.height
+    }
+
+    /// The stamps that cover the page.
+    pub fn stamps(&self) -> &StampList
+        ensures { result.now ≡ self.now.stamps }
+    {
+        self.stamps
+    }
+
     /// Reads the next row, and covers it.
     pub fn next(&mut self)
         requires { self.old.row < self.old.height }

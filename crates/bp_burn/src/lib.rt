@@ -4,8 +4,8 @@
 //! boxes, all black or with the code of their ground in white, and adds the band with designation and
 //! label; `covered_runs` covers one row, as runs, and `produced_strip` makes the strip of the page that
 //! goes out of the page's strip, a row at a time, which `CoveredRows` reads and covers in room that was
-//! taken before; `slip_page` makes the sheet that stands for a withheld
-//! document. Their contracts cite `burned`, `covered`, `produced_of` and `slip_of`.
+//! taken before; `strip_of_rows` makes it of such rows and sees no more of the page; `slip_page` makes
+//! the sheet that stands for a withheld document. Their contracts cite `burned`, `covered`, `produced_of` and `slip_of`.
 #![tactic(auto)]
 
 mod band;
@@ -29,4 +29,4 @@ pub use out_room::OutRoom;
 pub use paper::SLIP_DOTS;
 pub use slips::{SLIP_HEIGHT, SLIP_WIDTH, slip_page};
 pub use stamps::covered_runs;
-pub use strips::produced_strip;
+pub use strips::{produced_strip, strip_of_rows};

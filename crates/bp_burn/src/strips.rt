@@ -7,7 +7,7 @@ ghost use Rattle.bp_t6.specs.Written.{strip_of, white_line};
 ghost use Rattle.bp_burn.specs.Band.{produced_of};
 ghost use Rattle.bp_burn.specs.Covered.{covered};
 ghost use Rattle.bp_burn.specs.Drawn.{has_glyphs};
-ghost use Rattle.bp_burn.specs.RowsOut.{IsLine};
+ghost use Rattle.bp_burn.specs.RowsOut.{AreOf, HasPage, IsLine};
 ghost use Rattle.bp_burn.specs.Strips.{HasStrip, IsPageStrip, band_rows};
 
 use crate::band::{BAND_ROWS, draw_band};
@@ -40,30 +40,50 @@ pub fn produced_strip(
         → IfOk result (λ out.
         out ≡ strip_of (produced_of ink p stamps.now label.now designation.now)) }
 {
-    let mut writer = covered_strip(alloc, ink, strip, width, height, stamps)?;
+    let room = OutRoom::take(alloc, width)?;
+    let rows = CoveredRows::over(room, ink, strip, height, stamps);
+    strip_of_rows(alloc, rows, label, designation)
+}
+
+/// The strip of the page that goes out, as `produced` makes it, of the rows of the page, none of which
+/// was read yet: they are lent covered, one after another. It sees no more of the page, and its band is
+/// of this label and this designation.
+pub fn strip_of_rows(
+    alloc: Global,
+    rows: CoveredRows<'_>,
+    label: &Text,
+    designation: &Text,
+) -> Result<Bytes, OutOfMemory>
+    requires sides { IsTrue (sides_are_imported rows.width rows.height) }
+    requires page { HasPage rows }
+    requires none { rows.row ≡ 0 }
+    requires label { IsTrue (has_glyphs label.now) }
+    requires designation { IsTrue (has_glyphs designation.now) }
+    ensures { (p : Image) → AreOf rows.entry p
+        → IfOk result (λ out.
+        out ≡ strip_of
+        (produced_of rows.entry.ink p rows.entry.stamps label.now designation.now)) }
+{
+    let width = rows.width();
+    let mut writer = covered_strip(alloc, rows)?;
     add_band(alloc, &mut writer, width, label, designation)?;
     writer.finish(alloc)
 }
 
-// The strip under way of the page covered. All room is taken before a row is read, and what adds a row
-// sees it covered.
-fn covered_strip(
-    alloc: Global,
-    ink: Ink,
-    strip: &[u8],
-    width: u32,
-    height: u32,
-    stamps: &StampList,
-) -> Result<StripWriter, OutOfMemory>
-    requires sides { IsTrue (sides_are_imported width height) }
-    requires strip { IsPageStrip width height strip.now }
-    ensures width { IfOk result (λ writer. writer.width ≡ width) }
-    ensures added { (p : Image) → HasStrip width height strip.now p
-        → IfOk result (λ writer. HasAdded writer (covered ink p stamps.now).rows) }
+// The strip under way of the page covered. What adds a row sees it covered.
+fn covered_strip(alloc: Global, lent: CoveredRows<'_>) -> Result<StripWriter, OutOfMemory>
+    requires sides { IsTrue (sides_are_imported lent.width lent.height) }
+    requires page { HasPage lent }
+    requires none { lent.row ≡ 0 }
+    ensures width { IfOk result (λ writer. writer.width ≡ lent.entry.width) }
+    ensures added { (p : Image) → AreOf lent.entry p
+        → IfOk result (λ writer. HasAdded writer (covered lent.entry.ink p lent.entry.stamps).rows) }
 {
-    let room = OutRoom::take(alloc, width)?;
-    let mut writer = start_writer(alloc, likely_size(width, height, stamps), width)?;
-    let mut rows = CoveredRows::over(room, ink, strip, height, stamps);
+    let mut rows = lent;
+    let width = rows.width();
+    let height = rows.height();
+    let size = likely_size(width, height, rows.stamps());
+    let mut writer = start_writer(alloc, size, width)?;
     for row in 0..height {
         let _row = row;
         rows.next();

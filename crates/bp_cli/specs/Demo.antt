@@ -21,15 +21,15 @@ pub record DemoAsked : Type 0 where
   pub seed : ℕ
   pub pages : ℕ
 
--- so many pages can be asked for
-abbrev pub is_demo : ℕ → Bool
-is_demo pages = nat_le 1 pages && nat_le pages MOST_PAGES
+-- so many pages can be drawn
+abbrev pub can_be_drawn : ℕ → Bool
+can_be_drawn pages = nat_le 1 pages && nat_le pages MOST_PAGES
 
--- PAGES: a number of pages that can be asked for
+-- PAGES: a number of pages that can be drawn
 abbrev pub pages_of : List ℕ → Option ℕ
 pages_of word = do
   pages ← number_of word
-  if is_demo pages then Some pages else None
+  if can_be_drawn pages then Some pages else None
 
 -- demo SEED PAGES
 abbrev pub demo_of : List (List ℕ) → Option DemoAsked

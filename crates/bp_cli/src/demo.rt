@@ -40,13 +40,13 @@ pub struct DemoLine {
 
 impl Model for DemoLine {
     ghost use Rattle.std.specs.Prelude.{IsTrue};
-    ghost use Rattle.bp_cli.specs.Demo.{DemoAsked, is_demo};
+    ghost use Rattle.bp_cli.specs.Demo.{DemoAsked, can_be_drawn};
 
     ghost Value = { DemoAsked };
 
     ghost view = { λ line. record { seed = line.seed; pages = line.pages } };
 
-    ghost invariant = { λ line. IsTrue (is_demo line.pages) };
+    ghost invariant = { λ line. IsTrue (can_be_drawn line.pages) };
 }
 
 /// What `demo SEED PAGES` asks for.
@@ -128,11 +128,7 @@ fn drawn_demo(alloc: Global, asked: DemoLine) -> Result<Drawn, Refusal>
 }
 
 // Makes the call of the lead that freezes what is asked, in tables that no keeper has the rows of.
-fn freeze_here(
-    alloc: Global,
-    tables: &mut Tables,
-    request: Request,
-) -> Result<Production, Refusal>
+fn freeze_here(alloc: Global, tables: &mut Tables, request: Request) -> Result<Production, Refusal>
     ensures { FreezesHere tables.old.matter request result tables.new.matter }
 {
     tables.know_valid();
@@ -144,11 +140,7 @@ fn freeze_here(
 }
 
 // Commits the rows of the tables, all at once.
-fn keep_first<K: Keeper>(
-    alloc: Global,
-    tables: &Tables,
-    keeper: &mut K,
-) -> Result<(), KeepRefusal>
+fn keep_first<K: Keeper>(alloc: Global, tables: &Tables, keeper: &mut K) -> Result<(), KeepRefusal>
     ensures { KeepsFirst tables.now.matter (K.shows keeper.old) result (K.shows keeper.new) }
 {
     match puts_of_tables(alloc, tables) {

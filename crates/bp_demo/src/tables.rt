@@ -39,11 +39,7 @@ fn make_all(alloc: Global, tables: &mut Tables, asked: &Asked) -> Result<(), Out
     Ok(())
 }
 
-fn make_calls(
-    alloc: Global,
-    tables: &mut Tables,
-    calls: &[KeyedCall],
-) -> Result<(), OutOfMemory>
+fn make_calls(alloc: Global, tables: &mut Tables, calls: &[KeyedCall]) -> Result<(), OutOfMemory>
     ensures { OnOk result
         (tables.new.matter ≡ run_of tables.old.matter (map call_step calls.now)) }
 {

@@ -2,7 +2,8 @@
 # An import beside the sum of its parts: processor time of `read_batch` and `step_import` over a made batch of letter pages
 # at 300 dots an inch (Group 4, 376 words each), beside that of reading each image file, digesting it, reading its page and
 # coding its strip; the same of pages in one strip, as most scanners write them, which come in without pixels; then the growth
-# up to 450 pages, and of 1,000 to 10,000 documents of one small page, which is to grow in a line. A time is the least of three runs.
+# up to 450 pages, and of 1,000 to 10,000 documents of one small page, which is to grow in a line; last, white pages of 20,000 by
+# 10,000, one and 25 of them, 5,000,000,000 pixels, whose strips have 2.5 KB each. A time is the least of three runs.
 # A word: how many letter pages, 200 where none is given. Needs rt on PATH, python3 and tiffcp (Debian: libtiff-tools).
 set -eu
 here=$(CDPATH='' cd -- "$(dirname -- "$0")" && pwd)
@@ -64,4 +65,23 @@ for count in 1000 2000 5000 10000; do
     awk -v n="$count" -v whole="$1" -v memory="$2" 'BEGIN {
         printf "%5d documents of a small page: import %.3f s, %.1f us a document, %.0f MB\n", n, whole, 1000000 * whole / n, memory }'
     rm -rf "$scratch/S$count"
+done
+
+# a white page of 20,000 by 10,000 is a bit 1 a row in T.6, and the end of the block
+python3 - "$scratch/white.tif" << 'END'
+import struct, sys
+strip = bytes([255]) * 1250 + bytes([0, 16, 1])
+entries = [(256, 4, 20000), (257, 4, 10000), (258, 3, 1), (259, 3, 4), (262, 3, 0), (273, 4, 122), (278, 4, 10000), (279, 4, len(strip))]
+head = b"II" + struct.pack("<HI", 42, 8) + struct.pack("<H", len(entries))
+for tag, kind, value in entries:
+    head += struct.pack("<HHI", tag, kind, 1) + (struct.pack("<I", value) if kind == 4 else struct.pack("<HH", value, 0))
+head += struct.pack("<I", 0)
+open(sys.argv[1], "wb").write(head.ljust(122, b"\0") + strip)
+END
+for count in 1 25; do
+    make "W$count" "$count" "$scratch/white.tif" 4 1
+    set -- $(cost_of import "W$count")
+    awk -v n="$count" -v whole="$1" -v memory="$2" 'BEGIN {
+        printf "%5d white pages of 200,000,000 pixels: import %.3f s, %.0f MB at the peak\n", n, whole, memory }'
+    rm -rf "$scratch/W$count"
 done

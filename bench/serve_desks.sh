@@ -2,9 +2,10 @@
 # One desk beside sixteen, at the ports 48201 to 48216 of this machine, over a matter kept in memory, by bp_serving_time; each desk
 # has one client of one connection a request (serve_client.c), and all clients ask at once:
 #   SetCall   on a matter of 10,000 documents
+#   the usual mix on it: a document is seen, then its words, it is called, a box put, a field held and the entry written
 #   SeePage   of 2,550 by 3,300 pixels (examples/letter.tif)
 # How many exchanges a second all of them had together is the sum of the clients' rates, each over its own exchanges but the first.
-# Wanted: as many SetCalls by sixteen desks as by one, and 2.5 times as many pages. A desk that waits takes no processor: the
+# Wanted: as many calls by sixteen desks as by one, and 2.5 times as many pages. A desk that waits takes no processor: the
 # processor time of sixteen desks that nobody asks for two seconds is told, and what one of them does while fifteen wait.
 # Words: rounds, 5 where none is given; SetCalls a round, 16,000; pages a round, 320.
 # Needs rt on PATH where the program isn't built; python3, gcc, and those ports free.
@@ -73,14 +74,16 @@ letter=$top/examples/letter.tif
 for _ in $(seq "$rounds"); do
     round "$scratch/calls_1" 1 1 "$count" "$scratch/call" - "$docs"
     round "$scratch/calls_16" 16 16 "$count" "$scratch/call" - "$docs"
+    round "$scratch/mixed_1" 1 1 "$count" "$mix" - "$docs"
+    round "$scratch/mixed_16" 16 16 "$count" "$mix" - "$docs"
     round "$scratch/pages_1" 1 1 "$pages" "$scratch/page" "$letter" 16
     round "$scratch/pages_16" 16 16 "$pages" "$scratch/page" "$letter" 16
     round "$scratch/idle_16" 16 1 "$count" "$scratch/call" - "$docs"
 done
-for job in calls pages; do
+for job in calls mixed pages; do
     awk -v job="$job" -v one="$(median "$scratch/${job}_1")" -v all="$(median "$scratch/${job}_16")" -v cores="$(nproc)" 'BEGIN {
         printf "%s: by one desk %.0f a second, by sixteen %.0f, %.2f times, on %d processors (%s wanted)\n", job, one, all, all / one,
-            cores, job == "calls" ? "1 is" : "2.5 are" }'
+            cores, job == "pages" ? "2.5 are" : "1 is" }'
 done
 awk -v all="$(median "$scratch/idle_16")" -v one="$(median "$scratch/calls_1")" 'BEGIN {
     printf "calls at one of sixteen desks while fifteen wait: %.0f a second, %.2f times those of one desk\n", all, all / one }'

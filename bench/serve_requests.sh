@@ -8,8 +8,15 @@ request() {
     printf '\r\n%s' "${2-}"
 }
 
-# the requests of SetCall and SeePage, in files: a `@` is the number of a document, a `~` changes each time (serve_client.c)
+# the requests of SetCall and SeePage, and what a reviewer asks of a document one after another, in files: a `@` is the number of a
+# document, a `~` changes each time (serve_client.c). None is refused, whatever other reviewers asked before
 write_requests() {
     request 'POST /docs/@/call' '{"responsive":true,"treatment":"Redact","designation":"CONFIDENTIAL ~"}' > "$1/call"
     request 'GET /docs/@/pages/1' > "$1/page"
+    request 'GET /docs/@' > "$1/see"
+    request 'GET /docs/@/pages/1/words' > "$1/words"
+    request 'POST /docs/@/box' '{"num":1,"page":1,"left":0,"top":0,"width":2,"height":1,"basis":"PI"}' > "$1/box"
+    request 'POST /docs/@/hold' '{"field":"AUTHOR","basis":"PI"}' > "$1/hold"
+    request 'POST /docs/@/entry' '{"date":"2024-01-01","author":"Ng","recipients":"Ortiz","description":"a name ~"}' > "$1/entry"
+    mix=$1/see,$1/words,$1/call,$1/box,$1/hold,$1/entry
 }

@@ -1,6 +1,6 @@
 -- Worked examples of pages that are kept as their strips (ITU-T T.6, 2.2): a white row of two pixels is one mode V0, a bit 1,
 -- and the end of the facsimile block stands behind it.
-use Rattle.std.proofs.Common.{◌≡◌, ◌<◌, ◌^◌, ℕ, zero, suc, length, slice_index_or, arith, Bool, true, false, List, [], ◌∷◌, None, refl}
+use Rattle.std.proofs.Common.{◌≡◌, ◌<◌, ℕ, zero, suc, length, slice_index_or, arith, true, false, List, [], ◌∷◌, None, refl}
 use Rattle.bp_codes.specs.CodeLists.{mode_codes}
 use Rattle.bp_rows.specs.Image.{Image, IsPage, FitsRes, white_image}
 use Rattle.bp_rows.specs.declared.resolution.Unit.TheVariants.{Inch}

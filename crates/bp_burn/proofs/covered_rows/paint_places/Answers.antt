@@ -71,5 +71,5 @@ returns-clause-row c = λ line shows.
     let k = c.loop-k.k in
     let shown = subst (λ (w : ℕ). Shows places w line) (sym c.width-width.ensures.value) shows in
     front_all c.loop-k.page places width k line shown c.loop-k.invariant.long
-    (get_or_past places k width (omega (arith, c.len-count.ensures, c.loop-k-test.false)))
+    (get_or_past places k width (omega (arith, c.loop-k-test.false)))
     (c.loop-k.invariant.front line shown)

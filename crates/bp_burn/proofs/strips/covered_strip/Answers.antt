@@ -36,11 +36,11 @@ start_writer-requires-clause-some c = (imported_width c.args.width c.args.height
 pub start_writer-requires-clause-wide : goal.start_writer-requires-clause-wide
 start_writer-requires-clause-wide c = (imported_width c.args.width c.args.height c.requires.sides).1
 
-pub over-requires-clause-sides : goal.over-requires-clause-sides
-over-requires-clause-sides c = subst (λ (w : ℕ). IsTrue (sides_are_imported w c.args.height)) (sym c.in_ok-room.ensures) c.requires.sides
+pub over-rows-requires-clause-sides : goal.over-rows-requires-clause-sides
+over-rows-requires-clause-sides c = subst (λ (w : ℕ). IsTrue (sides_are_imported w c.args.height)) (sym c.in_ok-room.ensures) c.requires.sides
 
-pub over-requires-clause-strip : goal.over-requires-clause-strip
-over-requires-clause-strip c = subst (λ (w : ℕ). IsPageStrip w c.args.height c.args.strip.now) (sym c.in_ok-room.ensures) c.requires.strip
+pub over-rows-requires-clause-strip : goal.over-rows-requires-clause-strip
+over-rows-requires-clause-strip c = subst (λ (w : ℕ). IsPageStrip w c.args.height c.args.strip.now) (sym c.in_ok-room.ensures) c.requires.strip
 
 pub next-requires : goal.next-requires
 next-requires c =

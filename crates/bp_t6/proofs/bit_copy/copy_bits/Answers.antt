@@ -20,13 +20,13 @@ loop-at-preserved c =
     let code = c.args.code.now in
     let first = c.args.out.now in
     let at = c.loop-at.at in
-    let piece = c.piece.result in
+    let piece = c.piece-piece.result in
     record {
-      within = omega (arith, c.piece.ensures.few, c.from-at.ensures);
+      within = omega (arith, c.piece-piece.ensures.few, c.from-at.ensures);
       copied = c.in_ok-put.ensures.ok
           ∙ ap (λ bs. bs ++ code_bits piece) so.copied
           ∙ append_assoc first (take at code) (code_bits piece)
-          ∙ ap (λ bs. first ++ (take at code ++ bs)) c.piece.ensures.bits
+          ∙ ap (λ bs. first ++ (take at code ++ bs)) c.piece-piece.ensures.bits
           ∙ ap (λ bs. first ++ bs) (sym (take-add at piece.len code))
           ∙ ap (λ n. first ++ take (at + n) code) (sym c.from-at.ensures);
     }

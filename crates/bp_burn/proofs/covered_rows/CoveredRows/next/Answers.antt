@@ -3,6 +3,7 @@ use Rattle.std.specs.Prelude.{slice_range}
 use Rattle.bp_core.specs.declared.stamps.Stamp.{Stamp}
 use Rattle.bp_rows.specs.Changes.{Rises, Shows}
 use Rattle.bp_rows.specs.Image.{Image, row_of}
+use Rattle.bp_rows.proofs.PageLemmas.{sides_bound}
 use Rattle.bp_t6.specs.SoFar.{ReadsPage, row_above}
 use Rattle.bp_t6.specs.Written.{row_code}
 use Rattle.bp_burn.specs.Covered.{covered}
@@ -30,8 +31,10 @@ cover_row-requires-clause-rises c =
 pub overflow_add-self : goal.overflow_add-self
 overflow_add-self c =
     let s = c.self.inside in
+    let own = c.self.invariant.own in
     let less : s.row < s.height = subst (λ (o : RowsOut). o.row < o.height) (sym c.self.view_is) c.requires in
-    omega (arith, less)
+    let high = (sides_bound c.self.invariant.page.width c.self.invariant.page.height own.page.sides).1 in
+    omega (arith, less, own.high, high)
 
 pub invariant_of-self : goal.invariant_of-self
 invariant_of-self c =

@@ -1,10 +1,10 @@
 // The command `demo`.
-ghost use Rattle.std.specs.Prelude.{◌≡◌, IfOk, Some, map};
+ghost use Rattle.std.specs.Prelude.{◌≡◌, IfOk, IfSome, IsTrue, Some, map};
 ghost use Rattle.bp_matter.specs.KeptRows.{rows_of};
 ghost use Rattle.bp_outside.specs.Source.{SourceView};
 ghost use Rattle.bp_rules.specs.Changes.{put_of};
 ghost use Rattle.bp_cli.specs.Commands.{demo, ReadsAndWorks};
-ghost use Rattle.bp_cli.specs.Demo.{demo_of, pages_of};
+ghost use Rattle.bp_cli.specs.Demo.{can_be_drawn, demo_of, pages_of};
 ghost use Rattle.bp_cli.specs.Demoing.{DrawsDemo, FreezesHere, HasRows, KeepsFirst};
 ghost use Rattle.bp_cli.specs.Endings.{world};
 ghost use Rattle.bp_cli.specs.Words.{words_lent};
@@ -62,7 +62,8 @@ pub fn demo_in(operands: &[&str]) -> Option<DemoLine>
 }
 
 fn pages_in(word: &str) -> Option<u32>
-    ensures { result ≡ pages_of word.now }
+    ensures is { result ≡ pages_of word.now }
+    ensures drawn { IfSome result (λ pages. IsTrue (can_be_drawn pages)) }
 {
     let pages = number_in(word)?;
     if 1 <= pages && pages <= MOST_PAGES {

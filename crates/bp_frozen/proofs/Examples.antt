@@ -1,5 +1,5 @@
 -- Worked examples, each run by the check: at seat 1 a withheld document is frozen, and at seat 2 it is sent back afterwards.
-use Rattle.std.proofs.Common.{◌≡◌, ℕ, true, List, [], ◌∷◌, Some, Ok, codes, refl, replicate, sym, ◌∙◌}
+use Rattle.std.proofs.Common.{◌≡◌, ℕ, true, List, [], ◌∷◌, Some, Ok, ap, codes, refl, replicate, sym, ◌∙◌}
 use Rattle.std.specs.Prelude.{Result}
 use Rattle.bp_core.specs.declared.review.Basis.TheVariants.{Ac}
 use Rattle.bp_core.specs.declared.review.Role.{Role}
@@ -120,8 +120,13 @@ black = record production { ink = Black }
 abbrev given : Production → Result Production Rule
 given f = Ok f
 
+lettered_is_not_black : production.ink ≡ black.ink → ⊥
+lettered_is_not_black same = cc
+
 other_ink : given production ≡ given black → ⊥
-other_ink same = cc
+other_ink same =
+    let one : production ≡ black = cc in
+    lettered_is_not_black (ap (λ (f : Production). f.ink) one)
 
 is_given : freeze_of matter request ≡ given production
 unfolding freeze_of

@@ -3,6 +3,9 @@
 use Rattle.std.proofs.Common.{ℕ, ◌≡◌, true, List, [], ◌∷◌, Option, Some, Result, Ok, Err, refl, sym, ap, subst, ◌∙◌}
 use Rattle.std.specs.List.{find}
 use Rattle.std.specs.Str.{bytes_eq}
+use Rattle.std.specs.Result.{IsErr, IsErrAnd}
+use Rattle.bp_core.specs.declared.refusals.Refusal.{Refusal}
+use Rattle.bp_core.specs.declared.refusals.Refusal.TheVariants as calls
 use Rattle.bp_core.specs.declared.review.Role.{Role}
 use Rattle.bp_core.specs.declared.review.Role.TheVariants.{Lead}
 use Rattle.bp_core.specs.declared.rules.Rule.{Rule}
@@ -22,7 +25,7 @@ use Rattle.bp_freeze.specs.Freezing.{freeze_of}
 use Rattle.bp_freeze.specs.Keeping.{frozen_matter}
 use Rattle.bp_freeze.proofs.PutRowLemmas.{text-same}
 use Rattle.bp_rules.specs.Changes.{after, puts_of}
-use Rattle.bp_rules.specs.Deciding.{DecidedAs, stepped_of}
+use Rattle.bp_rules.specs.Deciding.{DecidedAs, Decides, stepped_of}
 use Rattle.bp_rules.specs.Roles.{is_clerk}
 use Rattle.bp_rules.specs.Stepping.{Stepped, freeze, step_for, step_of}
 use Rattle.bp_rules.specs.Steps.{CallMade, StepsCall}
@@ -30,7 +33,7 @@ use Rattle.bp_rules.specs.declared.decided.Decided.{Decided}
 use Rattle.bp_rules.specs.declared.refusals.MatterRefusal.{MatterRefusal}
 use Rattle.bp_rules.specs.declared.refusals.MatterRefusal.TheVariants as refusals
 use Rattle.bp_cli.specs.declared.stops.Stop.{Stop}
-use Rattle.bp_cli.specs.Demoing.{FrozeHere}
+use Rattle.bp_cli.specs.Demoing.{FreezesHere, FrozeHere}
 use Rattle.bp_cli.specs.Producing.{Freezes, Froze, IsProduced}
 use Rattle.bp_cli.specs.Stops.{StopsForMatter}
 use Rattle.bp_cli.proofs.KeptLemmas.{told_then}
@@ -135,6 +138,22 @@ froze_here m q key decided f m' valid lead is made told =
       matter = made ∙ reply.left ∙ ap (λ (g : Production). frozen_matter g m) same;
     }
 
-pub here_refused : (m : Matter) (q : Request) (key : List ℕ) (rule : Rule) → IsValid m → key ≡ lead_digest_in m.staff → step_of m key (Freeze q) ≡ Err rule → freeze_of m q ≡ Err rule
-here_refused m q key rule valid lead is =
+-- what the `?` hands on, by what it became
+here_by : (P : Refusal → Type 0) (m : Matter) (q : Request) (r : Result Production Refusal) (m' : Matter) → IsErr r → IsErrAnd r P → ((x : Refusal) → P x → FreezesHere m q (Err x) m') → FreezesHere m q r m'
+here_by P m q (Ok f) m' is stop give = absurd stop
+here_by P m q (Err x) m' is stop give = give x stop
+
+refused_here : (m : Matter) (q : Request) (key : List ℕ) (refusal : Refusal) (m' : Matter) → IsValid m → key ≡ lead_digest_in m.staff → Decides m (step_of m key (Freeze q)) (Err refusal) → FreezesHere m q (Err refusal) m'
+refused_here m q key (calls.Rule rule) m' valid lead is =
     refused_by m (freeze_of m q) rule (sym (lead_step m valid q) ∙ ap (λ (k : List ℕ). step_of m k (Freeze q)) (sym lead) ∙ is)
+refused_here m q key calls.OutOfMemory m' valid lead is = tt
+
+pub here_refused : (m : Matter) (q : Request) (key : List ℕ) (refusal : Refusal) (r : Result Production Refusal) (m' : Matter) → IsValid m → key ≡ lead_digest_in m.staff → Decides m (step_of m key (Freeze q)) (Err refusal) → IsErr r → IsErrAnd r (λ x. x ≡ refusal) → FreezesHere m q r m'
+here_refused m q key refusal r m' valid lead decided is stop =
+    here_by (λ x. x ≡ refusal) m q r m' is stop
+    (λ x same. subst (λ (y : Refusal). FreezesHere m q (Err y) m') (sym same) (refused_here m q key refusal m' valid lead decided))
+
+pub here_lacked : (m : Matter) (q : Request) (r : Result Production Refusal) (m' : Matter) → IsErr r → IsErrAnd r (λ x. x ≡ calls.OutOfMemory) → FreezesHere m q r m'
+here_lacked m q r m' is stop =
+    here_by (λ x. x ≡ calls.OutOfMemory) m q r m' is stop
+    (λ x same. subst (λ (y : Refusal). FreezesHere m q (Err y) m') (sym same) tt)

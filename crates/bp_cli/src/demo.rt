@@ -135,7 +135,8 @@ fn freeze_here(alloc: Global, tables: &mut Tables, request: Request) -> Result<P
     tables.know_valid();
     let lead = tables.lead_digest();
     let call = Call::Freeze { request };
-    let Decided { change, reply } = decide(alloc, tables, &lead, &call)?;
+    let decided = decide(alloc, tables, &lead, &call)?;
+    let Decided { change, reply } = decided;
     make(tables, change)?;
     Ok(production_in(reply))
 }

@@ -32,7 +32,7 @@ pub const DEMO_WORDS: usize = 2;
 // ---- its line
 
 /// What a line of demo asks for: a seed, and 1 to 2,000 pages.
-#[derive(Clone, Copy, Debug)]
+#[derive(Debug, Drop)]
 pub struct DemoLine {
     seed: u32,
     pages: u32,

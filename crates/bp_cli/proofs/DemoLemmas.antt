@@ -1,11 +1,13 @@
 -- Lemmas of demo: from what drawing its matter, keeping it and putting its volume gave to how it ends.
-use Rattle.std.proofs.Common.{ℕ, ◌≡◌, true, List, [], ◌∷◌, map, Option, Some, Result, Ok, Err, refl, sym, ap, subst, ◌∙◌, inl, inr}
+use Rattle.std.proofs.Common.{ℕ, ◌≡◌, eqb, not, Bool, true, false, length, List, [], ◌∷◌, map, Option, Some, Result, Ok, Err, refl, sym, ap, subst, ◌∙◌, inl, inr}
 use Rattle.std.specs.Result.{IsErr, IsErrAnd}
+use Rattle.bp_core.specs.Rules.{bare_rule}
 use Rattle.bp_core.specs.Sorted.{ascends, row_key}
 use Rattle.bp_core.specs.declared.kept.Row.{Row}
 use Rattle.bp_core.specs.declared.refusals.Refusal.{Refusal}
 use Rattle.bp_core.specs.declared.refusals.Refusal.TheVariants as refusals
 use Rattle.bp_core.specs.declared.rules.Rule.{Rule}
+use Rattle.bp_core.specs.declared.rules.RuleKind.TheVariants.{MatterThere}
 use Rattle.bp_outside.specs.Folder.{FolderView}
 use Rattle.bp_keep.specs.Keeper.{KeeperView, Loads, Commits}
 use Rattle.bp_keep.specs.declared.refusals.KeepRefusal.{KeepRefusal}
@@ -18,18 +20,37 @@ use Rattle.bp_press.specs.Volume.{volume_of}
 use Rattle.bp_rules.specs.Changes.{put_of}
 use Rattle.bp_demo.specs.Demo.{demo_freeze, demo_matter}
 use Rattle.bp_cli.specs.declared.stops.Stop.{Stop}
+use Rattle.bp_cli.specs.declared.stops.Stop.TheVariants as stops
 use Rattle.bp_cli.specs.Demo.{DemoAsked, demo_gives}
-use Rattle.bp_cli.specs.Demoing.{DrawsDemo, FrozeHere, KeepsFirst}
+use Rattle.bp_cli.specs.Demoing.{DrawsDemo, FrozeHere, KeepsFirst, LoadsSome}
 use Rattle.bp_cli.specs.Endings.{Ending}
 use Rattle.bp_cli.specs.Produce.{frozen_gives, volume_done}
 use Rattle.bp_cli.specs.Producing.{PutsVolume}
 use Rattle.bp_cli.specs.Stops.{StopsFor, StopsForKeeper}
 use Rattle.bp_cli.proofs.CalmLemmas.{freeze_calm}
-use Rattle.bp_cli.proofs.FirstLemmas.{FirstEnds, RefusesRows, commit_failed, lacked, puts_alone, rule_met, volume_kept}
+use Rattle.bp_cli.proofs.FirstLemmas.{FirstEnds, RefusesRows, commit_failed, lacked, matter_there, no_rows, puts_alone, rule_met, volume_kept}
 use Rattle.bp_cli.proofs.KeptLemmas.{by_stop}
 
-pub rows_refused : (asked : DemoAsked) → RefusesRows (demo_gives asked)
+rows_refused : (asked : DemoAsked) → RefusesRows (demo_gives asked)
 rows_refused asked = λ row rows. refl
+
+not_true : (b there : Bool) → there ≡ not b → there ≡ true → b ≡ false
+not_true true there is some = let no : false ≡ true = sym is ∙ some in absurd cc
+not_true false there is some = refl
+
+not_false : (b there : Bool) → there ≡ not b → there ≡ false → b ≡ true
+not_false true there is none = refl
+not_false false there is none = let no : true ≡ false = sym is ∙ none in absurd cc
+
+-- there is a matter
+pub demo_refused : (asked : DemoAsked) (before mid : KeeperView) (folder : FolderView) (there : Bool) → LoadsSome before there mid → there ≡ true → FirstEnds (demo_gives asked) before folder (Err (stops.Broken (bare_rule MatterThere))) mid folder
+demo_refused asked before mid folder there some is =
+    matter_there (demo_gives asked) (rows_refused asked) before mid folder some.rows some.loads (not_true (eqb (length some.rows) 0) there some.are is)
+
+-- there is none
+pub none_there : (before mid : KeeperView) (there : Bool) → LoadsSome before there mid → there ≡ false → Loads before (Ok []) mid
+none_there before mid there some is =
+    subst (λ (l : List Row). Loads before (Ok l) mid) (no_rows some.rows (not_false (eqb (length some.rows) 0) there some.are is)) some.loads
 
 -- drawing it stopped
 pub drawing_stopped : (asked : DemoAsked) (before mid : KeeperView) (folder : FolderView) (rows : List Row) (refusal : Refusal) (r : Ending) → rows ≡ [] → Loads before (Ok rows) mid → DrawsDemo asked (Err refusal) → IsErr r → IsErrAnd r (StopsFor refusal) → FirstEnds (demo_gives asked) before folder r mid folder

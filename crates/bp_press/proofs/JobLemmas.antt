@@ -1,5 +1,5 @@
 -- What jobs make, and the list of what threads made.
-use Rattle.std.proofs.Common.{◌≡◌, ℕ, ◌+◌, ◌*◌, ◌<◌, ◌≤◌, nat_le, nat_lt, suc, List, [], ◌∷◌, length, map, get_or, Option, Some, None, Result, Ok, Err, refl, sym, ap, ap₂, subst, ◌∙◌, arith, eqb}
+use Rattle.std.proofs.Common.{◌≡◌, ℕ, ◌*◌, ◌<◌, ◌≤◌, nat_le, nat_lt, suc, List, [], ◌∷◌, length, map, get_or, Option, Some, None, Result, Ok, Err, refl, sym, ap, ap₂, subst, arith, eqb}
 use Rattle.std.specs.Prelude.{IfOk, IsTrue, unwrap_or}
 use Rattle.std.proofs.lemmas.Bool.{leb-true, ltb-true}
 use Rattle.bp_core.specs.Sorted.{two_keys}
@@ -7,14 +7,12 @@ use Rattle.bp_core.specs.declared.refusals.OutOfMemory.{OutOfMemory}
 use Rattle.bp_rows.specs.Image.{Image, IsPage, white_image}
 use Rattle.bp_rows.specs.Limits.{sides_are_imported}
 use Rattle.bp_rows.specs.declared.resolution.Unit.TheVariants.{Inch}
-use Rattle.bp_burn.specs.Band.{produced_of, slip_resolution}
+use Rattle.bp_burn.specs.Band.{slip_resolution}
 use Rattle.bp_burn.specs.Covered.{covered}
 use Rattle.bp_burn.proofs.BandLemmas.{band_fits, five}
 use Rattle.bp_burn.specs.RowsOut.{AreOf}
 use Rattle.bp_burn.specs.Strips.{HasStrip}
 use Rattle.bp_t6.specs.Written.{strip_of}
-use Rattle.bp_matter.specs.Images.{in_frame}
-use Rattle.bp_matter.specs.declared.kept_page.Frame.{Frame}
 use Rattle.bp_matter.specs.LookUps.{of_row, page_with}
 use Rattle.bp_matter.specs.Matter.{Matter, page_key}
 use Rattle.bp_matter.specs.Valid.{IsValid}
@@ -24,7 +22,7 @@ use Rattle.bp_press.specs.Contents.{image_in}
 use Rattle.bp_press.specs.Shown.{page_lent, rows_lent}
 use Rattle.bp_press.specs.declared.covered.CoveredPage.{CoveredPage}
 use Rattle.bp_press.proofs.KeptPageLemmas.{passes}
-use Rattle.bp_press.proofs.ReadLemmas.{banded_is_page, slip_is_page}
+use Rattle.bp_press.proofs.ReadLemmas.{banded_is_page}
 
 -- ---- the page of a job
 

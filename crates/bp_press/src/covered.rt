@@ -282,8 +282,7 @@ impl<'a> CoveredPage<'a> {
 
     // Its rows, to be lent covered, in room of its width.
     pub(crate) fn rows(&self, room: OutRoom) -> CoveredRows<'a>
-        requires sides {
-            IsTrue (sides_are_imported self.now.page.now.width self.now.page.now.height) }
+        requires sides { IsTrue (sides_are_imported self.now.page.now.width self.now.page.now.height) }
         requires room { room ≡ self.now.page.now.width }
         ensures { result ≡ rows_lent self.now }
     {

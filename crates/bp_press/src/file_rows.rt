@@ -132,7 +132,11 @@ fn digested(path: Text, bytes: Bytes) -> MadeFile
 // ---- one file by itself
 
 // The strips of these jobs, one after another.
-fn strips_in_turn<P: Shows>(alloc: Global, shown: &P, jobs: &[Job]) -> Result<Vec<Bytes>, OutOfMemory>
+fn strips_in_turn<P: Shows>(
+    alloc: Global,
+    shown: &P,
+    jobs: &[Job],
+) -> Result<Vec<Bytes>, OutOfMemory>
     requires own { All (IsOwnJob (P.production shown.now)) jobs.now }
     requires codable { All (IsCodable (P.matter shown.now)) jobs.now }
     ensures { IfOk result (λ strips. strips.items ≡ map (strip_by (P.matter shown.now)) jobs.now) }

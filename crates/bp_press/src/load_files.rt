@@ -34,8 +34,7 @@ fn add_item_lines<P: Shows>(
     lines: &mut Vec<OptLine>,
 ) -> Result<u32, OutOfMemory>
     requires there { Contains (P.production shown.now).items item.now }
-    requires placed {
-        CanAllBePlaced production.now (P.matter shown.now) place (item.now ∷ others.now) }
+    requires placed { CanAllBePlaced production.now (P.matter shown.now) place (item.now ∷ others.now) }
     ensures lines { let p = placed_at production.now (P.matter shown.now) item.now place in
         OnOk result (lines.new.items ≡ lines.old.items ++ opt_lines production.now.request p) }
     ensures count { IfOk result (λ count.
@@ -48,7 +47,11 @@ fn add_item_lines<P: Shows>(
 }
 
 // The lines of all items.
-fn opt_list<P: Shows>(alloc: Global, shown: &P, production: &Production) -> Result<OptList, OutOfMemory>
+fn opt_list<P: Shows>(
+    alloc: Global,
+    shown: &P,
+    production: &Production,
+) -> Result<OptList, OutOfMemory>
     requires same { P.production shown.now ≡ production.now }
     requires placed { CanAllBePlaced production.now (P.matter shown.now) 0 production.now.items }
     ensures { let f = production.now in

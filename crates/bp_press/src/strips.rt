@@ -44,7 +44,7 @@ pub(crate) fn covered_strips<R: Threads + Sync, G: Gate + Sync>(
     images: &CoveredJobs<'_>,
     gate: &G,
 ) -> Result<StripList, OutOfMemory>
-    requires { All (IsCodable images.now.tables.now.matter) images.now.jobs.now }
+    requires codable { All (IsCodable images.now.tables.now.matter) images.now.jobs.now }
     ensures { let strip = strip_by images.now.tables.now.matter in
         IfOk result (λ strips. strips ≡ map strip images.now.jobs.now) }
 {

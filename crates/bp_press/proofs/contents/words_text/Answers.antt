@@ -5,7 +5,7 @@ use Rattle.std.specs.String.{string_bytes}
 use Rattle.std.proofs.lemmas.Str.{IsUtf8-string_bytes, chars-nil}
 use Rattle.bp_text.specs.PageText.{words_text}
 use Rattle.bp_press.specs.Shown.{in_hand, words_left}
-use Rattle.bp_press.proofs.WordLemmas.{fewer_left, hand, last_given, one_more, page_ended}
+use Rattle.bp_press.proofs.WordLemmas.{hand, last_given, one_more, page_ended}
 use Rattle.bp_press.proofs.contents.words_text.Goals as goal
 
 pub loop-next-init : goal.loop-next-init

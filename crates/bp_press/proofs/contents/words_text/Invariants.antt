@@ -1,4 +1,4 @@
-use Rattle.std.proofs.Common.{◌≡◌, ◌++◌, ◌+◌, [], None, length}
+use Rattle.std.proofs.Common.{◌≡◌, ◌++◌, [], None, length}
 use Rattle.std.specs.Option.{option_copied}
 use Rattle.std.specs.Str.{chars}
 use Rattle.std.specs.String.{string_bytes}

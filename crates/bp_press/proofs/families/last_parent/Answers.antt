@@ -1,4 +1,3 @@
-use Rattle.std.proofs.Common.{arith}
 use Rattle.std.proofs.lemmas.List.Elements.{All-nil}
 use Rattle.bp_press.specs.Needs.{IsInFamily}
 use Rattle.bp_press.proofs.FamilyLemmas.{families_all, families_more}

@@ -1,4 +1,4 @@
-use Rattle.std.proofs.Common.{◌≡◌, ◌+◌, ◌==◌, ℕ, List, All, ap, filter, length, slice_index, subst, ◌∙◌, arith}
+use Rattle.std.proofs.Common.{◌==◌, ℕ, List, All, ap, filter, slice_index, subst, ◌∙◌, arith}
 use Rattle.bp_matter.specs.declared.rows.Item.{Item}
 use Rattle.bp_freeze.specs.Selecting.{first_number, last_number}
 use Rattle.bp_press.specs.Needs.{IsInFamily}

@@ -1,21 +1,18 @@
 use Rattle.std.proofs.Common.{◌≡◌, subst, sym}
 use Rattle.std.specs.Prelude.{IfOk}
 use Rattle.std.specs.Result.{OnOk, IfErr}
-use denote.Param.Send.{sendable}
-use Rattle.std.proofs.Crossing.{crosses}
 use Rattle.bp_matter.specs.Matter.{Shown}
 use Rattle.bp_press.specs.Needs.{CanBePressed}
 use Rattle.bp_press.specs.Pressed.{pressed_of}
 use Rattle.bp_press.specs.Volume.{volume_of}
 use Rattle.bp_press.specs.Writing.{AddsAll, LeavesCut}
-use Rattle.bp_press.proofs.ThreadLemmas.{production_sync, tables_sync}
 use Rattle.bp_press.proofs.pressing.add_volume.Goals as goal
 
 pub write_volume-requires-clause-same : goal.write_volume-requires-clause-same
 write_volume-requires-clause-same g c κs within = c.of-shown.ensures.production
 
 pub write_volume-requires-clause-pressed : goal.write_volume-requires-clause-pressed
-write_volume-requires-clause-pressed g c κs within = subst (λ (tables : Shown). CanBePressed c.args.production.now tables.matter) (sym c.of-shown.ensures.tables) c.requires
+write_volume-requires-clause-pressed g c κs within = subst (λ (tables : Shown). CanBePressed c.args.production.now tables.matter) (sym c.of-shown.ensures.tables) c.requires.pressed
 
 pub returns-clause-told : goal.returns-clause-told
 returns-clause-told g c =

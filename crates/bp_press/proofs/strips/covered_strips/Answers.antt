@@ -1,4 +1,4 @@
-use Rattle.std.proofs.Common.{rules, ◌≡◌, length}
+use Rattle.std.proofs.Common.{rules, ◌≡◌, ◌<◌, ℕ, length, subst, sym}
 use denote.Param.Send.{sendable}
 use Rattle.std.proofs.Crossing.{crosses}
 use Rattle.bp_press.specs.Jobs.{strip_by}
@@ -20,4 +20,4 @@ returns g c =
     let jobs = c.args.images.now.jobs.now in
     let made = c.in_ok-made.made.items in
     let long : length made ≡ length jobs = search rules in
-    all_done (strip_by m) jobs made c.all_strips.result c.all_strips.ensures long (λ k d e less. (c.in_ok-made.ensures.each k e less).1.met d)
+    all_done (strip_by m) jobs made c.all_strips.result c.all_strips.ensures long (λ k d e less. (c.in_ok-made.ensures.each k e (subst (λ (n : ℕ). k < n) (sym c.len.ensures) less)).1.met d)

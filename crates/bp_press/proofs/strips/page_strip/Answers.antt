@@ -1,4 +1,4 @@
-use Rattle.std.proofs.Common.{◌≡◌, ℕ, ◌<◌, ◌≤◌, ap, subst, sym, ◌∙◌, arith}
+use Rattle.std.proofs.Common.{◌≡◌, ap, subst, sym, ◌∙◌, arith}
 use Rattle.std.specs.Prelude.{IfOk, IsTrue}
 use Rattle.bp_rows.specs.Image.{Image}
 use Rattle.bp_rows.specs.Limits.{sides_are_imported}

@@ -1,12 +1,12 @@
-use Rattle.std.proofs.Common.{◌≡◌, List, map, All, ap, subst, sym, ◌∙◌}
+use Rattle.std.proofs.Common.{◌≡◌, List, map, All, subst, sym, ◌∙◌}
 use Rattle.std.specs.Prelude.{IfOk}
 use Rattle.bp_matter.specs.Matter.{Shown}
 use Rattle.bp_press.specs.Jobs.{IsCodable, strip_by}
 use Rattle.bp_press.specs.declared.jobs.Job.{Job}
 use Rattle.bp_press.proofs.strips.strips_of.Goals as goal
 
-pub covered_strips-requires : goal.covered_strips-requires
-covered_strips-requires g c κs within =
+pub covered_strips-requires-clause-codable : goal.covered_strips-requires-clause-codable
+covered_strips-requires-clause-codable g c κs within =
     subst (λ (tables : Shown). All (IsCodable tables.matter) c.of-images.result.jobs.now) (sym c.of-images.ensures.tables)
     (subst (λ (jobs : List Job). All (IsCodable c.args.tables.now.matter) jobs) (sym (c.of-images.ensures.jobs ∙ c.as_slice.ensures)) c.requires.codable)
 

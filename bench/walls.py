@@ -10,9 +10,9 @@ a box, in a file of both forms in turn: the growths of `burn` behind the reading
 
 Each pair runs once with no thread, so that the order is one, and once with threads, when the sizes are compared as a bag; where bags differ
 one of the two runs again, and differs from itself or not. Of `produce` the lists are also compared without what the freeze asks for, that is
-the room that it makes and its commit (by the symbols of the program). Prints a table by kind of difference, and then the first growth that differs in each pair
-of lists, by its place in the program, with the first few sizes. A pair's matters have to give the same volume by the program and by the model. KEEP has the folders of the first pair of each
-cause. Needs cc. Ends with 1 where a list differs beside the freeze.
+the room that it makes and its commit (by the symbols of the program). Prints a table by kind of difference, and then the first growth that
+differs in each pair of lists, by its place in the program, with the first few sizes. A pair's matters have to give the same volume by the
+program and by the model. KEEP has the folders of the first pair of each cause. Needs cc. Ends with 1 where a list differs beside the freeze.
 """
 import collections
 import copy
@@ -320,6 +320,37 @@ class Walls:
         return any(counts["of these beside the freeze"] or counts["of these bags beside the freeze"] for counts in self.table.values())
 
 
+Compared = collections.namedtuple("Compared", "kind command words inputs volume")
+
+
+def some_pairs(draw, count, room):
+    """What is compared of each pair: a command and its two inputs, rows and files; of `press` the volume that is due, too."""
+    for k in range(count):
+        kind = KINDS[k % len(KINDS)]
+        made, asked, frozen, others = a_pair(draw, room, kind)
+        production = frozen.productions[0]
+        volume = days.volume_of(frozen, production)
+        if volume != days.volume_of(others[1], production) or not matters.is_valid(others[1]) or not matters.is_valid(others[0]):
+            sys.exit("walls.py: the model's matters don't agree")
+        words = ["produce", "R-0", "V0", "AB-", "4", "1", str(asked["to"]), *asked["fields"]]
+        kept = [matters.rows_of(matter) for matter in (frozen, others[1])]
+        notice = a_notice(draw, production)
+        scans, box = two_scans(draw)
+        yield [
+            Compared(kind, "press", ["press", "R-0"], kept, volume),
+            Compared(kind, "produce", words, [matters.rows_of(matter) for matter in (made, others[0])], None),
+            *([Compared(kind, "claw", ["claw", "R-0", "V9", NOTICE], [rows | notice for rows in kept], None)] if notice else []),
+            Compared("a scan", "burn", ["burn", SCAN, *box, "b.tif", draw.choice(("plain", "g4"))], scans, None),
+        ]
+
+
+def compare(walls, pairs):
+    for each in (each for pair in pairs for each in pair):
+        files = walls.pair(each.kind, each.command, each.words, each.inputs)
+        if each.volume is not None and files != each.volume:
+            sys.exit("walls.py: the program's volume isn't the model's")
+
+
 def main():
     if len(sys.argv) < 2:
         sys.exit(__doc__)
@@ -329,24 +360,8 @@ def main():
     signal.signal(signal.SIGTERM, lambda *_: sys.exit("ended"))
     walls = Walls(None, keep)
     try:
-        walls.program, draw = Program(sys.argv[1], room), random.Random(f"walls {seed}")
-        for k in range(count):
-            kind = KINDS[k % len(KINDS)]
-            made, asked, frozen, others = a_pair(draw, room, kind)
-            production = frozen.productions[0]
-            volume = days.volume_of(frozen, production)
-            if volume != days.volume_of(others[1], production) or not matters.is_valid(others[1]) or not matters.is_valid(others[0]):
-                sys.exit("walls.py: the model's matters don't agree")
-            words = ["produce", "R-0", "V0", "AB-", "4", "1", str(asked["to"]), *asked["fields"]]
-            files = walls.pair(kind, "press", ["press", "R-0"], [matters.rows_of(matter) for matter in (frozen, others[1])])
-            if files != volume:
-                sys.exit("walls.py: the program's volume isn't the model's")
-            walls.pair(kind, "produce", words, [matters.rows_of(matter) for matter in (made, others[0])])
-            notice = a_notice(draw, production)
-            if notice:
-                walls.pair(kind, "claw", ["claw", "R-0", "V9", NOTICE], [matters.rows_of(matter) | notice for matter in (frozen, others[1])])
-            scans, box = two_scans(draw)
-            walls.pair("a scan", "burn", ["burn", SCAN, *box, "b.tif", draw.choice(("plain", "g4"))], scans)
+        walls.program = Program(sys.argv[1], room)
+        compare(walls, some_pairs(random.Random(f"walls {seed}"), count, room))
     finally:
         failed = walls.tell()
         shutil.rmtree(room)

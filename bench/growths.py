@@ -102,6 +102,8 @@ Told = collections.namedtuple("Told", "status out rows files")
 class Trial:
     """The runs of a case by the preloaded program."""
 
+    errors = subprocess.DEVNULL
+
     def __init__(self, program, library, case, mode, room):
         self.program, self.library, self.case, self.mode = program, library, case, mode
         self.template, self.folder = os.path.join(room, "template"), os.path.join(room, "folder")
@@ -129,7 +131,7 @@ class Trial:
         if os.path.exists(self.tell):
             os.remove(self.tell)
         return subprocess.Popen([self.program, *words], cwd=self.folder, env=environ, stdin=subprocess.DEVNULL, stdout=subprocess.PIPE,
-                                stderr=subprocess.DEVNULL)
+                                stderr=self.errors)
 
     def ended(self, process):
         try:
@@ -471,7 +473,8 @@ def left_by(before, prepare):
 
 class Lines(Trial):
     """The runs of bp_lines over files of lines. Where memory runs out a line is told so, and what follows it in its file may be told
-    otherwise as well; or the program ends with 1."""
+    otherwise as well; where it runs out for the words of a line, which bp_script reads, that is told as not read; or the program ends with 1,
+    and says on standard error why."""
 
     def __init__(self, program, library, case, mode, room):
         beside = [os.path.join(os.path.dirname(program), "bp_lines"), os.path.join(HERE, "..", "crates", "bp_lines", "out", "bp_lines")]
@@ -481,6 +484,7 @@ class Lines(Trial):
         super().__init__(os.path.abspath(found[0]), library, case, mode, room)
         self.words = sorted(os.listdir(self.template), key=lambda name: int(name.split(".")[0]))
         self.case = case._replace(words=self.words)
+        self.errors = tempfile.TemporaryFile()
 
     def begin(self):
         count = super().begin()
@@ -490,23 +494,29 @@ class Lines(Trial):
 
     def is_right(self, at):
         self.fresh()
+        self.errors.seek(0)
+        self.errors.truncate()
         told = self.carried_out(at)
         if told == self.right:
             return "right"
-        lines, lacking, otherwise = told.out.decode("utf-8", "replace").split("\n"), set(), 0
-        tally = self.right.out.decode().replace(" 0 of", " %d of").rstrip("\n")
+        lines, lacking, verdict = told.out.decode("utf-8", "replace").split("\n"), set(), "1"
+        others = 0
         for k, line in enumerate(lines):
             name, _, rest = line.partition(":")
             text = rest.partition(": ")[2]
-            if name in self.words and text == "out of memory" or name in lacking:
+            if name in lacking or name in self.words and text in ("out of memory", "not read"):
+                verdict = verdict if name in lacking else "told" if text == "out of memory" else "not read"
                 lacking.add(name)
-                otherwise += 1
-            elif line and not (k + 2 >= len(lines) and (tally % otherwise == line or told.status == 1 and (tally % otherwise).startswith(line))):
-                if not (told.status == 1 and k + 1 == len(lines)):
-                    raise Otherwise(f"bp_lines tells {line!r}, status {told.status}")
-        if told.status not in (0, 1):
-            raise Otherwise(f"bp_lines ends with {told.status}")
-        return "told" if told.status == 0 else "1"
+                others += 1
+            elif line and line != self.right.out.decode().replace(" 0 of", f" {others} of").rstrip("\n") and k + 1 < len(lines):
+                raise Otherwise(f"bp_lines tells {line!r}, status {told.status}")
+        self.errors.seek(0)
+        why = self.errors.read()
+        if told.status != 0 and (told.status != 1 or b"memory" not in why and b"no page is made" not in why):
+            raise Otherwise(f"bp_lines ends with {told.status}, {why!r}")
+        if told.status == 0 and not lacking:
+            raise Otherwise(f"bp_lines tells {told.out!r}")
+        return verdict if told.status == 0 else "1"
 
     def again(self):
         """Nothing is left behind."""

@@ -10,7 +10,7 @@ a box, in a file of both forms in turn: the growths of `burn` behind the reading
 
 Each pair runs once with no thread, so that the order is one, and once with threads, when the sizes are compared as a bag; where bags differ
 one of the two runs again, and differs from itself or not. Of `produce` the lists are also compared without what the freeze asks for, that is
-the room that it makes and its commit (by the symbols of the program). Prints a table by kind of difference, and then the first growth that
+the room that it makes, its commit, and the closing behind that (by the symbols of the program). Prints a table by kind of difference, and then the first growth that
 differs in each pair of lists, by its place in the program, with the first few sizes. A pair's matters have to give the same volume by the
 program and by the model. KEEP has the folders of the first pair of each cause. Needs cc. Ends with 1 where a list differs beside the freeze.
 """
@@ -37,7 +37,7 @@ HERE = os.path.dirname(os.path.abspath(__file__))
 LIMIT, WORDS = 300, 27  # seconds; words of a record
 KINDS = ("pixels", "words", "values", "withheld", "all")
 NOTICE, SCAN = "notice.csv", "in.tif"
-FREEZE = ("make_room", "commit")
+FREEZE = ("make_room", "commit", "bp_rules", "bp_keep", "sqlite")
 Growth = collections.namedtuple("Growth", "thread kind size places")
 
 
@@ -212,7 +212,8 @@ class Program:
         return names
 
     def is_of_freeze(self, growth):
-        """Whether the freeze asked for it, and not the press behind it: the room that it makes and its commit come first on the stack."""
+        """Whether the freeze of `produce` asked for it, and not the press behind it: the room that it makes, its commit or the closing of the
+        database behind that comes first on the stack."""
         for name in self.names(growth):
             if name.startswith(("bp_press", "bp_claw")):
                 return False
@@ -274,7 +275,7 @@ class Walls:
         counts = self.table[kind, command]
         counts["pairs"] += 1
         counts["growths"] += len(runs[0][0])
-        found, rest = self.compared([run[0] for run in runs])
+        found, rest = self.compared(command, [run[0] for run in runs])
         counts["lists differ"] += found is not None
         counts["of these beside the freeze"] += rest is not None
         if found:
@@ -282,18 +283,18 @@ class Walls:
         together = [self.program.growths(each, words, False)[0][run[1] :] for each, run in zip(rows, runs)]
         if bag(together[0]) != bag(together[1]):
             counts["bags differ, with threads"] += 1
-            if self.bag_beside(together[0]) != self.bag_beside(together[1]):
+            if bag(self.beside(command, together[0])) != bag(self.beside(command, together[1])):
                 again = self.program.growths(rows[0], words, False)[0][runs[0][1] :]
-                is_own = self.bag_beside(together[0]) != self.bag_beside(again)
+                is_own = bag(self.beside(command, together[0])) != bag(self.beside(command, again))
                 counts["bags that differ from run to run" if is_own else "of these bags beside the freeze"] += 1
         return told[2]
 
-    def compared(self, lists):
+    def compared(self, command, lists):
         """The first difference of all, and the first beside what the freeze does."""
-        return first_difference(*lists), first_difference(*([each for each in part if not self.program.is_of_freeze(each)] for part in lists))
+        return first_difference(*lists), first_difference(*(self.beside(command, part) for part in lists))
 
-    def bag_beside(self, growths):
-        return bag(each for each in growths if not self.program.is_of_freeze(each))
+    def beside(self, command, growths):
+        return [each for each in growths if command != "produce" or not self.program.is_of_freeze(each)]
 
     def cause(self, kind, command, one, two, rows, where):
         place = " ".join(word for word in (where, self.program.place(one or two)) if word)

@@ -69,11 +69,11 @@ def files_in(folder):
 
 
 def in_order(files):
-    """The paths of a volume in the order in which they are written: that of its manifest, which comes last."""
-    manifest = [path for path in files if path.endswith("/MANIFEST.TXT")]
-    if len(manifest) != 1:
+    """The paths of volumes in the order in which they are written: that of the manifest of each, which comes last."""
+    manifests = sorted(path for path in files if path.endswith("/MANIFEST.TXT"))
+    if not manifests:
         return sorted(files)
-    return [line.split("  ", 1)[1] for line in files[manifest[0]].decode().splitlines()] + manifest
+    return [path for last in manifests for path in [*(line.split("  ", 1)[1] for line in files[last].decode().splitlines()), last]]
 
 
 def is_beginning(files, whole, old):

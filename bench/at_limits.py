@@ -10,6 +10,7 @@ strips, a matter of 2,000,000,000 bytes of strips, which takes 7 GB of memory an
 need 2 GB there. Takes the ports 48201 to 48216, in a network of its own where that can be.
 """
 import hashlib
+import json
 import os
 import re
 import shutil
@@ -38,10 +39,58 @@ DIGEST = days.DIGESTS[0]
 failed = 0
 
 
+class Starter:
+    """A small process that starts the program: the system counts the memory of a process from the fork on, and this one never holds a file."""
+
+    def __init__(self):
+        (asked, self.asks), (self.tells, told) = os.pipe(), os.pipe()
+        self.process = os.fork()
+        if self.process == 0:
+            os.setpgid(0, 0)
+            os.close(self.asks)
+            with os.fdopen(asked, encoding="utf-8") as lines, os.fdopen(told, "w", encoding="utf-8") as out:
+                for line in lines:
+                    print(json.dumps(carried_out(*json.loads(line))), file=out, flush=True)
+            os._exit(0)
+        os.close(asked), os.close(told)
+        self.told = os.fdopen(self.tells, encoding="utf-8")
+
+    def start(self, words, folder, out):
+        os.write(self.asks, (json.dumps([words, folder, out]) + "\n").encode())
+
+    def end(self):
+        """Status, seconds, peak of memory in KB."""
+        return json.loads(self.told.readline())
+
+    def close(self):
+        for each in (self.process, -self.process):
+            try:
+                os.kill(each, signal.SIGKILL)
+            except ProcessLookupError:
+                pass
+
+
+def carried_out(words, folder, out):
+    began = time.monotonic()
+    with open(out, "wb") as file:
+        process = subprocess.Popen(words, cwd=folder, stdin=subprocess.DEVNULL, stdout=file, stderr=subprocess.DEVNULL)
+    signal.signal(signal.SIGALRM, lambda *_: process.kill())
+    signal.alarm(LIMIT)
+    _, code, used = os.wait4(process.pid, 0)
+    signal.alarm(0)
+    return os.waitstatus_to_exitcode(code), time.monotonic() - began, used.ru_maxrss
+
+
 class Room:
     def __init__(self, program):
         self.program = os.path.abspath(program)
-        self.folder = tempfile.mkdtemp()
+        self.folder, self.out = tempfile.mkdtemp(), tempfile.mkstemp()[1]
+        self.starter = Starter()
+
+    def close(self):
+        self.starter.close()
+        shutil.rmtree(self.folder)
+        os.remove(self.out)
 
     def fresh(self):
         shutil.rmtree(self.folder)
@@ -51,32 +100,23 @@ class Room:
         batches.write_folder(self.folder, {path: data})
 
     def start(self, words):
-        self.out = tempfile.TemporaryFile()
-        self.began = time.monotonic()
-        return subprocess.Popen([self.program, *words], cwd=self.folder, stdout=self.out, stderr=subprocess.DEVNULL)
+        self.starter.start([self.program, *words], self.folder, self.out)
 
-    def end(self, process, what, status, line):
+    def end(self, what, status, line):
         """Waits, and prints a line of the table; a line that begins with ^ is a pattern."""
         global failed
-        signal.alarm(max(1, int(LIMIT - (time.monotonic() - self.began))))
-        try:
-            _, code, used = os.wait4(process.pid, 0)
-        except TimeoutError:
-            process.kill()
-            _, code, used = os.wait4(process.pid, 0)
-        signal.alarm(0)
-        process.returncode = os.waitstatus_to_exitcode(code)
-        took = time.monotonic() - self.began
-        self.out.seek(0)
-        told = self.out.read().decode("utf-8", "replace").rstrip("\n")
+        found, took, memory = self.starter.end()
+        with open(self.out, encoding="utf-8", errors="replace") as file:
+            told = file.read().rstrip("\n")
         fits = re.fullmatch(line[1:], told) if line.startswith("^") else told == line
-        good = process.returncode == status and bool(fits)
+        good = found == status and bool(fits)
         failed += not good
-        print(f"| {what} | {process.returncode} | `{told[:76]}` | {took:.2f} | {used.ru_maxrss / MB:.0f} |"
+        print(f"| {what} | {found} | `{told[:76]}` | {took:.2f} | {memory / MB:.0f} |"
               + ("" if good else f" NOT AS DUE: {status} {line}"), flush=True)
 
     def check(self, what, status, line, *words):
-        self.end(self.start(words), what, status, line)
+        self.start(words)
+        self.end(what, status, line)
 
     def check_refused(self, what, rule, *words):
         self.check(what, 2, rule.told(), *words)
@@ -503,7 +543,7 @@ def requests(room):
     staff = [post("/staff", {"name": f"m{k}", "role": "Reviewer", "digest": hashlib.sha256(b"%d" % k).hexdigest()}) for k in range(999)]
     room.fresh()
     days.write_rows(room.folder, matters.rows_of(matter))
-    process = room.start(("serve", "1", str(len(asked) + len(staff))))
+    room.start(("serve", "1", str(len(asked) + len(staff))))
     calls = 0
     for what, data in [*asked, *((f"member {k + 3:,} of the staff", data) for k, data in enumerate(staff))]:
         due, made = days.answered(matter, data)
@@ -514,7 +554,7 @@ def requests(room):
             status, _, body = got.partition(b"\r\n")[0].decode(), None, got.rpartition(b"\r\n\r\n")[2].decode()
             print(f"| {what} | {status[9:12]} | `{body[:76]}` | {time.monotonic() - began:.3f} | |" + ("" if got == due else " NOT AS DUE"))
         failed += got != due
-    room.end(process, f"`serve`, these and the {len(staff):,} of the staff", 0, f"served {calls}")
+    room.end(f"`serve`, these and the {len(staff):,} of the staff", 0, f"served {calls}")
 
 
 def delivered(room):
@@ -542,9 +582,9 @@ def delivered(room):
         if count == 1001:
             room.check_refused("`deliver`, 1,001 grants", matters.Rule(35, 9, 1001, line=1001), *words)
             continue
-        process = room.start(words)
+        room.start(words)
         days.ask(48201, f"GET /docs/1 HTTP/1.1\r\nDesk-Key: {KEY}\r\n\r\n".encode(), time.monotonic())
-        room.end(process, "`deliver`, 1,000 grants", 0, "delivered 1")
+        room.end("`deliver`, 1,000 grants", 0, "delivered 1")
     for more in (0, 1):
         size = batches.MOST + more
         name = f"{size:,} bytes"
@@ -552,9 +592,9 @@ def delivered(room):
         if more:
             room.check_refused(f"`deliver`, a file of grants of {name}", matters.Rule(55), "deliver", "1", "grants.csv")
         else:
-            process = room.start(("deliver", "1", "grants.csv"))
+            room.start(("deliver", "1", "grants.csv"))
             days.ask(48201, f"GET /docs/1 HTTP/1.1\r\nDesk-Key: {KEY}\r\n\r\n".encode(), time.monotonic())
-            room.end(process, f"`deliver`, a file of grants of {name}", 0, "delivered 1")
+            room.end(f"`deliver`, a file of grants of {name}", 0, "delivered 1")
         room.write("notice.csv", b"1,AC,,,,\n".ljust(size, b"\n"))
         words = ("claw", "R1", "V9", "notice.csv")
         if more:
@@ -572,11 +612,13 @@ def delivered(room):
 
 
 def desks(room):
+    room.fresh()
+    days.write_rows(room.folder, matters.rows_of(to_be_produced(1)))
     room.check("`serve` with 17 desks", 1, "words refused", "serve", "17", "1")
-    process = room.start(("serve", "16", "1"))
+    room.start(("serve", "16", "1"))
     for k in range(16):
         days.ask(48201 + k, f"GET /docs/1 HTTP/1.1\r\nDesk-Key: {KEY}\r\n\r\n".encode(), time.monotonic())
-    room.end(process, "`serve` with 16 desks, a call at each", 0, "served 16")
+    room.end("`serve` with 16 desks, a call at each", 0, "served 16")
 
 
 def journal(room):
@@ -590,7 +632,7 @@ def journal(room):
     data = f"GET /docs/1 HTTP/1.1\r\nDesk-Key: {KEY}\r\n\r\n".encode()
     room.write("request", data)
     half = 1048576 // 2
-    process = room.start(("serve", "2", str(half + 1)))
+    room.start(("serve", "2", str(half + 1)))
     due = days.answered(matter, data)[0]
     places = [os.path.join(room.folder, f"reply{k}") for k in range(2)]
     # the client asks once more than it is told; the last reply is compared, and the status of each
@@ -608,7 +650,7 @@ def journal(room):
         good = got.startswith(b"HTTP/1.1 429 Too Many Requests\r\n") and got.endswith(b"\r\n\r\n" + full)
         failed += not good
         print(f"| one call more at desk {k + 1} | {got[9:12].decode()} | `{full.decode()}` | | |" + ("" if good else f" NOT AS DUE: {got!r}"))
-    room.end(process, "`serve`, 1,048,576 calls at two desks", 0, "served 1048576")
+    room.end("`serve`, 1,048,576 calls at two desks", 0, "served 1048576")
 
 
 PARTS = (burns, documents, fields, columns, batches_, import_files, check_heights, check_files, names, numbers, connections, largest_matter,
@@ -623,16 +665,11 @@ def chosen(words):
     return [known[word] for word in words] or PARTS
 
 
-def late(*_):
-    raise TimeoutError
-
-
 def main():
     if len(sys.argv) < 2:
         sys.exit(__doc__)
     parts = chosen(sys.argv[2:])
     apart.in_own_network()
-    signal.signal(signal.SIGALRM, late)
     signal.signal(signal.SIGTERM, lambda *_: sys.exit("ended"))
     room = Room(sys.argv[1])
     print("| What | Status | Line or body | Seconds | MB |\n|---|---|---|---|---|")
@@ -640,7 +677,7 @@ def main():
         for part in parts:
             part(room)
     finally:
-        shutil.rmtree(room.folder)
+        room.close()
     sys.exit(1 if failed else 0)
 
 

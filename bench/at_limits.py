@@ -9,6 +9,7 @@ minutes: pixels, a matter of 200,000,000,000; journal, desks of 1,048,576 calls,
 strips, a matter of 2,000,000,000 bytes of strips, which takes 7 GB of memory and 5 GB where temporary files stand. The others
 need 2 GB there. Takes the ports 48201 to 48216, in a network of its own where that can be.
 """
+import functools
 import hashlib
 import json
 import os
@@ -398,9 +399,9 @@ def demos(room):
 
 
 def strips(room):
-    """2,000,000,000 bytes of strips: pages of 20,000 by 10,000 in which a row of a checkerboard and a white one take turns, written straight
-    into matter.db, but for the last page, which is imported. Rows of horizontal modes and rows of passes have more bits for a code than
-    rows that are all V0, and so are sooner read."""
+    """2,000,000,000 bytes of strips: pages of 20,000 by 9,986 in which two rows of dashes take turns, written straight into matter.db, but for
+    the last page, which is imported. The dashes lie so that each is coded in a horizontal mode of 23 bits: a strip of rows that are all
+    V0 has as many bytes with eight times the codes."""
     free = memory_free()
     if free < 7000:
         print(f"at_limits.py: strips needs 7,000 MB of memory, and {free:,} are free", file=sys.stderr)
@@ -423,9 +424,9 @@ def memory_free():
 
 def write_strips(room, matter, total):
     """A document of pages that have so many bytes of strips."""
-    block, left, made = len(turned_strip(16)) - 3, total, []
-    while (rows := min(10000, (left - 7) // block * 16)) > 0:
-        made.append((20000, rows, rows // 16 * block + 3))
+    left, made = total, []
+    while (turns := min(624, most_turns(left - 4))) > 0:
+        made.append((20000, 16 * turns + 2, dashed_size(turns)))
         left -= made[-1][2]
     # white rows for what is left
     while left:
@@ -440,7 +441,7 @@ def write_strips(room, matter, total):
     database = sqlite3.connect(os.path.join(room.folder, "matter.db"))
     database.execute("PRAGMA synchronous = OFF")
     for k, (width, height, size) in enumerate(made, 1):
-        strip = turned_strip(height) if height > 0 else white_strip(-height)
+        strip = dashed_strip((height - 2) // 16) if height > 0 else white_strip(-height)
         assert len(strip) == size
         head = matters.u32(width, abs(height), 200, 1, 200, 1) + bytes([2])
         database.execute("INSERT INTO kept VALUES (4, 1, ?, ?)", (k, b"\1" + head + strip))
@@ -449,13 +450,39 @@ def write_strips(room, matter, total):
     assert sum(size for _, _, size in made) == total and 20000 * sum(abs(height) for _, height, _ in made) > 4000000000
 
 
-def turned_strip(rows, kept={}):
-    """The strip of so many rows, a multiple of 16: checkerboard and white in turns."""
-    if not kept:
-        dense = list(range(1, 20000))
-        kept[0] = "".join(bits for _, bits in t6_model.modes_of([], dense, 20000)) + "".join(bits for _, bits in t6_model.modes_of(dense, [], 20000))
-    block = int(kept[0] * 8, 2).to_bytes(len(kept[0]), "big")
-    return block * (rows // 16) + bytes.fromhex("001001")
+@functools.cache
+def dashes():
+    """The codes of the first two rows, white ones above, and of two further rows."""
+    even, odd = ([at for left in range(shift, 19000, 55) for at in (left + 29, left + 55)] for shift in (0, 14))
+
+    def coded(above, line):
+        return "".join(bits for _, bits in t6_model.modes_of(above, line, 20000))
+
+    below = coded(even, odd)
+    return coded([], even) + below, coded(odd, even) + below
+
+
+def dashed_size(turns):
+    lead, turn = dashes()
+    return (len(lead) + 8 * turns * len(turn) + 24 + 7) // 8
+
+
+def most_turns(size):
+    lead, turn = dashes()
+    return (8 * size - 31 - len(lead)) // (8 * len(turn))
+
+
+def dashed_strip(turns):
+    """The strip of 2 and 16 times so many rows. Behind its first bytes it has the same bytes again and again: those of eight pairs of rows."""
+    lead, turn = dashes()
+    head = (len(lead) + 7) // 8
+    bits = lead + turn * 16
+    data = int(bits[: len(bits) // 8 * 8], 2).to_bytes(len(bits) // 8, "big")
+    data = data[:head] + data[head : head + len(turn)] * turns + data[head : head + 1]
+    whole, rest = divmod(len(lead) + 8 * turns * len(turn), 8)
+    end = f"{data[whole]:08b}"[:rest] + "000000000001" * 2
+    end += "0" * (-len(end) % 8)
+    return data[:whole] + int(end, 2).to_bytes(len(end) // 8, "big")
 
 
 def white_strip(rows):

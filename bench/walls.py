@@ -275,9 +275,10 @@ class Walls:
         counts = self.table[kind, command]
         counts["pairs"] += 1
         counts["growths"] += len(runs[0][0])
+        counts["of these beside the freeze"] += len(self.beside(command, runs[0][0]))
         found, rest = self.compared(command, [run[0] for run in runs])
         counts["lists differ"] += found is not None
-        counts["of these beside the freeze"] += rest is not None
+        counts["lists differ beside it"] += rest is not None
         if found:
             self.cause(kind, command, *(rest or found)[1:], rows, "beside the freeze" if rest else "")
         together = [self.program.growths(each, words, False)[0][run[1] :] for each, run in zip(rows, runs)]
@@ -286,7 +287,7 @@ class Walls:
             if bag(self.beside(command, together[0])) != bag(self.beside(command, together[1])):
                 again = self.program.growths(rows[0], words, False)[0][runs[0][1] :]
                 is_own = bag(self.beside(command, together[0])) != bag(self.beside(command, again))
-                counts["bags that differ from run to run" if is_own else "of these bags beside the freeze"] += 1
+                counts["bags that differ from run to run" if is_own else "bags differ beside it"] += 1
         return told[2]
 
     def compared(self, command, lists):
@@ -308,8 +309,8 @@ class Walls:
         self.causes[command, place].append((kind, sizes))
 
     def tell(self):
-        columns = ("pairs", "growths", "lists differ", "of these beside the freeze", "bags differ, with threads", "of these bags beside the freeze",
-                   "bags that differ from run to run")
+        columns = ("pairs", "growths", "of these beside the freeze", "lists differ", "lists differ beside it", "bags differ, with threads",
+                   "bags differ beside it", "bags that differ from run to run")
         print(f"| Difference | Command | {' | '.join(columns)} |\n|---|---{'|---' * len(columns)}|")
         for (kind, command), counts in self.table.items():
             print(f"| {kind} | {command} | {' | '.join(str(counts[column]) for column in columns)} |")
@@ -318,7 +319,7 @@ class Walls:
             kinds = collections.Counter(kind for kind, _ in found)
             print(f"{command}, {len(found)} times ({', '.join(f'{kind} {times}' for kind, times in kinds.items())}): {place}")
             print(f"    sizes {', '.join(f'{a} / {b}' for _, (a, b) in found[:6])}")
-        return any(counts["of these beside the freeze"] or counts["of these bags beside the freeze"] for counts in self.table.values())
+        return any(counts["lists differ beside it"] or counts["bags differ beside it"] for counts in self.table.values())
 
 
 Compared = collections.namedtuple("Compared", "kind command words inputs volume")

@@ -515,6 +515,10 @@ def some_rect(draw, width, height):
             draw.choice((0, 1, 2, 5, 26, 27, 28, height, 2**32 - 1))]
 
 
+def runs_told(line, width):
+    return " ".join(str(to - at) for at, to in zip([0, *line], [*line, width]))
+
+
 def page_lines(draw):
     """Pages written in both forms, burned, covered and banded."""
     while True:
@@ -523,7 +527,7 @@ def page_lines(draw):
             page = page.like(some_lines(draw, page.width, 40), 40)
         page.xres, page.yres, page.unit = (200, 1), (200, 1), 2
         lines = [(f"page packed {page.width} {page.height} {hex_word(page.packed())}", ""),
-                 ("page codes", told_bytes(strip_of(page))), ("page again", "yes")]
+                 ("page codes", told_bytes(strip_of(page))), ("strip written", told_bytes(strip_of(page))), ("page again", "yes")]
         for form in ("plain", "g4"):
             lines += [(f"file hex {hex_word(tiff_of(page, form))}", ""), (f"page written {form}", "yes")]
         stamps = [[*some_rect(draw, page.width, page.height), draw.choice(("AC", "WP", "PI", "TS"))]
@@ -533,8 +537,10 @@ def page_lines(draw):
         words = " ".join(str(word) for stamp in stamps for word in stamp)
         words = f"{ink} {said(label.encode())} {said(designation.encode())} {words}".rstrip()
         if draw.random() < 0.5:
-            made = banded(covered(page, stamps, ink), label, designation)
-            lines += [(f"page strip_produced {words}", "yes"), (f"page produced {words}", "")]
+            under, row = covered(page, stamps, ink), draw.randrange(page.height)
+            made = banded(under, label, designation)
+            asked = " ".join(["strip covered", ink, str(row), *(str(word) for stamp in stamps for word in stamp)])
+            lines += [(asked, runs_told(under.lines[row], page.width)), (f"page strip_produced {words}", "yes"), (f"page produced {words}", "")]
         else:
             boxes = [stamp[:4] for stamp in stamps]
             made = burned(page, boxes)

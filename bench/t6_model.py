@@ -184,7 +184,11 @@ def edges_of(packed, width):
     """The changing elements of a packed row, whose first pixel is in the high bit."""
     row = int.from_bytes(packed, "big") >> (-width % 8)
     turns = "{:0{}b}".format(row ^ (row >> 1), width)
-    return [at for at, bit in enumerate(turns) if bit == "1"]
+    edges, at = [], turns.find("1")
+    while at >= 0:
+        edges.append(at)
+        at = turns.find("1", at + 1)
+    return edges
 
 
 def packed_row(edges, width):

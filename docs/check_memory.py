@@ -2,7 +2,8 @@
 """Tests that want of memory is only handed on. A body that may answer that memory ran out could answer it by what it saw, and no
 contract would refuse that; so the sources are read: each place of the product that makes this answer must hand on one that it was
 given (an error of the allocator, or another call's), or be one of the places below, where a library or a call hides what it was.
-And what reads and covers the rows of a kept page has neither an allocator nor an answer, so that it can tell nothing of them.
+And what reads and covers the rows of a kept page has neither an allocator nor an answer, so that it can tell nothing of them; the
+press's wall, which lends what a volume shows, has neither an allocator nor a refusal.
 Prints each other place, and ends with status 1 where there is one. Tests, samples and benches are no part of the product."""
 import pathlib
 import re
@@ -39,9 +40,11 @@ MADE = {
     ("bp_web/src/router.rt", "add"): "matchit refused a route of the fixed table, which it does for want of memory",
 }
 
-# what sees pixels that are to be covered
+# what sees pixels that are to be covered, words and values that are held back
 WALL = ("bp_t6/src/page_rows.rt", "bp_t6/src/row_code.rt", "bp_burn/src/covered_rows.rt")
+LENDS = ("bp_press/src/covered.rt", "bp_press/src/shown.rt")
 ANSWERS = re.compile(r"\b(?:Result|Option|Global|alloc|Allocator|OutOfMemory|AllocError)\b")
+REFUSES = re.compile(r"\b(?:Result|Global|alloc|Allocator|OutOfMemory|AllocError|Refusal|Vec|String|Box)\b")
 
 NOT_PRODUCT = re.compile(r"^(bp_tests|bp_bench|bp_timing|bp_serving_time|bp_script|bp_day|bp_lines|bp_web_lines)")
 MAKES = re.compile(r"\b(?:\w+::)?OutOfMemory\b|\bAllocError\b")
@@ -108,6 +111,10 @@ def main():
         for number, line, name, _ in functions(TOP / "crates" / below):
             if ANSWERS.search(line.split("//")[0]):
                 strange.append(f"crates/{below}:{number}: {name}: behind the wall: {line.strip()}")
+    for below in LENDS:
+        for number, line in enumerate((TOP / "crates" / below).read_text().splitlines(), 1):
+            if REFUSES.search(line.split("//")[0]):
+                strange.append(f"crates/{below}:{number}: behind the press's wall: {line.strip()}")
     for place in strange:
         print(place)
     for key in sorted(set(MADE) - used):

@@ -10,7 +10,7 @@ import sys
 
 TOP = os.path.dirname(os.path.dirname(os.path.abspath(__file__)))
 DATE = "2026-11-28"
-COMMANDS = "burn init import serve deliver produce press log claw check help".split()
+COMMANDS = "burn init import serve deliver produce press log claw check demo help".split()
 PROGRAMS = {"tivrenan-make-batch": "make_batch", "tivrenan-matter-report": "matter_report"}
 
 

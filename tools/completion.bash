@@ -12,12 +12,13 @@ _tivrenan() {
     local word=${COMP_WORDS[COMP_CWORD]} command=${COMP_WORDS[1]} at=$COMP_CWORD words=
     COMPREPLY=()
     case $at,$command in
-        1,*) words='burn init import serve deliver produce press log claw check help version build' ;;
-        2,help) words='burn init import serve deliver produce press log claw check statuses rules' ;;
+        1,*) words='burn init import serve deliver produce press log claw check demo help version build' ;;
+        2,help) words='burn init import serve deliver produce press log claw check demo statuses rules' ;;
         2,import) words=$(_tivrenan_batches "$word") ;;
         2,serve) words='1 2 4 8 16' ;;
         2,deliver) words=1000 ;;
         2,build) words='look gate' ;;
+        3,demo) words='10 200 2000' ;;
         2,burn | 3,deliver | 4,claw | [234],check) mapfile -t COMPREPLY < <(compgen -f -- "$word") && compopt -o filenames && return ;;
         8,burn) words='plain g4' ;;
     esac

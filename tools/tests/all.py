@@ -31,17 +31,18 @@ TOGETHER = 20 * 60
 
 class Part:
     """What is run; how many minutes it has, some five times what it takes beside other work; and what it can't do without: Debian's
-    packages, by a program of each, and so many desks of the built program. What a part looks for itself isn't named here."""
+    packages, by a program of each, the built program, and so many desks of it. What a part looks for itself isn't named here."""
 
-    def __init__(self, words, minutes, packages=(), desks=0):
-        self.words, self.minutes, self.packages, self.desks = words.split(), minutes, packages, desks
+    def __init__(self, words, minutes, packages=(), desks=0, program=False):
+        self.words, self.minutes, self.packages = words.split(), minutes, packages
+        self.desks, self.program = desks, program or desks > 0
 
     def lacks(self):
         """Why it can't be tried here, or None."""
         missing = [package for tool, package in self.packages if not shutil.which(tool)]
         if missing:
             return f"{', '.join(missing)} isn't installed (Debian's packages of these names)"
-        if self.desks and not is_built():
+        if self.program and not is_built():
             return "the program isn't built from the sources as they stand"
         taken = [port for port in range(FIRST_PORT, FIRST_PORT + self.desks) if is_open(port)]
         return f"somebody is at port {taken[0]}" if taken else None
@@ -55,6 +56,7 @@ PARTS = {
     "deliver": Part("examples/deliver.sh", 10, [("curl", "curl")], desks=1),
     "check": Part("examples/check.sh", 10, OFFICE, desks=1),
     "claw": Part("examples/claw.sh", 10, OFFICE, desks=1),
+    "demo": Part("examples/demo.sh", 10, program=True),
     "report": Part("tools/tests/matter_report.py", 10),
     "batch": Part("tools/tests/make_batch.py", 30),
     "page": Part("desk_page/tests/run.sh", 20),

@@ -27,7 +27,7 @@ use Rattle.bp_matter.specs.KeptRows.{rows_of}
 use Rattle.bp_matter.specs.Matter.{Matter}
 use Rattle.bp_matter.specs.Valid.{IsValid}
 use Rattle.bp_cli.specs.Import.{ImportOutcome, import_gives}
-use Rattle.bp_cli.specs.Kept.{MatterAnswers, OfTwo, RowsOutcome}
+use Rattle.bp_cli.specs.Kept.{FirstOutcome, MatterAnswers, OfTwo, RowsOutcome}
 use Rattle.bp_cli.specs.Press.{KeepSame, ShowSame, log_gives, press_gives}
 use Rattle.bp_cli.specs.Produce.{FrozenAlike, produce_gives}
 use Rattle.bp_cli.specs.Init.{init_gives}
@@ -36,8 +36,9 @@ use Rattle.bp_cli.specs.Runs.{Tells}
 use Rattle.bp_cli.specs.Words.{◌>>=◌}
 use Rattle.bp_cli.specs.Check.{CheckOutcome}
 use Rattle.bp_cli.specs.Burn.{BurnLine, BurnPaths, HasPage, BurnAlike, lacks_a_side, burn_page, burn_read, burn_gives, paths_of, path_refused, FileAnswers, PathAnswers, BurnsAt, BurnComes}
-use Rattle.bp_cli.specs.Commands.{CommandLine, Inputs, burn, init, import, produce, press, log, check, claw, uses_of, AreKnown, AlikeFor, ComesTo, IsOutcome, RowsAlike, ShowAlike}
+use Rattle.bp_cli.specs.Commands.{CommandLine, Inputs, burn, init, import, produce, press, log, check, claw, demo, uses_of, AreKnown, AlikeFor, ComesTo, IsOutcome, RowsAlike, ShowAlike}
 use Rattle.bp_cli.specs.Claw.{ClawOutcome, claw_gives}
+use Rattle.bp_cli.specs.Demo.{demo_gives}
 use Rattle.bp_cli.proofs.CheckLemmas.{check_one, some_check}
 use Rattle.bp_cli.proofs.ClawLemmas.{claw_alike, claw_one}
 use Rattle.bp_cli.proofs.KeptLemmas.{answers_loaded}
@@ -114,6 +115,7 @@ one_outcome laws (press id) inputs o o' x y = rows_one laws.rows (press_gives id
 one_outcome laws (log id) inputs o o' x y = rows_one laws.rows (log_gives id) inputs.rows o o' x y
 one_outcome laws (check asked) inputs o o' x y = check_one laws.one asked inputs.files o o' x y
 one_outcome laws (claw asked) inputs o o' x y = claw_one asked inputs.files inputs.rows o o' (matter_one laws.rows inputs.rows) x y
+one_outcome laws (demo asked) inputs o o' x y = sym x ∙ y
 
 -- ---- and there is one
 
@@ -147,6 +149,7 @@ some_outcome laws (check asked) inputs known = some_check laws.some asked inputs
 some_outcome laws (claw asked) inputs known =
     let found = some_named_file (Some inputs.files) asked.notice in
     (claw_gives asked known.0 found.0, record { tables = known.0; loaded = answers_loaded inputs.rows known.0 known.1; kept = known.1; file = found.0; found = found.1; gives = refl })
+some_outcome laws (demo asked) inputs known = (demo_gives asked inputs.rows, refl)
 
 -- ---- two matters
 
@@ -242,8 +245,17 @@ outcome_alike laws (claw asked) inputs inputs' other alike comes =
     same_comes (claw asked) inputs other (λ rows. refl)
     (claw_alike asked inputs.files inputs.rows inputs'.rows other (matter_one laws.rows inputs'.rows) rows_answer alike.matters
     (subst (λ (files : FileMap). ClawOutcome asked (Some files) (Some inputs'.rows) other) (sym alike.same) comes))
+outcome_alike laws (demo asked) inputs inputs' other alike comes =
+    same_comes (demo asked) inputs other (λ rows. refl) (ap (demo_gives asked) alike ∙ comes)
 
 -- ---- what is told
+
+-- what told rows give
+told_first : (gives : List Row → Outcome) (told : Option (List Row)) (rows : List Row) (outcome : Outcome) → told ≡ Some rows → FirstOutcome gives told outcome → gives rows ≡ outcome
+told_first gives told rows outcome there is =
+    let P : Option (List Row) → Type 0 = λ o. IfSome o (λ t. is.rows ≡ t) in
+    let same : is.rows ≡ rows = subst P there is.same in
+    ap gives (sym same) ∙ is.given
 
 -- the outcome over a told matter
 pub told_outcome : (c : CommandLine) (before : World) (inputs : Inputs) (outcome : Outcome) → Tells (uses_of c).files before.source.files inputs.files → Tells (uses_of c).rows before.keeper.rows inputs.rows → IsOutcome c before outcome → ComesTo c inputs outcome
@@ -251,10 +263,7 @@ told_outcome (burn b) before inputs outcome files rows is =
     let P : Option FileMap → Type 0 = λ o. IfSome o (λ t. t ≡ is.files) in
     let same : inputs.files ≡ is.files = subst P files is.same in
     subst (λ (fs : FileMap). BurnComes b fs outcome) (sym same) is.comes
-told_outcome (init digest) before inputs outcome files rows is =
-    let P : Option (List Row) → Type 0 = λ o. IfSome o (λ t. is.rows ≡ t) in
-    let same : is.rows ≡ inputs.rows = subst P rows is.same in
-    ap (init_gives digest) (sym same) ∙ is.gives
+told_outcome (init digest) before inputs outcome files rows is = told_first (init_gives digest) before.keeper.rows inputs.rows outcome rows is
 told_outcome (import name) before inputs outcome files rows is =
     subst (λ (o : Option FileMap). ImportOutcome name o (Some inputs.rows) outcome) files
     (subst (λ (o : Option (List Row)). ImportOutcome name before.source.files o outcome) rows is)
@@ -265,3 +274,4 @@ told_outcome (check asked) before inputs outcome files rows is = subst (λ (o : 
 told_outcome (claw asked) before inputs outcome files rows is =
     subst (λ (o : Option FileMap). ClawOutcome asked o (Some inputs.rows) outcome) files
     (subst (λ (o : Option (List Row)). ClawOutcome asked before.source.files o outcome) rows is)
+told_outcome (demo asked) before inputs outcome files rows is = told_first (demo_gives asked) before.keeper.rows inputs.rows outcome rows is

@@ -40,6 +40,7 @@ use Rattle.bp_cli.specs.Deliver.{deliver_of, delivered_line, opening_of}
 use Rattle.bp_cli.specs.NamedFiles.{file_read}
 use Rattle.bp_cli.specs.declared.claw.TheConstants.{CLAW_WORDS}
 use Rattle.bp_cli.specs.declared.deliver.TheConstants.{DELIVER_WORDS}
+use Rattle.bp_cli.specs.declared.demo.TheConstants.{DEMO_WORDS}
 use Rattle.bp_cli.specs.Serve.{serve_of}
 
 -- ---- words
@@ -385,6 +386,9 @@ deliver_words = refl
 
 claw_words : CLAW_WORDS ≡ 3
 claw_words = refl
+
+demo_words : DEMO_WORDS ≡ 2
+demo_words = refl
 
 -- a file that isn't there is no file of grants; neither is one with a bad record
 grants_absent : (m : Matter) → opening_of (Ok m) (file_read None) ≡ Err (bare_rule kinds.FileAbsent)

@@ -22,12 +22,15 @@ use Rattle.bp_freeze.specs.Freezing.{freeze_of}
 use Rattle.bp_freeze.specs.Keeping.{frozen_matter}
 use Rattle.bp_freeze.proofs.PutRowLemmas.{text-same}
 use Rattle.bp_rules.specs.Changes.{after, puts_of}
+use Rattle.bp_rules.specs.Deciding.{DecidedAs, stepped_of}
 use Rattle.bp_rules.specs.Roles.{is_clerk}
 use Rattle.bp_rules.specs.Stepping.{Stepped, freeze, step_for, step_of}
 use Rattle.bp_rules.specs.Steps.{CallMade, StepsCall}
+use Rattle.bp_rules.specs.declared.decided.Decided.{Decided}
 use Rattle.bp_rules.specs.declared.refusals.MatterRefusal.{MatterRefusal}
 use Rattle.bp_rules.specs.declared.refusals.MatterRefusal.TheVariants as refusals
 use Rattle.bp_cli.specs.declared.stops.Stop.{Stop}
+use Rattle.bp_cli.specs.Demoing.{FrozeHere}
 use Rattle.bp_cli.specs.Producing.{Freezes, Froze, IsProduced}
 use Rattle.bp_cli.specs.Stops.{StopsForMatter}
 use Rattle.bp_cli.proofs.KeptLemmas.{told_then}
@@ -112,3 +115,26 @@ freeze_stops m q key keeper m' keeper' refusals.KeeperFault stop valid lead step
     subst (λ (s : Stop). Freezes m q keeper (Err s) m' keeper') (sym is) step.1
 freeze_stops m q key keeper m' keeper' refusals.OutOfMemory stop valid lead step is =
     subst (λ (s : Stop). Freezes m q keeper (Err s) m' keeper') (sym is) step
+
+-- ---- in tables that no keeper has the rows of
+
+decided_reply : (m : Matter) (q : Request) (key : List ℕ) (decided : Decided) → IsValid m → key ≡ lead_digest_in m.staff → DecidedAs m (step_of m key (Freeze q)) decided → Replied m (freeze_of m q) (stepped_of m decided)
+decided_reply m q key decided valid lead is =
+    replied m (freeze_of m q) (stepped_of m decided)
+    (sym (lead_step m valid q) ∙ ap (λ (k : List ℕ). step_of m k (Freeze q)) (sym lead) ∙ is.answer)
+
+pub here_produced : (m : Matter) (q : Request) (key : List ℕ) (decided : Decided) → IsValid m → key ≡ lead_digest_in m.staff → DecidedAs m (step_of m key (Freeze q)) decided → IsProduced decided.reply
+here_produced m q key decided valid lead is = subst IsProduced (sym (decided_reply m q key decided valid lead is).reply) tt
+
+pub froze_here : (m : Matter) (q : Request) (key : List ℕ) (decided : Decided) (f : Production) (m' : Matter) → IsValid m → key ≡ lead_digest_in m.staff → DecidedAs m (step_of m key (Freeze q)) decided → m' ≡ after m decided.change → decided.reply ≡ replies.Produced f → FrozeHere m q f m'
+froze_here m q key decided f m' valid lead is made told =
+    let reply = decided_reply m q key decided valid lead is in
+    let same : reply.f ≡ f = same_production reply.f f (sym reply.reply ∙ told) in
+    record {
+      answer = reply.is ∙ ap (λ (g : Production). Ok g) same;
+      matter = made ∙ reply.left ∙ ap (λ (g : Production). frozen_matter g m) same;
+    }
+
+pub here_refused : (m : Matter) (q : Request) (key : List ℕ) (rule : Rule) → IsValid m → key ≡ lead_digest_in m.staff → step_of m key (Freeze q) ≡ Err rule → freeze_of m q ≡ Err rule
+here_refused m q key rule valid lead is =
+    refused_by m (freeze_of m q) rule (sym (lead_step m valid q) ∙ ap (λ (k : List ℕ). step_of m k (Freeze q)) (sym lead) ∙ is)

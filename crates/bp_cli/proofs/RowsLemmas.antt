@@ -118,29 +118,30 @@ rows_told may gives before mid folder tables text valid loaded given = rows_read
 })
 
 -- and a volume was put, which these rows go with
-volume_works : (may : Bool) (gives : Result Matter Rule → Outcome) (before mid k' : KeeperView) (folder folder' : FolderView) (f : Production) (volume : List FileRow) (rows : Option (List Row)) (e : Ending) → RowsOutcome gives mid.rows (volume_done f volume rows) → KeeperLeft rows before.faults (as_loaded before mid) k' → PutsVolume f volume folder e folder' → RowsWork may gives before mid folder e k' folder'
-volume_works may gives before mid k' folder folder' f volume rows (Ok line) outcome left put = λ source. record {
+pub volume_works : (uses : Uses) (Comes : Outcome → Type 0) (before k' : KeeperView) (folder folder' : FolderView) (f : Production) (volume : List FileRow) (rows : Option (List Row)) (e : Ending) → Comes (volume_done f volume rows) → KeeperLeft rows before.faults before k' → PutsVolume f volume folder e folder'
+    → (source : SourceView) → Ends uses Comes (world source before folder) e (world source k' folder')
+volume_works uses Comes before k' folder folder' f volume rows (Ok line) outcome left put = λ source. record {
   files = volume;
   rows = rows;
-  outcome = subst (λ (l : List ℕ). RowsOutcome gives mid.rows (done l volume rows)) (sym put.0) outcome;
+  outcome = subst (λ (l : List ℕ). Comes (done l volume rows)) (sym put.0) outcome;
   source = refl;
   keeper = left;
   folder = put.1;
 }
-volume_works may gives before mid k' folder folder' f volume rows (Err stops.FolderFault) outcome left put = λ source.
+volume_works uses Comes before k' folder folder' f volume rows (Err stops.FolderFault) outcome left put = λ source.
     record { line = volume_line f (pressed_of volume); files = volume; rows = rows; outcome = outcome; source = refl; keeper = left; folder = put }
-volume_works may gives before mid k' folder folder' f volume rows (Err stops.OutOfMemory) outcome left put = λ source. elim put [
+volume_works uses Comes before k' folder folder' f volume rows (Err stops.OutOfMemory) outcome left put = λ source. elim put [
   | inl part ↦ partly (volume_line f (pressed_of volume)) volume rows outcome refl left part
   | inr whole ↦ wholly (volume_line f (pressed_of volume)) volume rows outcome refl left whole
 ]
-volume_works may gives before mid k' folder folder' f volume rows (Err (stops.Broken rule)) outcome left put = absurd put
-volume_works may gives before mid k' folder folder' f volume rows (Err stops.WordsRefused) outcome left put = absurd put
-volume_works may gives before mid k' folder folder' f volume rows (Err stops.SourceFault) outcome left put = absurd put
-volume_works may gives before mid k' folder folder' f volume rows (Err stops.KeeperFault) outcome left put = absurd put
+volume_works uses Comes before k' folder folder' f volume rows (Err (stops.Broken rule)) outcome left put = absurd put
+volume_works uses Comes before k' folder folder' f volume rows (Err stops.WordsRefused) outcome left put = absurd put
+volume_works uses Comes before k' folder folder' f volume rows (Err stops.SourceFault) outcome left put = absurd put
+volume_works uses Comes before k' folder folder' f volume rows (Err stops.KeeperFault) outcome left put = absurd put
 
 pub rows_volume : (may : Bool) (gives : Result Matter Rule → Outcome) (before mid k' : KeeperView) (folder folder' : FolderView) (f : Production) (volume : List FileRow) (rows : Option (List Row)) (e : Ending) → RowsRead before.rows mid.rows k'.rows → CallsKeeper (rows_used may) before k' → RowsOutcome gives mid.rows (volume_done f volume rows) → KeeperLeft rows before.faults (as_loaded before mid) k' → PutsVolume f volume folder e folder' → RowsEnds may gives before folder e k' folder'
 rows_volume may gives before mid k' folder folder' f volume rows e reads calls outcome left put =
-    rows_read may gives before mid k' folder folder' e reads calls (volume_works may gives before mid k' folder folder' f volume rows e outcome left put)
+    rows_read may gives before mid k' folder folder' e reads calls (volume_works (rows_used may) (RowsOutcome gives mid.rows) (as_loaded before mid) k' folder folder' f volume rows e outcome left put)
 
 -- ---- the lead was to freeze
 

@@ -3,6 +3,7 @@ use Rattle.std.proofs.Common.{ℕ, ◌≡◌, List, Option, None, Ok, Err, refl,
 use Rattle.std.specs.Prelude.{IfSome}
 use Rattle.bp_desk.specs.Serving.{RoseBy}
 use Rattle.bp_desk.specs.declared.history.Made.{Made}
+use Rattle.bp_frozen.specs.Frozen.{FreezeLaw}
 use Rattle.bp_keep.specs.Keeper.{KeeperView}
 use Rattle.bp_matter.specs.KeptRows.{rows_of}
 use Rattle.bp_matter.specs.Matter.{Matter}
@@ -79,6 +80,7 @@ module _ {D : Type 0} (shows : D → DoorView) (asked : ServeLine) (before : Kee
     (given handed : List D) (history : List Made) (matter : Matter) (after : KeeperView)
     (out out' : OutView)
     (served : ServesMatter shows asked.desks asked.connections before given history matter after handed)
+    (law : FreezeLaw)
   where
     serves : Serves shows asked (with_read served.book.keeper.rows (hall before given out)) history
         (hall after handed out')
@@ -92,6 +94,7 @@ module _ {D : Type 0} (shows : D → DoorView) (asked : ServeLine) (before : Kee
           kept = subst (λ (m : Matter). KeepsRows after m) served.tables served.rows;
           callers = served.callers;
           room = served.fits;
+          frozen = law book.opening history;
           failed = served.failed;
           counted = served.counted;
           served = served.doors;

@@ -7,7 +7,7 @@ use Rattle.bp_keep.specs.Keeper.{KeeperView}
 use Rattle.bp_cli.specs.declared.stops.Stop.{Stop}
 use Rattle.bp_cli.specs.declared.stops.Stop.TheVariants as stops
 use Rattle.bp_rules.specs.Steps.{never}
-use Rattle.bp_cli.specs.Commands.{CommandLine, burn, init, import, produce, press, log, check, claw, ReadsAndWorks, ReadsAsOften, Works, uses_by, uses_of}
+use Rattle.bp_cli.specs.Commands.{CommandLine, burn, init, import, produce, press, log, check, claw, demo, ReadsAndWorks, ReadsAsOften, Works, uses_by, uses_of}
 use Rattle.bp_cli.specs.Endings.{CallsKeeper, Ending, SourceLeft, Uses, none_ahead, untouched, world}
 use Rattle.bp_cli.proofs.BurnLemmas.{unused}
 use Rattle.bp_cli.proofs.KeptLemmas.{by_stop, never_rose, rows_itself, told_itself}
@@ -60,3 +60,4 @@ never_read (Some (press id)) n = refl
 never_read (Some (log id)) n = refl
 never_read (Some (check asked)) n = tt
 never_read (Some (claw asked)) n = never refl
+never_read (Some (demo asked)) n = refl

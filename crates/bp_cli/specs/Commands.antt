@@ -21,6 +21,7 @@ use Rattle.bp_cli.specs.Endings.{done, refused}
 use Rattle.bp_cli.specs.Burn.{BurnLine, burn_seen, burn_of, BurnComes, BurnOutcome, BurnAlike}
 use Rattle.bp_cli.specs.Check.{CheckOutcome, check_named, check_seen}
 use Rattle.bp_cli.specs.Claw.{ClawAlike, ClawAsked, ClawOutcome, claw_named, claw_seen}
+use Rattle.bp_cli.specs.Demo.{DemoAsked, DemoOutcome, demo_gives, demo_of}
 use Rattle.bp_cli.specs.Import.{batch_named, ImportOutcome}
 use Rattle.bp_cli.specs.Init.{init_of, init_gives, InitOutcome}
 use Rattle.bp_cli.specs.Kept.{MatterAnswers, OfTwo, RowsOutcome}
@@ -37,6 +38,7 @@ pub data CommandLine : Type 0 where
   log : List ℕ → CommandLine
   check : Operands → CommandLine
   claw : ClawAsked → CommandLine
+  demo : DemoAsked → CommandLine
 
 -- a command as contracts see it
 abbrev pub command_seen : Command → CommandLine
@@ -48,6 +50,7 @@ command_seen (commands.Press id) = press (chars id.now)
 command_seen (commands.Log id) = log (chars id.now)
 command_seen (commands.Check asked) = check (check_seen asked)
 command_seen (commands.Claw asked) = claw (claw_seen asked)
+command_seen (commands.Demo asked) = demo asked
 
 -- by the first word
 -- the command of words: its name, then its operands
@@ -62,7 +65,8 @@ named_command (name ∷ operands) =
     else (if bytes_eq name (codes "log") then option_map log (id_named operands)
     else (if bytes_eq name (codes "check") then option_map check (check_named operands)
     else (if bytes_eq name (codes "claw") then option_map claw (claw_named operands)
-    else None)))))))
+    else (if bytes_eq name (codes "demo") then option_map demo (demo_of operands)
+    else None))))))))
 
 -- the command that the words are a line of, if they are one
 abbrev pub command_of : List (List ℕ) → Option CommandLine
@@ -78,6 +82,7 @@ uses_of (press id) = record { files = false; rows = true; commits = false; ahead
 uses_of (log id) = record { files = false; rows = true; commits = false; ahead = false }
 uses_of (check asked) = record { files = true; rows = false; commits = false; ahead = true }
 uses_of (claw asked) = record { files = true; rows = true; commits = false; ahead = false }
+uses_of (demo asked) = record { files = false; rows = true; commits = true; ahead = false }
 
 -- what the command uses, if the words are one
 abbrev pub uses_by : Option CommandLine → Uses
@@ -96,6 +101,7 @@ ReadsAsOften (Some (press id)) before now = now ≡ before
 ReadsAsOften (Some (log id)) before now = now ≡ before
 ReadsAsOften (Some (check asked)) before now = Unit {0}
 ReadsAsOften (Some (claw asked)) before now = AtMostOnce before now
+ReadsAsOften (Some (demo asked)) before now = now ≡ before
 
 -- all that the outcome of a command may depend on: the files of the source, the rows of the keeper
 pub record Inputs : Type 0 where
@@ -114,6 +120,7 @@ ComesTo (log id) inputs outcome = RowsOutcome (log_gives id) (Some inputs.rows) 
 ComesTo (check asked) inputs outcome = CheckOutcome asked (Some inputs.files) outcome
 ComesTo (claw asked) inputs outcome =
     ClawOutcome asked (Some inputs.files) (Some inputs.rows) outcome
+ComesTo (demo asked) inputs outcome = demo_gives asked inputs.rows ≡ outcome
 
 -- the outcome over the inputs that the outside tells, or over some that it doesn't tell
 abbrev pub IsOutcome : CommandLine → World → Outcome → Type 0
@@ -127,6 +134,7 @@ IsOutcome (log id) world outcome = RowsOutcome (log_gives id) world.keeper.rows 
 IsOutcome (check asked) world outcome = CheckOutcome asked world.source.files outcome
 IsOutcome (claw asked) world outcome =
     ClawOutcome asked world.source.files world.keeper.rows outcome
+IsOutcome (demo asked) world outcome = DemoOutcome asked world.keeper.rows outcome
 
 -- the rows come to a matter, or to a rule: they are those of a valid matter, or there is none that
 -- has them
@@ -143,8 +151,9 @@ AreKnown (press id) inputs = RowsKnown inputs
 AreKnown (log id) inputs = RowsKnown inputs
 AreKnown (check asked) inputs = Unit {0}
 AreKnown (claw asked) inputs = RowsKnown inputs
+AreKnown (demo asked) inputs = Unit {0}
 
--- what the command doesn't withhold is the same in both; `init`, `import` and `check` withhold
+-- what the command doesn't withhold is the same in both; `init`, `import`, `check` and `demo` withhold
 -- nothing. `produce` withholds what the decisions hold back that it freezes, and `press` what those
 -- held back that it froze; a log is of these decisions alone. `claw` withholds what `press` does, and
 -- all of the documents that its notice names
@@ -159,6 +168,7 @@ AlikeFor (log id) inputs inputs' = OfTwo (KeepSame id) inputs.rows inputs'.rows
 AlikeFor (check asked) inputs inputs' = inputs.files ≡ inputs'.files
 AlikeFor (claw asked) inputs inputs' =
     ClawAlike asked inputs.files inputs'.files inputs.rows inputs'.rows
+AlikeFor (demo asked) inputs inputs' = inputs.rows ≡ inputs'.rows
 
 -- the rows that are kept are the same in both, but for `produce`: then they are those of two valid
 -- matters, which keep the same production under the id and show the same of it

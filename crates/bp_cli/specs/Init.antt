@@ -1,7 +1,6 @@
 -- The command `init`: its line, and what it comes to.
-use Rattle.std.specs.Prelude.{ℕ, ◌≡◌, ◌==◌, ◌&&◌, ◌||◌, nat_le, Bool, Option}
+use Rattle.std.specs.Prelude.{ℕ, ◌==◌, ◌&&◌, ◌||◌, nat_le, Bool, Option}
 use Rattle.std.specs.Prelude.{Some, None, List, [], ◌∷◌, length, codes, if◌then◌else◌}
-use Rattle.std.specs.Prelude.{IfSome}
 use Rattle.std.specs.Char.{is_ascii_digit}
 use Rattle.std.specs.List.{list_all}
 use Rattle.std.specs.Result.{result_ok}
@@ -14,6 +13,7 @@ use Rattle.bp_rules.specs.Beginning.{begun}
 use Rattle.bp_cli.specs.declared.init.TheConstants.{DIGEST_BYTES}
 use Rattle.bp_cli.specs.Words.{word_of}
 use Rattle.bp_cli.specs.Endings.{Outcome, done, refused, line_of}
+use Rattle.bp_cli.specs.Kept.{FirstOutcome}
 
 -- ---- its line
 
@@ -38,8 +38,5 @@ init_gives digest [] = done (line_of (codes "matter made")) [] (Some (rows_of (b
 init_gives digest (row ∷ rows) = refused (bare_rule kinds.MatterThere)
 
 -- the outcome over the rows that a keeper tells, or over some where it tells none
-pub record InitOutcome (digest : List ℕ) (told : Option (List Row)) (outcome : Outcome)
-    : Type 0 where
-  pub rows : List Row
-  pub same : IfSome told (λ there. rows ≡ there)
-  pub gives : init_gives digest rows ≡ outcome
+abbrev pub InitOutcome : List ℕ → Option (List Row) → Outcome → Type 0
+InitOutcome digest told outcome = FirstOutcome (init_gives digest) told outcome

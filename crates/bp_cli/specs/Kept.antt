@@ -35,6 +35,13 @@ pub record RowsOutcome (gives : Result Matter Rule → Outcome) (rows : Option (
   pub kept : IfSome rows (λ there. MatterAnswers there tables)
   pub given : gives tables ≡ outcome
 
+-- the outcome that any rows give which are told, or, where none are, some rows
+pub record FirstOutcome (gives : List Row → Outcome) (told : Option (List Row))
+    (outcome : Outcome) : Type 0 where
+  pub rows : List Row
+  pub same : IfSome told (λ there. rows ≡ there)
+  pub given : gives rows ≡ outcome
+
 -- the rows are those of two valid matters of which this holds
 pub record OfTwo (P : Matter → Matter → Type 0) (rows rows' : List Row) : Type 0 where
   pub one : Matter

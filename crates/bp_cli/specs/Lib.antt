@@ -7,6 +7,8 @@ pub mod Clawing
 pub mod Commands
 pub mod Deliver
 pub mod Delivering
+pub mod Demo
+pub mod Demoing
 pub mod Doors
 pub mod Endings
 pub mod Import

@@ -9,6 +9,7 @@ use Rattle.bp_desk.specs.Calls.{run_calls}
 use Rattle.bp_desk.specs.Serving.{RoseBy}
 use Rattle.bp_desk.specs.declared.history.Made.{Made}
 use Rattle.bp_desk.specs.declared.history.TheConstants.{MOST_CALLS}
+use Rattle.bp_frozen.specs.Frozen.{FreezesStand}
 use Rattle.bp_keep.specs.Keeper.{KeeperView}
 use Rattle.bp_matter.specs.Matter.{Matter}
 use Rattle.bp_matter.specs.Valid.{IsValid}
@@ -86,8 +87,8 @@ served_line history = count_line (length history)
 
 -- One history was made at the first doors, so many as there are desks, from the matter that the rows
 -- are kept for. It has calls of their seats alone, and each door's exchanges use up the calls of its
--- own. The rows that stand are those of the matter after it. Over all doors together the keeper failed
--- at least as often as was answered.
+-- own. The rows that stand are those of the matter after it. Each freeze in it that was answered with a
+-- production stands. Over all doors together the keeper failed at least as often as was answered.
 pub record Serves {D : Type 0} (shows : D → DoorView) (asked : ServeLine) (before : Hall D)
     (history : List Made) (after : Hall D) : Type 0 where
   pub opening : Matter
@@ -96,6 +97,7 @@ pub record Serves {D : Type 0} (shows : D → DoorView) (asked : ServeLine) (bef
   pub kept : KeepsRows after.keeper (run_calls opening history)
   pub callers : All (IsCaller asked.desks) history
   pub room : length history ≤ MOST_CALLS
+  pub frozen : FreezesStand opening history
   pub failed : List ℕ
   pub counted : length failed ≡ asked.desks
   pub served : AreServed shows asked.connections opening history 1 failed before.doors after.doors

@@ -9,6 +9,7 @@ ghost use Rattle.bp_cli.specs.Produce.{request_of};
 use crate::burn::{Burn, burn_in};
 use crate::check::{Check, check_in};
 use crate::claw::{ClawLine, claw_in};
+use crate::demo::{DemoLine, demo_in};
 use crate::import::batch_in;
 use crate::init::init_in;
 use crate::operands::operands_of;
@@ -35,6 +36,8 @@ pub enum Command<'a> {
     Log(&'a str),
     Check(Check<'a>),
     Claw(ClawLine<'a>),
+    /// Draw a matter, freeze it, and put its volume.
+    Demo(DemoLine),
 }
 
 /// The command that the words are a line of, if they are one. The words don't have the program's
@@ -107,6 +110,9 @@ fn command_lent<'a>(name: &str, operands: &[&'a str]) -> Option<Command<'a>>
     }
     if name == "claw" {
         return Some(Command::Claw(claw_in(operands)?));
+    }
+    if name == "demo" {
+        return Some(Command::Demo(demo_in(operands)?));
     }
     None
 }

@@ -93,7 +93,8 @@ fn first_puts(alloc: Global, digest: [u8; DIGEST_BYTES]) -> Result<PutList, OutO
     puts_of_rows(alloc, rows)
 }
 
-fn puts_of_rows(alloc: Global, rows: RowList) -> Result<PutList, OutOfMemory>
+// The puts that keep these rows.
+pub fn puts_of_rows(alloc: Global, rows: RowList) -> Result<PutList, OutOfMemory>
     ensures { IfOk result (λ puts. puts ≡ map put_of rows) }
 {
     let puts = rows.into_vec().into_iter().map(put_of).collect(alloc)?;

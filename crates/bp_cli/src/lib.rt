@@ -10,6 +10,7 @@ mod check;
 mod claw;
 mod commands;
 mod deliver;
+mod demo;
 pub mod doors;
 mod import;
 mod init;

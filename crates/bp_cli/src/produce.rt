@@ -138,7 +138,7 @@ fn freeze_for_lead<K: Keeper>(
 }
 
 // The production that a reply has.
-fn production_in(reply: Reply) -> Production
+pub fn production_in(reply: Reply) -> Production
     requires { IsProduced reply }
     ensures { reply ≡ Reply.Produced result }
 {

@@ -19,6 +19,7 @@ use crate::check::check_files;
 use crate::claw::claw_volume;
 use crate::commands::{Command, command_in};
 use crate::deliver::{DeliverLine, deliver, deliver_in};
+use crate::demo::demo_volume;
 use crate::import::import_batch;
 use crate::init::make_matter;
 use crate::press::{log_kept, press_kept};
@@ -316,5 +317,6 @@ fn work<R: Threads + Sync, S: Source, K: Keeper, F: Folder>(
         Some(Command::Log(id)) => log_kept(alloc, id, keeper),
         Some(Command::Check(asked)) => check_files(rt, alloc, &asked, source),
         Some(Command::Claw(asked)) => claw_volume(rt, alloc, &asked, source, keeper, folder),
+        Some(Command::Demo(asked)) => demo_volume(rt, alloc, asked, keeper, folder),
     }
 }

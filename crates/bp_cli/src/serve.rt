@@ -8,6 +8,7 @@ use crate::stops::Stop;
 use crate::words::number_in;
 use bp_core::{Bytes, OutOfMemory};
 use bp_desk::{Closed, History};
+use bp_frozen::freezes_stand;
 use bp_keep::Keeper;
 use bp_outside::Door;
 use bp_seats::serve_matter;
@@ -92,7 +93,8 @@ pub struct Service<K, D> {
 }
 
 /// Serves the first doors, so many as there are desks, over the matter that the keeper has the rows
-/// of, each for so many connections. The line that tells how many calls were made.
+/// of, each for so many connections. The line that tells how many calls were made. Each freeze among
+/// them that was answered with a production stands.
 pub fn serve<K: Keeper + Send, D: Door + Send, R: Threads + Wait + Sync>(
     rt: &R,
     alloc: Global,
@@ -104,6 +106,7 @@ pub fn serve<K: Keeper + Send, D: Door + Send, R: Threads + Wait + Sync>(
     ensures { ServesAnyhow D.shows asked (K.shows keeper) doors.items result.ending result.history
         (K.shows result.keeper) result.doors.items }
 {
+    freezes_stand();
     match serve_matter(rt, alloc, keeper, doors, asked.desks, asked.connections) {
         Ok(served) => told(alloc, served.closed, served.doors),
         Err(nobody) => Service {

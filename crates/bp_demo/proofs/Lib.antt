@@ -4,4 +4,5 @@ pub mod PageLemmas
 pub mod PileLemmas
 pub mod BatchLemmas
 pub mod CallLemmas
+pub mod TableLemmas
 mod Examples

@@ -82,9 +82,9 @@ documents_sound n pile small s =
     record {
       families = stands_last 1 1 pile.done doc s.families stands;
       fit = list_all-append (batch_doc_fits 0) pile.done (doc ∷ [])
-      ∙ and_from _ _ s.fit (and_from (batch_doc_fits 0 doc) true (doc_fits (last_number pile) pile.parent pile.pages (omega arith) s.some s.pages_fit) refl);
+          ∙ and_from _ _ s.fit (and_from (batch_doc_fits 0 doc) true (doc_fits (last_number pile) pile.parent pile.pages (omega arith) s.some s.pages_fit) refl);
       written = list_all-append batch_doc_written pile.done (doc ∷ [])
-      ∙ and_from _ _ s.written (and_from (batch_doc_written doc) true (doc_written (last_number pile) pile.parent pile.pages (omega arith) (omega arith) s.pages_written) refl);
+          ∙ and_from _ _ s.written (and_from (batch_doc_written doc) true (doc_written (last_number pile) pile.parent pile.pages (omega arith) (omega arith) s.pages_written) refl);
       few = omega (arith, length-append pile.done (doc ∷ []));
       count = pages-append pile.done (doc ∷ []) ∙ omega (arith, s.count);
     }
@@ -109,13 +109,15 @@ parent_sound : (n : ℕ) (pile : Pile) (joins : Bool) → IsSound n pile
     (((parent == length (documents pile) + 1) || (parent == last_parent 1 (documents pile))) ≡ true) × (parent ≤ length (documents pile) + 1)
 parent_sound n pile true s =
     let doc = document (last_number pile) pile.parent pile.pages in
-    let low = s.low in
-    (or_right (pile.parent == length (documents pile) + 1) (pile.parent == last_parent 1 (documents pile)) (eq-eqb _ _ (sym (last_of_more 1 pile.done doc))),
-    omega (arith, length-append pile.done (doc ∷ [])))
+    let low = s.low in (
+      or_right (pile.parent == length (documents pile) + 1) (pile.parent == last_parent 1 (documents pile)) (eq-eqb _ _ (sym (last_of_more 1 pile.done doc))),
+      omega (arith, length-append pile.done (doc ∷ [])),
+    )
 parent_sound n pile false s =
-    let doc = document (last_number pile) pile.parent pile.pages in
-    (or_left (last_number pile + 1 == length (documents pile) + 1) (last_number pile + 1 == last_parent 1 (documents pile)) (eq-eqb _ _ (omega (arith, length-append pile.done (doc ∷ [])))),
-    omega (arith, length-append pile.done (doc ∷ [])))
+    let doc = document (last_number pile) pile.parent pile.pages in (
+      or_left (last_number pile + 1 == length (documents pile) + 1) (last_number pile + 1 == last_parent 1 (documents pile)) (eq-eqb _ _ (omega (arith, length-append pile.done (doc ∷ [])))),
+      omega (arith, length-append pile.done (doc ∷ [])),
+    )
 
 begun_sound : (n : ℕ) (pile : Pile) (x : ℕ) → n < 2000 → IsSound n pile → IsSound (suc n) (begin_document pile (next_parent pile x) x)
 begun_sound n pile x small s =

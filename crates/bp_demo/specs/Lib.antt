@@ -5,3 +5,4 @@ pub mod Batch
 pub mod Calls
 pub mod Asked
 pub mod Frozen
+pub mod Demo

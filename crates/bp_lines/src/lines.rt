@@ -2,7 +2,7 @@
 use crate::files::File;
 use crate::shelves::Stock;
 use crate::told::unread;
-use crate::{codes, labels, loads, pages, places, rows, shelves, word_files};
+use crate::{codes, labels, loads, pages, places, rows, shelves, strips, word_files};
 use anyhow::{Result, bail};
 use bp_core::{ListOf, Row};
 use bp_rows::{Page, Res, Unit};
@@ -50,6 +50,7 @@ pub fn told<R: Files + AllocGlobal>(
     let told = match words.word() {
         "code" => codes::told(alloc, &mut words),
         "page" => pages::told(alloc, &mut bench.page, &bench.file, &mut words),
+        "strip" => strips::told(alloc, &bench.page, &mut words),
         "file" => bench.file.told(rt, alloc, &mut words),
         "load" => loads::told(alloc, &bench.file, &mut words),
         "words" => word_files::told(alloc, &bench.file, &mut bench.words, &mut words),

@@ -12,6 +12,7 @@ mod pages;
 mod places;
 mod rows;
 mod shelves;
+mod strips;
 mod told;
 mod word_files;
 

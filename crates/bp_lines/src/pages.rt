@@ -4,7 +4,8 @@
 //     page white WIDTH HEIGHT ACROSS DOWN UNIT         a white page; a resolution is NUMERATOR DENOMINATOR
 //     page strip WIDTH HEIGHT HEX..                    the page that this strip of packed rows is
 //     page packed WIDTH HEIGHT HEX..                   the same, whatever the unused bits are
-//     page coded WIDTH HEIGHT FILL HEX..               the page of a strip of codes (ITU-T T.6)
+//     page coded WIDTH HEIGHT FILL HEX..               the page of a strip of codes (ITU-T T.6), whole and
+//                                                      a row at a time
 //     page black ROW FROM TO / paint ROW FROM TO / box RECTANGLE / set ROW COLUMN YES_OR_NO
 //     page burn RECTANGLE.. / row ROW RECTANGLE..
 //     page produced INK LABEL DESIGNATION STAMP..
@@ -24,6 +25,7 @@ ghost use Rattle.bp_burn.specs.Drawn.{has_glyphs};
 
 use crate::codes::fill_of;
 use crate::files::File;
+use crate::strips::is_told_by_rows;
 use crate::told::{constant, of_numbers, of_refusal, unread, yes_or_no};
 use anyhow::Result;
 use bp_burn::{burn, burn_row, has_glyphs, produced, produced_strip, slip_page};
@@ -135,10 +137,15 @@ fn coded(alloc: Global, page: &mut Page, words: &mut Words) -> Result<String> {
     let fill = fill_of(words);
     let mut bytes = Vec::new(alloc);
     words.add_bytes(&mut bytes);
-    if words.is_read() && bytes.len() < 1_000_000 {
-        put(alloc, page, read_strip(alloc, &bytes, fill, width, height))
+    if !words.is_read() || bytes.len() >= 1_000_000 {
+        return unread(alloc);
+    }
+    let told = put(alloc, page, read_strip(alloc, &bytes, fill, width, height))?;
+    let sides = (width, height);
+    if is_told_by_rows(alloc, &bytes, fill, page, sides, told.as_str())? {
+        Ok(told)
     } else {
-        unread(alloc)
+        constant(alloc, "the two readers differ")
     }
 }
 
@@ -160,7 +167,7 @@ fn burn_boxes(alloc: Global, page: &mut Page, words: &mut Words) -> Result<Strin
     constant(alloc, "")
 }
 
-fn ink_of(words: &mut Words) -> Ink {
+pub fn ink_of(words: &mut Words) -> Ink {
     match words.word() {
         "black" => Ink::Black,
         "lettered" => Ink::Lettered,
@@ -172,7 +179,7 @@ fn ink_of(words: &mut Words) -> Ink {
 }
 
 // The stamps of all words that are left.
-fn stamps_of(alloc: Global, words: &mut Words) -> Result<StampList> {
+pub fn stamps_of(alloc: Global, words: &mut Words) -> Result<StampList> {
     let mut stamps = Vec::new(alloc);
     for _ in 0..words.count() / 5 {
         let rect = words.rect();

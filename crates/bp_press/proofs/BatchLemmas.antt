@@ -24,6 +24,7 @@ use Rattle.bp_matter.specs.declared.rows.Request.{Request}
 use Rattle.bp_press.specs.Batches.{HasImages, HasJob, IsDigested, is_image, jobs_by, made_by, page_job, row_made, sheet_job}
 use Rattle.bp_press.specs.Contents.{image_in, produced_page, slip_sheet, stamps_on}
 use Rattle.bp_press.specs.Jobs.{IsCodable, page_of, strip_by}
+use Rattle.bp_press.specs.Shown.{IsOwnJob}
 use Rattle.bp_press.specs.VolumeFiles.{CanBeMade, bytes_in, row_of}
 use Rattle.bp_press.specs.declared.batches.MadeFile.{MadeFile}
 use Rattle.bp_press.specs.declared.jobs.Job.{Job}
@@ -95,6 +96,24 @@ codable f m (entry ∷ entries) made =
     All-append (IsCodable m) (jobs_by f entry) (flat_map (jobs_by f) entries) (codable_one f m entry (All-head (CanBeMade f m) entry entries made))
     (codable f m entries (All-tail (CanBeMade f m) entry entries made))
 
+-- the job of an entry is one of the production's
+own_one : (f : Production) (m : Matter) (entry : VolumeFile) → CanBeMade f m entry → All (IsOwnJob f) (jobs_by f entry)
+own_one f m (Page item place page) made =
+    All-cons (IsOwnJob f) (page_job f item.now page) []
+    (record { item = item.now; there = made.filled.own; shown = made.filled.shown; of = refl; boxed = refl })
+    (All-nil (IsOwnJob f))
+own_one f m (Sheet item place basis sheet) made = All-cons (IsOwnJob f) (sheet_job f.request item.now basis sheet) [] tt (All-nil (IsOwnJob f))
+own_one f m (Text item place) made = All-nil (IsOwnJob f)
+own_one f m Dat made = All-nil (IsOwnJob f)
+own_one f m Opt made = All-nil (IsOwnJob f)
+own_one f m Log made = All-nil (IsOwnJob f)
+
+pub own_all : (f : Production) (m : Matter) (entries : List VolumeFile) → All (CanBeMade f m) entries → All (IsOwnJob f) (flat_map (jobs_by f) entries)
+own_all f m [] made = All-nil (IsOwnJob f)
+own_all f m (entry ∷ entries) made =
+    All-append (IsOwnJob f) (jobs_by f entry) (flat_map (jobs_by f) entries) (own_one f m entry (All-head (CanBeMade f m) entry entries made))
+    (own_all f m entries (All-tail (CanBeMade f m) entry entries made))
+
 -- ---- a piece of the list
 
 pub piece_made : (f : Production) (m : Matter) (list : List VolumeFile) (from end : ℕ) → All (CanBeMade f m) list → All (CanBeMade f m) (slice_range list from end)
@@ -150,9 +169,9 @@ jobs_counted f (Log ∷ entries) = jobs_counted f entries
 
 -- behind those of the entries before it stands the image of an entry
 pub images_at : (f : Production) (m : Matter) (batch : List VolumeFile) (place first : ℕ) (d : VolumeFile) (jobs lent : List Job) (strips lent_strips : List (List ℕ)) → place < length batch
-    → first ≡ length (filter is_image (take place batch)) → jobs ≡ flat_map (jobs_by f) batch → All (IsCodable m) jobs → strips ≡ map (strip_by m) jobs
+    → first ≡ length (filter is_image (take place batch)) → jobs ≡ flat_map (jobs_by f) batch → All (IsCodable m) jobs → All (IsOwnJob f) jobs → strips ≡ map (strip_by m) jobs
     → lent ≡ drop first jobs → lent_strips ≡ drop first strips → HasImages f m (get_or batch place d) lent lent_strips
-images_at f m batch place first d jobs lent strips lent_strips less many are fit made is is' =
+images_at f m batch place first d jobs lent strips lent_strips less many are fit own made is is' =
     let before = flat_map (jobs_by f) (take place batch) in
     let behind = flat_map (jobs_by f) (drop place batch) in
     let long : length before ≡ first = jobs_counted f (take place batch) ∙ sym many in
@@ -161,6 +180,7 @@ images_at f m batch place first d jobs lent strips lent_strips less many are fit
       rest = flat_map (jobs_by f) (drop (place + 1) batch);
       there = is ∙ ap (drop first) whole ∙ drop_at before behind first long ∙ at_drop_more (flat_map (jobs_by f)) batch place d less;
       codable = All-same (IsCodable m) lent (drop first jobs) is (All-drop (IsCodable m) first jobs fit);
+      own = All-same (IsOwnJob f) lent (drop first jobs) is (All-drop (IsOwnJob f) first jobs own);
       made = is' ∙ ap (drop first) made ∙ drop-map (strip_by m) first jobs ∙ ap (map (strip_by m)) (sym is);
     }
 
@@ -211,11 +231,15 @@ own_images f m entry jobs lent strips lent_strips fit are same made same' =
       rest = [];
       there = is ∙ sym (append-nil (jobs_by f entry));
       codable = All-same (IsCodable m) lent (jobs_by f entry) is (codable_one f m entry fit);
+      own = All-same (IsOwnJob f) lent (jobs_by f entry) is (own_one f m entry fit);
       made = same' ∙ made ∙ ap (map (strip_by m)) (sym same);
     }
 
 pub own_codable : (f : Production) (m : Matter) (entry : VolumeFile) (jobs : List Job) → CanBeMade f m entry → jobs ≡ jobs_by f entry → All (IsCodable m) jobs
 own_codable f m entry jobs fit are = All-same (IsCodable m) jobs (jobs_by f entry) are (codable_one f m entry fit)
+
+pub own_own : (f : Production) (m : Matter) (entry : VolumeFile) (jobs : List Job) → CanBeMade f m entry → jobs ≡ jobs_by f entry → All (IsOwnJob f) jobs
+own_own f m entry jobs fit are = All-same (IsOwnJob f) jobs (jobs_by f entry) are (own_one f m entry fit)
 
 -- ---- files that are made
 

@@ -1,10 +1,13 @@
 -- The first and the last number of each family, as they are gathered item by item.
-use Rattle.std.proofs.Common.{◌≡◌, ℕ, suc, ◌+◌, ◌<◌, ◌≤◌, Bool, true, cond, List, [], ◌∷◌, ◌++◌, length, get_or, slice_index, slice_set, All, refl, sym, ap, ◌∙◌, subst, arith, eqb, inl, inr, length-append}
+use Rattle.std.proofs.Common.{◌≡◌, ℕ, suc, ◌+◌, ◌<◌, ◌≤◌, Bool, true, cond, List, [], ◌∷◌, ◌++◌, length, get_or, slice_index, slice_set, take, All, refl, sym, ap, ◌∙◌, subst, arith, eqb, inl, inr, length-append}
 use Rattle.std.specs.List.{filter, list_any}
+use Rattle.std.proofs.Math.Seq.{take-suc}
+use Rattle.std.proofs.lemmas.List.Elements.{All-push, All-weaker}
 use Rattle.std.proofs.lemmas.Bool.{cases_Bool, eqb-false, eqb-true}
-use Rattle.std.proofs.lemmas.List.{get_or-set_other, get_or-set_same, get_or_append_left, get_or_push}
+use Rattle.std.proofs.lemmas.List.{get_or-set_other, get_or-set_same, get_or_append_left, get_or_push, take_all}
 use Rattle.bp_matter.specs.declared.rows.Item.{Item}
 use Rattle.bp_freeze.specs.Selecting.{first_number, last_number}
+use Rattle.bp_press.specs.Needs.{IsInFamily}
 use Rattle.bp_press.proofs.SpanLemmas.{SpanLies}
 
 -- an item is of the family of that parent
@@ -106,6 +109,22 @@ all-last {T = T} P rest before x is h =
 pub all-before : {T : Type 0} (P : T → Type 0) (rest before : List T) (x : T) → rest ≡ before ++ x ∷ [] → All P rest → All P before
 all-before {T = T} P rest before x is h k d l =
     subst P (get_or_append_left before (x ∷ []) d k l) (subst (λ (xs : List T). All P xs) is h k d (omega (arith, l, length-append before (x ∷ []))))
+
+-- ---- a number that no parent is above
+
+-- one item more
+pub families_more : (items : List Item) (k last next : ℕ) (item : Item) → k < length items → item ≡ get_or items k item → last ≤ next → item.parent.0 ≤ next
+    → All (IsInFamily last) (take k items) → All (IsInFamily next) (take (k + 1) items)
+families_more items k last next item less is up own within =
+    let wide : k + 1 ≡ suc k = omega arith in
+    subst (λ (xs : List Item). All (IsInFamily next) xs) (sym (ap (λ n. take n items) wide ∙ take-suc items k item less))
+    (All-push (IsInFamily next) (take k items) (get_or items k item)
+    (All-weaker (IsInFamily last) (IsInFamily next) (λ i h. omega (arith, h, up)) (take k items) within)
+    (subst (λ (i : Item). i.parent.0 ≤ next) is own))
+
+-- all items
+pub families_all : (items : List Item) (k last : ℕ) → length items ≤ k → All (IsInFamily last) (take k items) → All (IsInFamily last) items
+families_all items k last past within = subst (λ (xs : List Item). All (IsInFamily last) xs) (take_all k items past) within
 
 -- ---- the numbers of a family lie between those of its items
 

@@ -1,29 +1,28 @@
 -- What jobs make, and the list of what threads made.
-use Rattle.std.proofs.Common.{◌≡◌, ℕ, ◌+◌, ◌<◌, suc, List, [], ◌∷◌, length, map, get_or, Option, Some, None, Result, Ok, Err, refl, sym, ap, ap₂, subst, ◌∙◌, arith, eqb}
+use Rattle.std.proofs.Common.{◌≡◌, ℕ, ◌*◌, ◌<◌, ◌≤◌, nat_le, nat_lt, suc, List, [], ◌∷◌, length, map, get_or, Option, Some, None, Result, Ok, Err, refl, sym, ap, ap₂, subst, arith, eqb}
 use Rattle.std.specs.Prelude.{IfOk, IsTrue, unwrap_or}
+use Rattle.std.proofs.lemmas.Bool.{leb-true, ltb-true}
 use Rattle.bp_core.specs.Sorted.{two_keys}
 use Rattle.bp_core.specs.declared.refusals.OutOfMemory.{OutOfMemory}
 use Rattle.bp_rows.specs.Image.{Image, IsPage, white_image}
 use Rattle.bp_rows.specs.Limits.{sides_are_imported}
 use Rattle.bp_rows.specs.declared.resolution.Unit.TheVariants.{Inch}
-use Rattle.bp_burn.specs.Band.{produced_of, slip_resolution}
+use Rattle.bp_burn.specs.Band.{slip_resolution}
 use Rattle.bp_burn.specs.Covered.{covered}
-use Rattle.bp_burn.proofs.BandLemmas.{band_fits}
+use Rattle.bp_burn.proofs.BandLemmas.{band_fits, five}
+use Rattle.bp_burn.specs.RowsOut.{AreOf}
 use Rattle.bp_burn.specs.Strips.{HasStrip}
 use Rattle.bp_t6.specs.Written.{strip_of}
-use Rattle.bp_matter.specs.Images.{in_frame}
-use Rattle.bp_matter.specs.declared.kept_page.Frame.{Frame}
 use Rattle.bp_matter.specs.LookUps.{of_row, page_with}
 use Rattle.bp_matter.specs.Matter.{Matter, page_key}
 use Rattle.bp_matter.specs.Valid.{IsValid}
 use Rattle.bp_matter.specs.ValidPages.{page_fits}
 use Rattle.bp_matter.specs.declared.rows.PageRow.{PageRow}
 use Rattle.bp_press.specs.Contents.{image_in}
-use Rattle.bp_press.specs.Jobs.{page_of, sheet_frame}
-use Rattle.bp_press.specs.declared.jobs.Job.{Job}
-use Rattle.bp_press.specs.declared.jobs.Job.TheVariants as jobs
+use Rattle.bp_press.specs.Shown.{page_lent, rows_lent}
+use Rattle.bp_press.specs.declared.covered.CoveredPage.{CoveredPage}
 use Rattle.bp_press.proofs.KeptPageLemmas.{passes}
-use Rattle.bp_press.proofs.ReadLemmas.{banded_is_page, slip_is_page}
+use Rattle.bp_press.proofs.ReadLemmas.{banded_is_page}
 
 -- ---- the page of a job
 
@@ -38,45 +37,20 @@ page_sides m valid doc page (Some row) image is found =
 pub kept_sides : (m : Matter) → IsValid m → (doc page : ℕ) (image : Image) → of_row (λ row. row.image) (page_with doc page m) ≡ Some image → IsTrue (sides_are_imported image.width image.height)
 kept_sides m valid doc page image found = page_sides m valid doc page (page_with doc page m) image refl found
 
+-- the width of such a page
+pub imported_width : (w h : ℕ) → IsTrue (sides_are_imported w h) → (0 < w) × (w ≤ 20000)
+imported_width w h imported =
+    let parts = five (nat_lt 0 w) (nat_le w 20000) (nat_lt 0 h) (nat_le h 20000) (nat_le (w * h) 200000000) imported in
+    (ltb-true 0 w parts.0, leb-true w 20000 parts.1)
+
 -- it is the page that the job is of
 pub kept_image : (m : Matter) (doc page : ℕ) (image : Image) → of_row (λ row. row.image) (page_with doc page m) ≡ Some image → image ≡ image_in m doc page
 kept_image m doc page image found = sym (ap (λ (o : Option Image). unwrap_or o (white_image 0 0 slip_resolution slip_resolution Inch)) found)
 
--- the job is one of that page, or one of a sheet
-abbrev pub IsImageOf : Job → ℕ → ℕ → Type 0
-IsImageOf (jobs.Image ink doc' page' stamps label designation) doc page = (doc'.0 ≡ doc) × (page'.0 ≡ page)
-IsImageOf (jobs.Slip basis label designation) doc page = ⊥
-
-abbrev pub IsSheet : Job → Type 0
-IsSheet (jobs.Image ink doc page stamps label designation) = ⊥
-IsSheet (jobs.Slip basis label designation) = Unit {0}
-
--- what it has beside its rows is that of the page, but for the rows of the band
-pub image_frame : (m : Matter) (job : Job) (doc page : ℕ) (scan : Image) (frame : Frame) → IsImageOf job doc page → of_row (λ row. row.image) (page_with doc page m) ≡ Some scan → scan ≡ in_frame frame scan.rows
-    → page_of m job ≡ in_frame (record { width = frame.width; height = frame.height + 32; xres = frame.xres; yres = frame.yres; unit = frame.unit }) (page_of m job).rows
-image_frame m (jobs.Image ink doc' page' stamps label designation) doc page scan frame of found is =
-    let same : scan ≡ image_in m doc'.0 page'.0 = kept_image m doc page scan found ∙ ap₂ (λ a b. image_in m a b) (sym of.0) (sym of.1) in
-    let rows = (page_of m (jobs.Image ink doc' page' stamps label designation)).rows in
-    let lift : Image → Image = λ q. record { width = q.width; height = q.height + 32; xres = q.xres; yres = q.yres; unit = q.unit; rows = rows } in
-    ap lift (sym same) ∙ ap lift is
-image_frame m (jobs.Slip basis label designation) doc page scan frame of found is = absurd of
-
-pub image_page : (m : Matter) (job : Job) (doc page : ℕ) (scan : Image) → IsImageOf job doc page → of_row (λ row. row.image) (page_with doc page m) ≡ Some scan → IsPage scan
-    → IsTrue (sides_are_imported scan.width scan.height) → IsPage (page_of m job)
-image_page m (jobs.Image ink doc' page' stamps label designation) doc page scan of found good sides =
-    let same : scan ≡ image_in m doc'.0 page'.0 = kept_image m doc page scan found ∙ ap₂ (λ a b. image_in m a b) (sym of.0) (sym of.1) in
-    subst (λ (q : Image). IsPage (produced_of ink q stamps label designation)) same
-    (banded_is_page (covered ink scan stamps) label designation (band_fits scan.width scan.height sides) good.xres good.yres)
-image_page m (jobs.Slip basis label designation) doc page scan of found good sides = absurd of
-
-pub slip_framed : (m : Matter) (job : Job) (frame : Frame) → IsSheet job → frame ≡ sheet_frame → page_of m job ≡ in_frame frame (page_of m job).rows
-slip_framed m (jobs.Image ink doc page stamps label designation) frame of is = absurd of
-slip_framed m (jobs.Slip basis label designation) frame of is =
-    ap (λ (f : Frame). in_frame f (page_of m (jobs.Slip basis label designation)).rows) (sym is)
-
-pub slip_page : (m : Matter) (job : Job) → IsSheet job → IsPage (page_of m job)
-slip_page m (jobs.Image ink doc page stamps label designation) of = absurd of
-slip_page m (jobs.Slip basis label designation) of = slip_is_page basis label designation
+-- the page that goes out is one
+pub lent_page : (p : CoveredPage) → IsPage p.page.now → IsTrue (sides_are_imported p.page.now.width p.page.now.height) → IsPage (page_lent p)
+lent_page p good sides =
+    banded_is_page (covered p.ink p.page.now p.stamps.now) p.label.now p.designation.now (band_fits p.page.now.width p.page.now.height sides) good.xres good.yres
 
 -- ---- what threads made
 
@@ -102,13 +76,12 @@ all_done make jobs made (Err e) all long each = tt
 -- ---- a strip that is lent
 
 -- the page has the strip that is lent
-pub own_strip : (p : Image) (frame : Frame) (strip : List ℕ) → IsPage p → p ≡ in_frame frame p.rows → strip ≡ strip_of p → HasStrip frame.width frame.height strip p
-own_strip p frame strip page framed codes = record {
-  page = page;
-  wide = ap (λ (q : Image). q.width) framed;
-  high = ap (λ (q : Image). q.height) framed;
-  codes = codes;
-}
+pub own_strip : (p : Image) (width height : ℕ) (strip : List ℕ) → IsPage p → p.width ≡ width → p.height ≡ height → strip ≡ strip_of p → HasStrip width height strip p
+own_strip p width height strip page wide high codes = record { page = page; wide = wide; high = high; codes = codes }
+
+-- the rows that are lent are those of the page
+pub own_rows : (p : CoveredPage) → IsPage p.page.now → AreOf (rows_lent p) p.page.now
+own_rows p page = record { page = page; wide = refl; high = refl; codes = refl }
 
 -- the strip of one page is that of the other where they are the same
 pub strip_made : {E : Type 0} (r : Result (List ℕ) E) (p q : Image) → p ≡ q → IfOk r (λ strip. strip ≡ strip_of p) → IfOk r (λ strip. strip ≡ strip_of q)

@@ -22,7 +22,9 @@ pub mod PressLemmas
 pub mod PressedLemmas
 pub mod ReadLemmas
 pub mod SameLemmas
+pub mod ShownLemmas
 pub mod SpanLemmas
 pub mod ThreadLemmas
 pub mod TwelveExamples
+pub mod WordLemmas
 pub mod WritingLemmas

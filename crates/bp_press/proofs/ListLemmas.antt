@@ -1,7 +1,8 @@
 -- The list of the files of a volume, as it grows.
 use Rattle.std.proofs.Common.{◌≡◌, ℕ, ◌+◌, ◌<◌, ◌≤◌, ◌^◌, List, [], ◌∷◌, ◌++◌, length, map, All, Option, Some, None, refl, sym, ap, ap₂, subst, ◌∙◌, arith, append_assoc, append-nil}
+use Rattle.std.specs.List.{Contains}
 use Rattle.std.proofs.lemmas.List.{map-append}
-use Rattle.std.proofs.lemmas.List.Elements.{All-append, All-push}
+use Rattle.std.proofs.lemmas.List.Elements.{All-append, All-contains_itself, All-push}
 use Rattle.std.proofs.lemmas.List.FromFn.{length-map-range_with_len}
 use denote.Bor.{Bor}
 use Rattle.bp_core.specs.declared.review.Basis.{Basis}
@@ -19,6 +20,7 @@ use Rattle.bp_press.specs.Volume.{data_files, files_before, placed_items}
 use Rattle.bp_press.specs.VolumeFiles.{CanBeMade, HasName, IsListed, Lists, row_of}
 use Rattle.bp_press.specs.declared.volume_files.VolumeFile.{VolumeFile}
 use Rattle.bp_press.specs.declared.volume_files.VolumeFile.TheVariants.{Dat, Log, Opt, Page, Sheet, Text}
+use Rattle.bp_press.proofs.FamilyLemmas.{all-others}
 use Rattle.bp_press.proofs.ItemLemmas.{images_first, images_more, images_none, sheets_first, sheets_more, sheets_none}
 
 pub lists_none : (f : Production) (m : Matter) (before : List VolumeFile) → Lists f m before [] before
@@ -92,10 +94,10 @@ page_named f m i place page fit shown room less small =
       fits = omega (arith, room, small);
     }
 
-pub pages_turn : (f : Production) (m : Matter) (item : Bor Item) (place page : ℕ) (before list after : List VolumeFile) → CanBePlaced f.request m item.now → ground_of item.now.treatment ≡ None
+pub pages_turn : (f : Production) (m : Matter) (item : Bor Item) (place page : ℕ) (before list after : List VolumeFile) → CanBePlaced f.request m item.now → Contains f.items item.now → ground_of item.now.treatment ≡ None
     → place + 2 ^ 32 < 2 ^ 64 → page < page_count m item.now.doc.0 → page + 1 < 2 ^ 32 → after ≡ list ++ Page item place page ∷ []
     → ArePagesAfter f m item.now place page before list → ArePagesAfter f m item.now place (page + 1) before after
-pages_turn f m item place page before list after fit shown room less small grown h =
+pages_turn f m item place page before list after fit own shown room less small grown h =
     record {
       upto =
           upto_next f m before (images_after f m item.now place 0) (image_at f m item.now place page ∷ []) (images_after f m item.now place (page + 1)) list after
@@ -103,7 +105,7 @@ pages_turn f m item place page before list after fit shown room less small grown
           (lists_one f m list after (Page item place page) (image_at f m item.now place page) grown refl
           (record {
             named = page_named f m item.now place page fit shown room less small;
-            filled = record { there = less; number = small; labels = page_labels f m item.now fit shown; scans = fit.scans; designation = fit.designation };
+            filled = record { own = own; shown = shown; there = less; number = small; labels = page_labels f m item.now fit shown; scans = fit.scans; designation = fit.designation };
           }));
     }
 
@@ -182,14 +184,14 @@ one_named f m i place fit room = record {
   fits = omega (arith, room);
 }
 
-pub text_listed : (f : Production) (m : Matter) (item : Bor Item) (place : ℕ) (before mid after : List VolumeFile) → CanBePlaced f.request m item.now → place + 2 ^ 32 < 2 ^ 64
+pub text_listed : (f : Production) (m : Matter) (item : Bor Item) (place : ℕ) (before mid after : List VolumeFile) → CanBePlaced f.request m item.now → Contains f.items item.now → place + 2 ^ 32 < 2 ^ 64
     → Lists f m before (images_in f.request (placed_at f m item.now place)) mid → after ≡ mid ++ Text item place ∷ []
     → Lists f m before (item_files f.request (placed_at f m item.now place)) after
-text_listed f m item place before mid after fit room images grown =
+text_listed f m item place before mid after fit own room images grown =
     let p = placed_at f m item.now place in
     lists_then f m before mid after (images_in f.request p) (text_file f.request p ∷ []) images
     (lists_one f m mid after (Text item place) (text_file f.request p) grown refl
-    (record { named = one_named f m item.now place fit room; filled = fit }))
+    (record { named = one_named f m item.now place fit room; filled = record { own = own; placed = fit } }))
 
 -- ---- the items
 
@@ -206,6 +208,12 @@ image_count f m item = length-map-range_with_len (produced_page f m item) 1 (pag
 pub record AreItemsListed (f : Production) (m : Matter) (all : List Item) (place : ℕ) (rest : List Item) (before list : List VolumeFile) : Type 0 where
   pub upto : ListsUpTo f m before (files_from f m 0 all) (files_from f m place rest) list
   pub fit : CanAllBePlaced f m place rest
+  pub own : All (Contains f.items) rest
+
+pub items_begin : (f : Production) (m : Matter) (rest : List Item) (before : List VolumeFile) → rest ≡ f.items → CanAllBePlaced f m 0 f.items → AreItemsListed f m f.items 0 rest before before
+items_begin f m rest before is fit =
+    subst (λ (r : List Item). AreItemsListed f m f.items 0 r before before) (sym is)
+    (record { upto = upto_begin f m before (files_from f m 0 f.items); fit = fit; own = All-contains_itself f.items })
 
 pub items_turn : (f : Production) (m : Matter) (all : List Item) (place next : ℕ) (rest : List Item) (item : Item) (others : List Item) (before list after : List VolumeFile)
     → rest ≡ item ∷ others → next ≡ place + length (part_of f m item).content.images
@@ -219,6 +227,7 @@ items_turn f m all place next rest item others before list after e n h put =
     (record {
       upto = upto_next f m before (files_from f m 0 all) (item_files f.request (placed_at f m item place)) (files_from f m (place + count) others) list after here.upto put;
       fit = here.fit.1.1;
+      own = all-others (Contains f.items) rest others item e h.own;
     })
 
 -- ---- DAT, OPT and log

@@ -29,6 +29,8 @@ use Rattle.bp_matter.specs.contracts.rows.PageWords as page_words
 use Rattle.bp_matter.specs.contracts.calls.Call as call
 use Rattle.bp_matter.specs.contracts.tables.Tables as tables
 use Rattle.bp_press.specs.contracts.batches.MadeFile as made_file
+use Rattle.bp_press.specs.contracts.covered.Covered as covered
+use Rattle.bp_press.specs.contracts.covered.CoveredJobs as covered_jobs
 use Rattle.bp_press.specs.contracts.jobs.Job as job
 use Rattle.bp_press.specs.contracts.volume_files.VolumeFile as volume_file
 
@@ -122,6 +124,12 @@ tables_sync = search (rows, small, sendable, crosses) depth 40 fits 20000
 
 pub job_sync : IsSync job.the_row
 job_sync = search (small, sendable, crosses) depth 40 fits 20000
+
+pub covered_jobs_sync : (lft : NamedLft) → IsSync (covered_jobs.the_row lft)
+covered_jobs_sync lft = search (tables_sync, job_sync, small, sendable, crosses) depth 40 fits 20000
+
+pub covered_sync : (lft : NamedLft) → IsSync (covered.the_row lft)
+covered_sync lft = search (tables_sync, production_sync, small, sendable, crosses) depth 40 fits 20000
 
 pub volume_file_sync : (lft : NamedLft) → IsSync (volume_file.the_row lft)
 volume_file_sync lft = search (item_sync, small, sendable, crosses) depth 40 fits 20000

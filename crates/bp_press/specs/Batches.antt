@@ -12,6 +12,7 @@ use Rattle.bp_matter.specs.declared.rows.Request.{Request}
 use Rattle.bp_press.specs.Contents.{stamps_on}
 use Rattle.bp_press.specs.Jobs.{IsCodable, strip_by}
 use Rattle.bp_press.specs.Needs.{IsLabelled}
+use Rattle.bp_press.specs.Shown.{IsOwnJob}
 use Rattle.bp_press.specs.declared.batches.MadeFile.{MadeFile}
 use Rattle.bp_press.specs.VolumeFiles.{row_of}
 use Rattle.bp_press.specs.declared.jobs.Job.{Job}
@@ -92,6 +93,7 @@ pub record HasImages (f : Production) (m : Matter) (entry : VolumeFile) (jobs : 
   pub rest : List Job
   pub there : jobs ≡ jobs_by f entry ++ rest
   pub codable : All (IsCodable m) jobs
+  pub own : All (IsOwnJob f) jobs
   pub made : strips ≡ map (strip_by m) jobs
 
 -- the file that an entry stands for, with its digest

@@ -10,6 +10,7 @@ pub mod Paths
 pub mod Pressed
 pub mod Pressing
 pub mod ReadBack
+pub mod Shown
 pub mod Volume
 pub mod VolumeFiles
 pub mod Writing

@@ -1,6 +1,7 @@
 -- The list of the files of a volume before its manifest: what each entry stands for, and what making
 -- its file needs.
-use Rattle.std.specs.Prelude.{◌≡◌, ℕ, ◌+◌, ◌<◌, ◌^◌, IsTrue, List, ◌++◌, map, All, codes, encode_utf8_all}
+use Rattle.std.specs.Prelude.{◌≡◌, ℕ, ◌+◌, ◌<◌, ◌^◌, IsTrue, List, ◌++◌, map, None, All, codes, encode_utf8_all}
+use Rattle.std.specs.List.{Contains}
 use Rattle.bp_core.specs.Characters.{solidus}
 use Rattle.bp_bates.specs.Prefixes.{is_good_prefix}
 use Rattle.bp_burn.specs.Drawn.{has_glyphs}
@@ -14,7 +15,7 @@ use Rattle.bp_matter.specs.declared.rows.Production.{Production}
 use Rattle.bp_matter.specs.declared.rows.Request.{Request}
 use Rattle.bp_freeze.specs.Log.{log_of}
 use Rattle.bp_freeze.specs.Seeing.{page_count}
-use Rattle.bp_press.specs.Contents.{label_count, part_of, produced_page, slip_sheet}
+use Rattle.bp_press.specs.Contents.{ground_of, label_count, part_of, produced_page, slip_sheet}
 use Rattle.bp_press.specs.LoadFiles.{dat_bytes, opt_bytes}
 use Rattle.bp_press.specs.Needs.{CanBePressed, IsLabelled}
 use Rattle.bp_press.specs.Paths.{data_path, image_path, text_path}
@@ -68,10 +69,12 @@ CanBeNamed f Opt = Unit {0}
 CanBeNamed f Log = Unit {0}
 
 -- what the image of a page of an item needs, counted from 0
-pub record CanBeImage (q : Request) (m : Matter) (i : Item) (page : ℕ) : Type 0 where
+pub record CanBeImage (f : Production) (m : Matter) (i : Item) (page : ℕ) : Type 0 where
+  pub own : Contains f.items i
+  pub shown : ground_of i.treatment ≡ None
   pub there : page < page_count m i.doc.0
   pub number : page + 1 < 2 ^ 32
-  pub labels : AreLabels q i.span.first (page_count m i.doc.0)
+  pub labels : AreLabels f.request i.span.first (page_count m i.doc.0)
   pub scans : AreScans m i.doc.0
   pub designation : IsTrue (has_glyphs i.designation)
 
@@ -81,11 +84,16 @@ pub record CanBeSheet (q : Request) (i : Item) (sheet : ℕ) : Type 0 where
   pub labels : AreLabels q i.span.first (label_count i)
   pub designation : IsTrue (has_glyphs i.designation)
 
+-- what the text of an item needs
+pub record CanBeText (f : Production) (m : Matter) (i : Item) : Type 0 where
+  pub own : Contains f.items i
+  pub placed : CanBePlaced f.request m i
+
 -- what the bytes of an entry need
 abbrev pub CanBeFilled : Production → Matter → VolumeFile → Type 0
-CanBeFilled f m (Page item place page) = CanBeImage f.request m item.now page
+CanBeFilled f m (Page item place page) = CanBeImage f m item.now page
 CanBeFilled f m (Sheet item place basis sheet) = CanBeSheet f.request item.now sheet
-CanBeFilled f m (Text item place) = CanBePlaced f.request m item.now
+CanBeFilled f m (Text item place) = CanBeText f m item.now
 CanBeFilled f m Dat = CanBePressed f m
 CanBeFilled f m Opt = CanBePressed f m
 CanBeFilled f m Log = CanBePressed f m

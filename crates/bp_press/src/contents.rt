@@ -1,18 +1,19 @@
 // What a volume shows of an item beside its images: its text, and its values of the chosen fields.
-ghost use Rattle.std.specs.Prelude.{◌≡◌, ◌≤◌, ◌+◌, ◌++◌, ◌-◌, IfOk, OnOk, [], encode_utf8_all, unwrap_or};
-ghost use Rattle.std.specs.List.{flat_map};
+ghost use Rattle.std.specs.Prelude.{◌≡◌, ◌≤◌, ◌+◌, ◌++◌, ◌-◌, IfOk, None, OnOk, [], encode_utf8_all, length};
+ghost use Rattle.std.specs.List.{Contains, flat_map};
 ghost use Rattle.std.specs.Option.{option_copied};
 ghost use Rattle.std.specs.Str.{chars};
 ghost use Rattle.bp_core.specs.Review.{basis_code};
-ghost use Rattle.bp_freeze.specs.Agree.{held_for, value_in};
-ghost use Rattle.bp_freeze.specs.Seeing.{page_count};
-ghost use Rattle.bp_press.specs.Contents.{ground_of, held_text, kept_text, pages_of, part_of, value_by, value_shown, withheld_text};
+ghost use Rattle.bp_text.specs.PageText.{page_text_of};
+ghost use Rattle.bp_press.specs.Contents.{ground_of, held_text, kept_text, pages_of, part_of, value_shown, withheld_text};
+ghost use Rattle.bp_press.specs.Shown.{end_before, value_lent, words_left};
 
+use crate::covered::{KeptWords, ShownValue};
 use crate::names::add;
-use crate::pages::rects_on;
-use bp_core::{Basis, Bytes, DocNo, ListOf, OutOfMemory, PageNo, Text, Treatment};
-use bp_matter::{HeldList, HeldRow, Item, Production, Tables};
-use bp_text::{kept, page_text};
+use crate::shown::Shows;
+use bp_core::{Basis, Bytes, OutOfMemory, PageNo, Text, Treatment};
+use bp_matter::{HeldRow, Item, Production};
+use bp_text::Word;
 use std::alloc::Global;
 
 // The ground on which a whole document is withheld.
@@ -26,40 +27,66 @@ pub(crate) fn ground_of(treatment: Treatment) -> Option<Basis>
 }
 
 // The words of a page which no box touches, as text.
-pub(crate) fn kept_text(
+pub(crate) fn kept_text<P: Shows>(
     alloc: Global,
-    tables: &Tables,
+    shown: &P,
     item: &Item,
     page: PageNo,
 ) -> Result<Text, OutOfMemory>
-    ensures { IfOk result (λ text. text ≡ kept_text tables.now.matter item.now page.0) }
+    requires there { Contains (P.production shown.now).items item.now }
+    requires shown { ground_of item.now.treatment ≡ None }
+    ensures { IfOk result (λ text. text ≡ kept_text (P.matter shown.now) item.now page.0) }
 {
-    match tables.words_with(item.doc, page) {
-        Some(row) => {
-            let rects = rects_on(alloc, &item.boxes, page)?;
-            page_text(alloc, &kept(alloc, &row.words, &rects)?)
-        }
-        None => page_text(alloc, &ListOf::new(alloc)),
+    words_text(alloc, shown.words(item, page))
+}
+
+// The text of a page with the words that are lent: each with a space after it where the next word is of
+// its line, and CR LF where it isn't and after the last; then a form feed.
+fn words_text(alloc: Global, lent: KeptWords<'_>) -> Result<Text, OutOfMemory>
+    ensures { IfOk result (λ text. text ≡ page_text_of (words_left lent.entry)) }
+{
+    let mut text = String::new(alloc);
+    let mut words = lent;
+    let mut next = words.next();
+    while let Some(word) = next {
+        next = words.next();
+        text.push_str(word.text.as_str())?;
+        text.push_str(end_of(word, next))?;
+    }
+    text.push_str("\u{c}")?;
+    Ok(Text::from_string(text))
+}
+
+// What stands between a word and the next, if there is one.
+fn end_of(word: &Word, next: Option<&Word>) -> &'static str
+    ensures { result.now ≡ end_before word.now (option_copied next.entry) }
+{
+    match next {
+        Some(next) if word.line == next.line => " ",
+        _ => "\r\n",
     }
 }
 
-// The text of an item of so many pages that isn't withheld, in UTF-8.
-pub(crate) fn pages_text(
+// The text of an item that isn't withheld, in UTF-8.
+pub(crate) fn pages_text<P: Shows>(
     alloc: Global,
-    tables: &Tables,
+    shown: &P,
     item: &Item,
-    pages: u32,
 ) -> Result<Bytes, OutOfMemory>
-    requires { pages ≡ page_count tables.now.matter item.now.doc.0 }
-    ensures { let text = flat_map (kept_text tables.now.matter item.now)
-        (pages_of tables.now.matter item.now.doc.0) in
+    requires there { Contains (P.production shown.now).items item.now }
+    requires shown { ground_of item.now.treatment ≡ None }
+    requires from { 1 ≤ item.now.doc.0 }
+    requires to { item.now.doc.0 ≤ length (P.matter shown.now).docs }
+    ensures { let text = flat_map (kept_text (P.matter shown.now) item.now)
+        (pages_of (P.matter shown.now) item.now.doc.0) in
         IfOk result (λ bytes. bytes ≡ encode_utf8_all text) }
 {
+    let pages = shown.pages(item);
     let mut bytes = Vec::new(alloc);
     let mut page = 0;
     while page < pages {
         page += 1;
-        let text = kept_text(alloc, tables, item, PageNo(page))?;
+        let text = kept_text(alloc, shown, item, PageNo(page))?;
         bytes.extend_from_slice(text.as_str().as_bytes())?;
     }
     Ok(Bytes::from_vec(bytes))
@@ -84,53 +111,29 @@ pub(crate) fn code_text(alloc: Global, basis: Basis) -> Result<Text, OutOfMemory
     Ok(Text::from_string(text))
 }
 
-// The held field of that number.
-fn held_for(held: &HeldList, field: u32) -> Option<&HeldRow>
-    ensures { option_copied result ≡ held_for held.now field }
-{
-    held.as_slice().iter().find(|row| row.field == field)
-}
-
-// The value of a document in a field; empty where there is none.
-fn value_in(alloc: Global, tables: &Tables, doc: DocNo, field: u32) -> Result<Text, OutOfMemory>
-    ensures { IfOk result (λ text.
-        text ≡ unwrap_or (value_in tables.now.matter doc.0 field) []) }
-{
-    let Some(row) = tables.doc_with(doc) else {
-        return Ok(empty_text(alloc));
-    };
-    match row
-        .values
-        .as_slice()
-        .get((field as usize).saturating_sub(1))
-    {
-        Some(value) => Ok(value.clone()?),
-        None => Ok(empty_text(alloc)),
-    }
-}
-
 // What is shown of the field of a name.
-pub(crate) fn value_shown(
+pub(crate) fn value_shown<P: Shows>(
     alloc: Global,
-    tables: &Tables,
+    shown: &P,
     item: &Item,
     name: &Text,
 ) -> Result<Text, OutOfMemory>
-    ensures { IfOk result (λ text. text ≡ value_shown tables.now.matter item.now name.now) }
+    requires there { Contains (P.production shown.now).items item.now }
+    requires shown { ground_of item.now.treatment ≡ None }
+    requires chosen { Contains (P.production shown.now).request.fields name.now }
+    ensures { IfOk result (λ text. text ≡ value_shown (P.matter shown.now) item.now name.now) }
 {
-    match tables.field_with(name) {
-        Some(row) => value_of(alloc, tables, item, row.field),
-        None => Ok(empty_text(alloc)),
-    }
+    value_text(alloc, shown.value(item, name))
 }
 
-// What is shown of a field.
-fn value_of(alloc: Global, tables: &Tables, item: &Item, field: u32) -> Result<Text, OutOfMemory>
-    ensures { IfOk result (λ text. text ≡ value_by tables.now.matter item.now (Some field)) }
+// The text of a value that is lent.
+fn value_text(alloc: Global, value: ShownValue<'_>) -> Result<Text, OutOfMemory>
+    ensures { IfOk result (λ text. text ≡ value_lent value.entry) }
 {
-    match held_for(&item.held, field) {
-        Some(held) => held_text(alloc, held),
-        None => value_in(alloc, tables, item.doc, field),
+    match value {
+        ShownValue::Nothing => Ok(empty_text(alloc)),
+        ShownValue::Held(held) => held_text(alloc, held),
+        ShownValue::Value(text) => Ok(text.clone()?),
     }
 }
 
@@ -169,22 +172,23 @@ fn sheet_bytes(alloc: Global, basis: Basis) -> Result<Bytes, OutOfMemory>
     Ok(Bytes::from_vec(text.into_string().into_bytes()))
 }
 
-// The text of an item of so many pages, in UTF-8.
-pub(crate) fn text_bytes(
+// The text of an item, in UTF-8.
+pub(crate) fn text_bytes<P: Shows>(
     alloc: Global,
-    tables: &Tables,
+    shown: &P,
     production: &Production,
     item: &Item,
-    pages: u32,
 ) -> Result<Bytes, OutOfMemory>
-    requires { pages ≡ page_count tables.now.matter item.now.doc.0 }
-    ensures { let part = part_of production.now tables.now.matter item.now in
+    requires there { Contains (P.production shown.now).items item.now }
+    requires from { 1 ≤ item.now.doc.0 }
+    requires to { item.now.doc.0 ≤ length (P.matter shown.now).docs }
+    ensures { let part = part_of production.now (P.matter shown.now) item.now in
         IfOk result (λ bytes. bytes ≡ encode_utf8_all part.content.text) }
 {
     let _production = production;
     match item.treatment {
-        Treatment::Produce => pages_text(alloc, tables, item, pages),
-        Treatment::Redact => pages_text(alloc, tables, item, pages),
+        Treatment::Produce => pages_text(alloc, shown, item),
+        Treatment::Redact => pages_text(alloc, shown, item),
         Treatment::Withhold(basis) => sheet_bytes(alloc, basis),
     }
 }

@@ -9,6 +9,25 @@ use bp_core::OutOfMemory;
 use bp_matter::Item;
 use std::alloc::Global;
 
+// A number that no parent of an item is above.
+pub(crate) fn last_parent(items: &[Item]) -> usize
+    ensures few { result < 2 ^ 32 }
+    ensures families { All (IsInFamily result) items.now }
+{
+    let mut last = 0;
+    for item in items {
+        last = larger(last, item.parent.0);
+    }
+    last as usize
+}
+
+fn larger(one: u32, other: u32) -> u32
+    ensures one { one ≤ result }
+    ensures other { other ≤ result }
+{
+    if one < other { other } else { one }
+}
+
 // The first number of each family of items, by the number of its first document; 0 where there is
 // none.
 pub(crate) fn first_numbers(

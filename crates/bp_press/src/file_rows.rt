@@ -1,9 +1,8 @@
 // The files of a volume's list: of each its path and its bytes.
-ghost use Rattle.std.specs.Prelude.{◌≡◌, ◌<◌, All, IfOk, encode_utf8_all, length, map, slice_index_or};
+ghost use Rattle.std.specs.Prelude.{◌≡◌, ◌<◌, All, IfOk, length, map, slice_index_or};
 ghost use Rattle.bp_press.specs.Batches.{HasImages, HasJob, jobs_by, made_of};
-ghost use Rattle.bp_press.specs.Contents.{part_of};
 ghost use Rattle.bp_press.specs.Jobs.{IsCodable, page_of, strip_by};
-ghost use Rattle.bp_press.specs.Pressing.{CanBePlaced};
+ghost use Rattle.bp_press.specs.Shown.{IsOwnJob};
 ghost use Rattle.bp_press.specs.VolumeFiles.{CanBeFilled, CanBeMade, CanBeNamed, bytes_in, path_in, row_of};
 ghost use Rattle.bp_press.specs.declared.jobs.Job.{Job as AnyJob};
 ghost use Rattle.bp_outside.specs.Folder.{file};
@@ -15,12 +14,13 @@ use crate::jobs::Job;
 use crate::load_files::{dat_bytes, opt_bytes};
 use crate::manifest::digest_of;
 use crate::names::{data_path, image_path, text_path};
-use crate::pages::job_file;
-use crate::strips::job_strip;
-use crate::volume_files::{VolumeFile, page_count};
+use crate::pages::image_file;
+use crate::shown::Shows;
+use crate::strips::image_strip;
+use crate::volume_files::VolumeFile;
 use bp_core::{Bytes, OutOfMemory, Text};
 use bp_freeze::log_text;
-use bp_matter::{Item, Production, Tables};
+use bp_matter::Production;
 use bp_outside::FileRow;
 use bp_tiff::Form;
 use std::alloc::Global;
@@ -57,81 +57,64 @@ pub(crate) fn file_path(
 }
 
 // The file of the first of these images, of its strip.
-fn first_file(
+fn first_file<P: Shows>(
     alloc: Global,
-    tables: &Tables,
+    shown: &P,
     jobs: &[Job],
     strips: &[Bytes],
 ) -> Result<Bytes, OutOfMemory>
     requires some { 0 < length jobs.now }
-    requires codable { All (IsCodable tables.now.matter) jobs.now }
-    requires strips { strips.now ≡ map (strip_by tables.now.matter) jobs.now }
+    requires own { All (IsOwnJob (P.production shown.now)) jobs.now }
+    requires codable { All (IsCodable (P.matter shown.now)) jobs.now }
+    requires strips { strips.now ≡ map (strip_by (P.matter shown.now)) jobs.now }
     ensures { (d : AnyJob) → IfOk result (λ bytes.
-        bytes ≡ tiff_of Form.G4 (page_of tables.now.matter (slice_index_or jobs.now 0 d))) }
+        bytes ≡ tiff_of Form.G4 (page_of (P.matter shown.now) (slice_index_or jobs.now 0 d))) }
 {
-    job_file(alloc, tables, &jobs[0], strips[0].as_slice())
+    image_file(alloc, shown.image(&jobs[0]), strips[0].as_slice())
 }
 
 // The bytes of a file. Where it is an image, it is the first of these.
-fn bytes_with(
+fn bytes_with<P: Shows>(
     alloc: Global,
-    tables: &Tables,
+    shown: &P,
     production: &Production,
     file: &VolumeFile,
     jobs: &[Job],
     strips: &[Bytes],
 ) -> Result<Bytes, OutOfMemory>
-    requires made { CanBeFilled production.now tables.now.matter file.now }
-    requires images { HasImages production.now tables.now.matter file.now jobs.now strips.now }
+    requires same { P.production shown.now ≡ production.now }
+    requires made { CanBeFilled production.now (P.matter shown.now) file.now }
+    requires images { HasImages production.now (P.matter shown.now) file.now jobs.now strips.now }
     ensures { IfOk result (λ bytes.
-        bytes ≡ bytes_in production.now tables.now.matter file.now) }
+        bytes ≡ bytes_in production.now (P.matter shown.now) file.now) }
 {
     match *file {
-        VolumeFile::Page { .. } => first_file(alloc, tables, jobs, strips),
-        VolumeFile::Sheet { .. } => first_file(alloc, tables, jobs, strips),
-        VolumeFile::Text { item, place: _ } => item_bytes(alloc, tables, production, item),
-        VolumeFile::Dat => dat_bytes(alloc, tables, production),
-        VolumeFile::Opt => opt_bytes(alloc, tables, production),
+        VolumeFile::Page { .. } => first_file(alloc, shown, jobs, strips),
+        VolumeFile::Sheet { .. } => first_file(alloc, shown, jobs, strips),
+        VolumeFile::Text { item, place: _ } => text_bytes(alloc, shown, production, item),
+        VolumeFile::Dat => dat_bytes(alloc, shown, production),
+        VolumeFile::Opt => opt_bytes(alloc, shown, production),
         VolumeFile::Log => log_text(alloc, production),
     }
 }
 
-// The text of an item, in UTF-8.
-fn item_bytes(
-    alloc: Global,
-    tables: &Tables,
-    production: &Production,
-    item: &Item,
-) -> Result<Bytes, OutOfMemory>
-    requires { CanBePlaced production.now.request tables.now.matter item.now }
-    ensures { let part = part_of production.now tables.now.matter item.now in
-        IfOk result (λ bytes. bytes ≡ encode_utf8_all part.content.text) }
-{
-    text_bytes(
-        alloc,
-        tables,
-        production,
-        item,
-        page_count(tables, item.doc),
-    )
-}
-
 // A file, whole, with its digest. Where it is an image, it is the first of these.
-pub(crate) fn made_file(
+pub(crate) fn made_file<P: Shows>(
     alloc: Global,
-    tables: &Tables,
+    shown: &P,
     production: &Production,
     file: &VolumeFile,
     jobs: &[Job],
     strips: &[Bytes],
 ) -> Result<MadeFile, OutOfMemory>
-    requires made { CanBeMade production.now tables.now.matter file.now }
-    requires images { HasImages production.now tables.now.matter file.now jobs.now strips.now }
+    requires same { P.production shown.now ≡ production.now }
+    requires made { CanBeMade production.now (P.matter shown.now) file.now }
+    requires images { HasImages production.now (P.matter shown.now) file.now jobs.now strips.now }
     ensures { IfOk result (λ made.
-        made ≡ made_of (row_of production.now tables.now.matter file.now)) }
+        made ≡ made_of (row_of production.now (P.matter shown.now) file.now)) }
 {
     let path = file_path(alloc, production, file)?;
-    let bytes = bytes_with(alloc, tables, production, file, jobs, strips)?;
+    let bytes = bytes_with(alloc, shown, production, file, jobs, strips)?;
     Ok(digested(path, bytes))
 }
 
@@ -149,13 +132,18 @@ fn digested(path: Text, bytes: Bytes) -> MadeFile
 // ---- one file by itself
 
 // The strips of these jobs, one after another.
-fn strips_in_turn(alloc: Global, tables: &Tables, jobs: &[Job]) -> Result<Vec<Bytes>, OutOfMemory>
-    requires { All (IsCodable tables.now.matter) jobs.now }
-    ensures { IfOk result (λ strips. strips.items ≡ map (strip_by tables.now.matter) jobs.now) }
+fn strips_in_turn<P: Shows>(
+    alloc: Global,
+    shown: &P,
+    jobs: &[Job],
+) -> Result<Vec<Bytes>, OutOfMemory>
+    requires own { All (IsOwnJob (P.production shown.now)) jobs.now }
+    requires codable { All (IsCodable (P.matter shown.now)) jobs.now }
+    ensures { IfOk result (λ strips. strips.items ≡ map (strip_by (P.matter shown.now)) jobs.now) }
 {
     let mut strips = Vec::new(alloc);
     for job in jobs {
-        strips.push(job_strip(alloc, tables, job)?)?;
+        strips.push(image_strip(alloc, shown.image(job))?)?;
     }
     Ok(strips)
 }
@@ -175,21 +163,22 @@ fn own_jobs(
 }
 
 // The bytes of a file.
-pub(crate) fn file_bytes(
+pub(crate) fn file_bytes<P: Shows>(
     alloc: Global,
-    tables: &Tables,
+    shown: &P,
     production: &Production,
     file: &VolumeFile,
 ) -> Result<Bytes, OutOfMemory>
-    requires { CanBeMade production.now tables.now.matter file.now }
+    requires same { P.production shown.now ≡ production.now }
+    requires made { CanBeMade production.now (P.matter shown.now) file.now }
     ensures { IfOk result (λ bytes.
-        bytes ≡ bytes_in production.now tables.now.matter file.now) }
+        bytes ≡ bytes_in production.now (P.matter shown.now) file.now) }
 {
     let jobs = own_jobs(alloc, production, file)?;
-    let strips = strips_in_turn(alloc, tables, jobs.as_slice())?;
+    let strips = strips_in_turn(alloc, shown, jobs.as_slice())?;
     bytes_with(
         alloc,
-        tables,
+        shown,
         production,
         file,
         jobs.as_slice(),
@@ -198,17 +187,18 @@ pub(crate) fn file_bytes(
 }
 
 // A file, whole, with its digest.
-pub(crate) fn file_made(
+pub(crate) fn file_made<P: Shows>(
     alloc: Global,
-    tables: &Tables,
+    shown: &P,
     production: &Production,
     file: &VolumeFile,
 ) -> Result<MadeFile, OutOfMemory>
-    requires { CanBeMade production.now tables.now.matter file.now }
+    requires same { P.production shown.now ≡ production.now }
+    requires made { CanBeMade production.now (P.matter shown.now) file.now }
     ensures { IfOk result (λ made.
-        made ≡ made_of (row_of production.now tables.now.matter file.now)) }
+        made ≡ made_of (row_of production.now (P.matter shown.now) file.now)) }
 {
     let path = file_path(alloc, production, file)?;
-    let bytes = file_bytes(alloc, tables, production, file)?;
+    let bytes = file_bytes(alloc, shown, production, file)?;
     Ok(digested(path, bytes))
 }

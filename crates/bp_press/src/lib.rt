@@ -8,6 +8,7 @@
 mod adding;
 mod batches;
 mod contents;
+mod covered;
 mod families;
 mod file_rows;
 mod finding;
@@ -22,6 +23,7 @@ mod names;
 mod pages;
 pub mod paths;
 mod pressing;
+mod shown;
 mod strips;
 mod volume_files;
 

@@ -1,7 +1,7 @@
 // The load files of a volume: the DAT with a line an item, and the OPT with a line an image.
-ghost use Rattle.std.specs.Prelude.{◌≡◌, ◌≤◌, ◌<◌, ◌+◌, ◌++◌, ◌∷◌, ◌^◌, [], IfOk, IsTrue, OnOk, length, map};
+ghost use Rattle.std.specs.Prelude.{◌≡◌, ◌≤◌, ◌<◌, ◌+◌, ◌-◌, ◌++◌, ◌∷◌, ◌^◌, [], All, IfOk, IsTrue, OnOk, length, map};
 ghost use Rattle.std.specs.Char.{is_ascii};
-ghost use Rattle.std.specs.List.{flat_map, list_all};
+ghost use Rattle.std.specs.List.{Contains, flat_map, list_all};
 ghost use Rattle.bp_bates.specs.Prefixes.{is_good_prefix};
 ghost use Rattle.bp_freeze.specs.Selecting.{first_number, last_number};
 ghost use Rattle.bp_matter.specs.Texts.{columns};
@@ -11,51 +11,58 @@ ghost use Rattle.bp_press.specs.Needs.{AreFamilyNumbers, CanBeListed, CanBePress
 ghost use Rattle.bp_press.specs.Pressing.{CanAllBePlaced, placed_at};
 ghost use Rattle.bp_press.specs.Volume.{placed_items};
 
-use crate::families::{first_numbers, last_numbers};
+use crate::families::{first_numbers, last_numbers, last_parent};
 use crate::load_rows::{add_opt_lines, dat_row};
+use crate::shown::Shows;
 use crate::volume_files::image_count;
 use bp_bates::Span;
 use bp_core::{Bytes, ListOf, OutOfMemory, Text, TextList};
 use bp_load::{Dat, OptLine, OptList, TextTable, write_dat, write_opt};
-use bp_matter::{Item, Production, Request, Tables};
+use bp_matter::{Item, Production, Request};
 use std::alloc::Global;
 
 // ---- the OPT
 
 // Adds the lines of the next item, and tells how many images it has.
-fn add_item_lines(
+fn add_item_lines<P: Shows>(
     alloc: Global,
-    tables: &Tables,
+    shown: &P,
     production: &Production,
     item: &Item,
     others: &[Item],
     place: u64,
     lines: &mut Vec<OptLine>,
 ) -> Result<u32, OutOfMemory>
-    requires { CanAllBePlaced production.now tables.now.matter place (item.now ∷ others.now) }
-    ensures lines { let p = placed_at production.now tables.now.matter item.now place in
+    requires there { Contains (P.production shown.now).items item.now }
+    requires placed { CanAllBePlaced production.now (P.matter shown.now) place (item.now ∷ others.now) }
+    ensures lines { let p = placed_at production.now (P.matter shown.now) item.now place in
         OnOk result (lines.new.items ≡ lines.old.items ++ opt_lines production.now.request p) }
     ensures count { IfOk result (λ count.
-        count ≡ length (part_of production.now tables.now.matter item.now).content.images) }
+        count ≡ length (part_of production.now (P.matter shown.now) item.now).content.images) }
 {
     let _others = others;
-    let count = image_count(tables, production, item);
-    add_opt_lines(alloc, tables, production, item, place, count, lines)?;
+    let count = image_count(shown, production, item);
+    add_opt_lines(alloc, shown, production, item, place, count, lines)?;
     Ok(count)
 }
 
 // The lines of all items.
-fn opt_list(alloc: Global, tables: &Tables, production: &Production) -> Result<OptList, OutOfMemory>
-    requires { CanAllBePlaced production.now tables.now.matter 0 production.now.items }
+fn opt_list<P: Shows>(
+    alloc: Global,
+    shown: &P,
+    production: &Production,
+) -> Result<OptList, OutOfMemory>
+    requires same { P.production shown.now ≡ production.now }
+    requires placed { CanAllBePlaced production.now (P.matter shown.now) 0 production.now.items }
     ensures { let f = production.now in
         IfOk result (λ lines.
-        lines ≡ flat_map (opt_lines f.request) (placed_items f tables.now.matter)) }
+        lines ≡ flat_map (opt_lines f.request) (placed_items f (P.matter shown.now))) }
 {
     let mut lines = Vec::new(alloc);
     let mut rest = production.items.as_slice();
     let mut place = 0;
     while let Some((item, others)) = rest.split_first() {
-        let count = add_item_lines(alloc, tables, production, item, others, place, &mut lines)?;
+        let count = add_item_lines(alloc, shown, production, item, others, place, &mut lines)?;
         place += u64::from(count);
         rest = others;
     }
@@ -63,16 +70,17 @@ fn opt_list(alloc: Global, tables: &Tables, production: &Production) -> Result<O
 }
 
 // The bytes of the OPT.
-pub(crate) fn opt_bytes(
+pub(crate) fn opt_bytes<P: Shows>(
     alloc: Global,
-    tables: &Tables,
+    shown: &P,
     production: &Production,
 ) -> Result<Bytes, OutOfMemory>
-    requires { CanBePressed production.now tables.now.matter }
+    requires same { P.production shown.now ≡ production.now }
+    requires pressed { CanBePressed production.now (P.matter shown.now) }
     ensures { let f = production.now in
-        IfOk result (λ bytes. bytes ≡ opt_bytes f.request (placed_items f tables.now.matter)) }
+        IfOk result (λ bytes. bytes ≡ opt_bytes f.request (placed_items f (P.matter shown.now))) }
 {
-    write_opt(alloc, &opt_list(alloc, tables, production)?)
+    write_opt(alloc, &opt_list(alloc, shown, production)?)
 }
 
 // ---- the DAT
@@ -116,20 +124,13 @@ fn columns(alloc: Global, request: &Request) -> Result<TextList, OutOfMemory>
 }
 
 // The first and the last number of the family of an item.
-fn family_of(
-    tables: &Tables,
-    production: &Production,
-    item: &Item,
-    firsts: &[u64],
-    lasts: &[u64],
-) -> Span
-    requires numbers { AreFamilyNumbers production.now (length tables.now.matter.docs)
+fn family_of(production: &Production, item: &Item, firsts: &[u64], lasts: &[u64]) -> Span
+    requires numbers { AreFamilyNumbers production.now (length firsts.now - 1)
         firsts.now lasts.now }
-    requires family { IsInFamily (length tables.now.matter.docs) item.now }
+    requires family { IsInFamily (length firsts.now - 1) item.now }
     ensures first { result.first ≡ first_number (family_of production.now item.now) }
     ensures last { result.last ≡ last_number (family_of production.now item.now) }
 {
-    let _tables = tables;
     let _production = production;
     let parent = item.parent.0 as usize;
     Span {
@@ -139,9 +140,9 @@ fn family_of(
 }
 
 // Adds the row of the next item, and tells how many images it has.
-fn add_item_row(
+fn add_item_row<P: Shows>(
     alloc: Global,
-    tables: &Tables,
+    shown: &P,
     production: &Production,
     item: &Item,
     others: &[Item],
@@ -149,43 +150,47 @@ fn add_item_row(
     family: Span,
     rows: &mut Vec<TextList>,
 ) -> Result<u32, OutOfMemory>
+    requires same { P.production shown.now ≡ production.now }
+    requires there { Contains (P.production shown.now).items item.now }
     requires placed { let items = item.now ∷ others.now in
-        CanAllBePlaced production.now tables.now.matter place items }
+        CanAllBePlaced production.now (P.matter shown.now) place items }
     requires listed { CanBeListed production.now item.now }
     requires first { family.first ≡ first_number (family_of production.now item.now) }
     requires last { family.last ≡ last_number (family_of production.now item.now) }
     ensures rows { let f = production.now in
-        let p = placed_at f tables.now.matter item.now place in
+        let p = placed_at f (P.matter shown.now) item.now place in
         OnOk result (rows.new.items ≡ rows.old.items ++ dat_row f p ∷ []) }
-    ensures count { let part = part_of production.now tables.now.matter item.now in
+    ensures count { let part = part_of production.now (P.matter shown.now) item.now in
         IfOk result (λ count. count ≡ length part.content.images) }
 {
     let _others = others;
-    rows.push(dat_row(alloc, tables, production, item, place, family)?)?;
-    Ok(image_count(tables, production, item))
+    rows.push(dat_row(alloc, shown, production, item, place, family)?)?;
+    Ok(image_count(shown, production, item))
 }
 
 // The rows of all items, with the first and the last number of each family.
-fn dat_rows(
+fn dat_rows<P: Shows>(
     alloc: Global,
-    tables: &Tables,
+    shown: &P,
     production: &Production,
     firsts: &[u64],
     lasts: &[u64],
 ) -> Result<TextTable, OutOfMemory>
-    requires pressed { CanBePressed production.now tables.now.matter }
-    requires numbers { AreFamilyNumbers production.now (length tables.now.matter.docs)
+    requires same { P.production shown.now ≡ production.now }
+    requires pressed { CanBePressed production.now (P.matter shown.now) }
+    requires numbers { AreFamilyNumbers production.now (length firsts.now - 1)
         firsts.now lasts.now }
+    requires families { All (IsInFamily (length firsts.now - 1)) production.now.items }
     ensures { let f = production.now in
-        IfOk result (λ rows. rows ≡ map (dat_row f) (placed_items f tables.now.matter)) }
+        IfOk result (λ rows. rows ≡ map (dat_row f) (placed_items f (P.matter shown.now))) }
 {
     let mut rows = Vec::new(alloc);
     let mut rest = production.items.as_slice();
     let mut place = 0;
     while let Some((item, others)) = rest.split_first() {
-        let family = family_of(tables, production, item, firsts, lasts);
+        let family = family_of(production, item, firsts, lasts);
         let count = add_item_row(
-            alloc, tables, production, item, others, place, family, &mut rows,
+            alloc, shown, production, item, others, place, family, &mut rows,
         )?;
         place += u64::from(count);
         rest = others;
@@ -194,21 +199,23 @@ fn dat_rows(
 }
 
 // The bytes of the DAT.
-pub(crate) fn dat_bytes(
+pub(crate) fn dat_bytes<P: Shows>(
     alloc: Global,
-    tables: &Tables,
+    shown: &P,
     production: &Production,
 ) -> Result<Bytes, OutOfMemory>
-    requires { CanBePressed production.now tables.now.matter }
+    requires same { P.production shown.now ≡ production.now }
+    requires pressed { CanBePressed production.now (P.matter shown.now) }
     ensures { let f = production.now in
-        IfOk result (λ bytes. bytes ≡ dat_bytes f (placed_items f tables.now.matter)) }
+        IfOk result (λ bytes. bytes ≡ dat_bytes f (placed_items f (P.matter shown.now))) }
 {
     let items = production.items.as_slice();
-    let firsts = first_numbers(alloc, tables.docs.len(), items)?;
-    let lasts = last_numbers(alloc, tables.docs.len(), items)?;
+    let documents = last_parent(items);
+    let firsts = first_numbers(alloc, documents, items)?;
+    let lasts = last_numbers(alloc, documents, items)?;
     let rows = dat_rows(
         alloc,
-        tables,
+        shown,
         production,
         firsts.as_slice(),
         lasts.as_slice(),

@@ -1,6 +1,7 @@
 // The lines of the load files.
 ghost use Rattle.std.specs.Prelude.{◌≡◌, ◌≤◌, ◌<◌, ◌+◌, ◌-◌, ◌++◌, ◌∷◌, ◌^◌, ◌==◌, IfOk, IsTrue, OnOk, [], if◌then◌else◌, length};
 ghost use Rattle.std.specs.Fmt.{decimal};
+ghost use Rattle.std.specs.List.{Contains};
 ghost use Rattle.bp_bates.specs.Prefixes.{is_good_prefix};
 ghost use Rattle.bp_core.specs.Characters.{reverse_solidus};
 ghost use Rattle.bp_freeze.specs.Log.{label_in};
@@ -13,10 +14,11 @@ ghost use Rattle.bp_press.specs.Pressing.{AreLabels, placed_at};
 
 use crate::contents::{code_text, empty_text, ground_of, value_shown};
 use crate::names::{image_path, label_text, text_path};
+use crate::shown::Shows;
 use bp_bates::{Prefix, Span};
 use bp_core::{Basis, ListOf, OutOfMemory, Text, TextList};
 use bp_load::OptLine;
-use bp_matter::{Item, Production, Request, Tables};
+use bp_matter::{Item, Production, Request};
 use std::alloc::Global;
 
 // A number in decimal digits.
@@ -38,9 +40,9 @@ fn count_text(alloc: Global, count: u32, page: u32) -> Result<Text, OutOfMemory>
 }
 
 // The line of an image of an item that has so many, counted from 0.
-pub(crate) fn opt_line(
+pub(crate) fn opt_line<P: Shows>(
     alloc: Global,
-    tables: &Tables,
+    shown: &P,
     production: &Production,
     item: &Item,
     place: u64,
@@ -49,13 +51,13 @@ pub(crate) fn opt_line(
 ) -> Result<OptLine, OutOfMemory>
     requires places { place + 2 ^ 32 < 2 ^ 64 }
     requires count { count ≡
-        length (part_of production.now tables.now.matter item.now).content.images }
+        length (part_of production.now (P.matter shown.now) item.now).content.images }
     requires page { page < count }
     requires labels { AreLabels production.now.request item.now.span.first count }
-    ensures { let p = placed_at production.now tables.now.matter item.now place in
+    ensures { let p = placed_at production.now (P.matter shown.now) item.now place in
         IfOk result (λ line. line ≡ opt_line production.now.request p page) }
 {
-    let _tables = tables;
+    let _shown = shown;
     let number = item.span.first + u64::from(page);
     Ok(OptLine {
         image: label_text(alloc, &production.request.prefix, number)?,
@@ -75,9 +77,9 @@ pub(crate) fn opt_line(
 }
 
 // Adds the lines of the images of an item that has so many.
-pub(crate) fn add_opt_lines(
+pub(crate) fn add_opt_lines<P: Shows>(
     alloc: Global,
-    tables: &Tables,
+    shown: &P,
     production: &Production,
     item: &Item,
     place: u64,
@@ -86,14 +88,14 @@ pub(crate) fn add_opt_lines(
 ) -> Result<(), OutOfMemory>
     requires places { place + 2 ^ 32 < 2 ^ 64 }
     requires count { count ≡
-        length (part_of production.now tables.now.matter item.now).content.images }
+        length (part_of production.now (P.matter shown.now) item.now).content.images }
     requires labels { AreLabels production.now.request item.now.span.first count }
-    ensures { let p = placed_at production.now tables.now.matter item.now place in
+    ensures { let p = placed_at production.now (P.matter shown.now) item.now place in
         OnOk result (lines.new.items ≡ lines.old.items ++ opt_lines production.now.request p) }
 {
     let mut page = 0;
     while page < count {
-        lines.push(opt_line(alloc, tables, production, item, place, count, page)?)?;
+        lines.push(opt_line(alloc, shown, production, item, place, count, page)?)?;
         page += 1;
     }
     Ok(())
@@ -179,50 +181,56 @@ fn add_facts(
 }
 
 // The value in the column of a chosen field.
-fn value_in_column(
+fn value_in_column<P: Shows>(
     alloc: Global,
-    tables: &Tables,
+    shown: &P,
     item: &Item,
     name: &Text,
 ) -> Result<Text, OutOfMemory>
+    requires there { Contains (P.production shown.now).items item.now }
+    requires chosen { Contains (P.production shown.now).request.fields name.now }
     ensures { let claimed = ground_of item.now.treatment in
         IfOk result (λ text.
-        text ≡ value_in_column tables.now.matter item.now claimed name.now) }
+        text ≡ value_in_column (P.matter shown.now) item.now claimed name.now) }
 {
     match ground_of(item.treatment) {
         Some(_) => Ok(empty_text(alloc)),
-        None => value_shown(alloc, tables, item, name),
+        None => value_shown(alloc, shown, item, name),
     }
 }
 
 // Adds the values of an item in the chosen fields.
-fn add_values(
+fn add_values<P: Shows>(
     alloc: Global,
-    tables: &Tables,
+    shown: &P,
     production: &Production,
     item: &Item,
     row: &mut Vec<Text>,
 ) -> Result<(), OutOfMemory>
-    ensures { let part = part_of production.now tables.now.matter item.now in
+    requires same { P.production shown.now ≡ production.now }
+    requires there { Contains (P.production shown.now).items item.now }
+    ensures { let part = part_of production.now (P.matter shown.now) item.now in
         OnOk result (row.new.items ≡ row.old.items ++ part.content.values) }
 {
     let mut rest = production.request.fields.as_slice();
     while let Some((name, others)) = rest.split_first() {
-        row.push(value_in_column(alloc, tables, item, name)?)?;
+        row.push(value_in_column(alloc, shown, item, name)?)?;
         rest = others;
     }
     Ok(())
 }
 
 // The row of an item in the DAT, with the first and the last number of its family.
-pub(crate) fn dat_row(
+pub(crate) fn dat_row<P: Shows>(
     alloc: Global,
-    tables: &Tables,
+    shown: &P,
     production: &Production,
     item: &Item,
     place: u64,
     family: Span,
 ) -> Result<TextList, OutOfMemory>
+    requires same { P.production shown.now ≡ production.now }
+    requires there { Contains (P.production shown.now).items item.now }
     requires good { let prefix = production.now.request.prefix in
         IsTrue (is_good_prefix prefix.text prefix.width) }
     requires listed { CanBeListed production.now item.now }
@@ -230,13 +238,13 @@ pub(crate) fn dat_row(
     requires family_first { family.first ≡ first_number (family_of production.now item.now) }
     requires family_last { family.last ≡ last_number (family_of production.now item.now) }
     ensures { let f = production.now in
-        let p = placed_at f tables.now.matter item.now place in
+        let p = placed_at f (P.matter shown.now) item.now place in
         IfOk result (λ row. row ≡ dat_row f p) }
 {
     let request = &production.request;
     let mut row = Vec::new(alloc);
     add_labels(alloc, &request.prefix, item.span, family, &mut row)?;
     add_facts(alloc, request, item, place, &mut row)?;
-    add_values(alloc, tables, production, item, &mut row)?;
+    add_values(alloc, shown, production, item, &mut row)?;
     Ok(ListOf::from_vec(row))
 }

@@ -4,6 +4,7 @@ ghost use Rattle.std.specs.Prelude.{◌≡◌, ◌≤◌, ◌<◌, All, IfOk, Ok
 ghost use Rattle.std.specs.List.{filter, flat_map};
 ghost use Rattle.bp_press.specs.Batches.{MakesBatch, is_image, jobs_by, made_by};
 ghost use Rattle.bp_press.specs.Jobs.{IsCodable, strip_by};
+ghost use Rattle.bp_press.specs.Shown.{IsOwnJob};
 ghost use Rattle.bp_press.specs.VolumeFiles.{CanBeMade};
 ghost use Rattle.bp_press.specs.declared.volume_files.VolumeFile.{VolumeFile as Entry};
 
@@ -11,10 +12,11 @@ use crate::batches::{MadeFile, MadeList, is_image, next_batch};
 use crate::file_rows::made_file;
 use crate::gate::Gate;
 use crate::jobs::{Job, JobList, StripList};
-use crate::strips::strips_of;
+use crate::shown::Shows;
+use crate::strips::covered_strips;
 use crate::volume_files::VolumeFile;
 use bp_core::{Bytes, ListOf, OutOfMemory};
-use bp_matter::{Production, Tables};
+use bp_matter::Production;
 use std::alloc::Global;
 use std::thread::{Threads, map_indices};
 
@@ -33,20 +35,22 @@ pub(crate) struct MadeBatch {
 }
 
 // The strips of these jobs, which may be none.
-fn strips_or_none<R: Threads + Sync, G: Gate + Sync>(
+fn strips_or_none<P: Shows + Sync, R: Threads + Sync, G: Gate + Sync>(
     workers: &Workers<'_, R, G>,
     alloc: Global,
-    tables: &Tables,
+    shown: &P,
     jobs: &JobList,
 ) -> Result<StripList, OutOfMemory>
     requires few { length jobs.now ≤ 16 }
-    requires codable { All (IsCodable tables.now.matter) jobs.now }
-    ensures { IfOk result (λ strips. strips ≡ map (strip_by tables.now.matter) jobs.now) }
+    requires own { All (IsOwnJob (P.production shown.now)) jobs.now }
+    requires codable { All (IsCodable (P.matter shown.now)) jobs.now }
+    ensures { IfOk result (λ strips. strips ≡ map (strip_by (P.matter shown.now)) jobs.now) }
 {
     if jobs.is_empty() {
         return Ok(ListOf::new(alloc));
     }
-    strips_of(workers.rt, alloc, tables, jobs, workers.gate)
+    let images = shown.images(jobs.as_slice());
+    covered_strips(workers.rt, alloc, &images, workers.gate)
 }
 
 // How many of the files before a place are images.
@@ -74,26 +78,27 @@ fn strips_from(strips: &[Bytes], first: usize) -> &[Bytes]
 }
 
 // The file at a place of a batch whose images have these strips.
-fn file_at(
+fn file_at<P: Shows>(
     alloc: Global,
-    tables: &Tables,
+    shown: &P,
     production: &Production,
     batch: &[VolumeFile],
     jobs: &[Job],
     strips: &[Bytes],
     place: usize,
 ) -> Result<MadeFile, OutOfMemory>
+    requires same { P.production shown.now ≡ production.now }
     requires place { place < length batch.now }
-    requires made { All (CanBeMade production.now tables.now.matter) batch.now }
+    requires made { All (CanBeMade production.now (P.matter shown.now)) batch.now }
     requires jobs { jobs.now ≡ flat_map (jobs_by production.now) batch.now }
-    requires strips { strips.now ≡ map (strip_by tables.now.matter) jobs.now }
+    requires strips { strips.now ≡ map (strip_by (P.matter shown.now)) jobs.now }
     ensures { (d : Entry) → IfOk result (λ file.
-        file ≡ made_by production.now tables.now.matter (slice_index_or batch.now place d)) }
+        file ≡ made_by production.now (P.matter shown.now) (slice_index_or batch.now place d)) }
 {
     let first = images_before(batch, place);
     made_file(
         alloc,
-        tables,
+        shown,
         production,
         &batch[place],
         jobs_from(jobs, first),
@@ -102,20 +107,21 @@ fn file_at(
 }
 
 // The files of a batch whose images have these strips.
-fn made_files<R: Threads + Sync>(
+fn made_files<P: Shows + Sync, R: Threads + Sync>(
     rt: &R,
     alloc: Global,
-    tables: &Tables,
+    shown: &P,
     production: &Production,
     batch: &[VolumeFile],
     jobs: &[Job],
     strips: &[Bytes],
 ) -> Result<MadeList, OutOfMemory>
-    requires made { All (CanBeMade production.now tables.now.matter) batch.now }
+    requires same { P.production shown.now ≡ production.now }
+    requires made { All (CanBeMade production.now (P.matter shown.now)) batch.now }
     requires jobs { jobs.now ≡ flat_map (jobs_by production.now) batch.now }
-    requires strips { strips.now ≡ map (strip_by tables.now.matter) jobs.now }
+    requires strips { strips.now ≡ map (strip_by (P.matter shown.now)) jobs.now }
     ensures { IfOk result (λ files.
-        files ≡ map (made_by production.now tables.now.matter) batch.now) }
+        files ≡ map (made_by production.now (P.matter shown.now)) batch.now) }
 {
     let made = map_indices(
         rt,
@@ -123,13 +129,14 @@ fn made_files<R: Threads + Sync>(
         batch.len(),
         &|place: usize| -> Result<MadeFile, OutOfMemory>
             requires place { place < length batch.now }
-            requires made { All (CanBeMade production.now tables.now.matter) batch.now }
+            requires same { P.production shown.now ≡ production.now }
+            requires made { All (CanBeMade production.now (P.matter shown.now)) batch.now }
             requires jobs { jobs.now ≡ flat_map (jobs_by production.now) batch.now }
-            requires strips { strips.now ≡ map (strip_by tables.now.matter) jobs.now }
+            requires strips { strips.now ≡ map (strip_by (P.matter shown.now)) jobs.now }
             ensures { (d : Entry) → IfOk result (λ file.
-                file ≡ made_by production.entry.now tables.entry.now.matter
+                file ≡ made_by production.entry.now (P.matter shown.entry.now)
                 (slice_index_or batch.entry.now place d)) }
-        { file_at(alloc, tables, production, batch, jobs, strips, place) },
+        { file_at(alloc, shown, production, batch, jobs, strips, place) },
     )?;
     all_files(alloc, made)
 }
@@ -149,24 +156,25 @@ fn all_files(
 }
 
 // The files of the list from a place on that are made together.
-pub(crate) fn made_batch<R: Threads + Sync, G: Gate + Sync>(
+pub(crate) fn made_batch<P: Shows + Sync, R: Threads + Sync, G: Gate + Sync>(
     workers: &Workers<'_, R, G>,
     alloc: Global,
-    tables: &Tables,
+    shown: &P,
     production: &Production,
     list: &[VolumeFile],
     from: usize,
 ) -> Result<MadeBatch, OutOfMemory>
+    requires same { P.production shown.now ≡ production.now }
     requires some { from < length list.now }
-    requires made { All (CanBeMade production.now tables.now.matter) list.now }
-    ensures { IfOk result (MakesBatch production.now tables.now.matter list.now from) }
+    requires made { All (CanBeMade production.now (P.matter shown.now)) list.now }
+    ensures { IfOk result (MakesBatch production.now (P.matter shown.now) list.now from) }
 {
     let batch = next_batch(alloc, production, list, from)?;
-    let strips = strips_or_none(workers, alloc, tables, &batch.jobs)?;
+    let strips = strips_or_none(workers, alloc, shown, &batch.jobs)?;
     let files = made_files(
         workers.rt,
         alloc,
-        tables,
+        shown,
         production,
         &list[from..batch.end],
         batch.jobs.as_slice(),

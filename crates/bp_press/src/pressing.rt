@@ -14,10 +14,12 @@ ghost use Rattle.bp_press.specs.VolumeFiles.{CanBeMade, row_of};
 ghost use Rattle.bp_press.specs.Writing.{Adds, AddsAll, AddsPart, LeavesCut, with_files};
 
 use crate::adding::add_files;
+use crate::covered::Covered;
 use crate::gate::Gate;
 use crate::made_files::{Workers, made_batch};
 use crate::manifest::digest_of;
 use crate::names::manifest_path;
+use crate::shown::Shows;
 use crate::volume_files::{VolumeFile, list_files};
 use bp_matter::{Production, Request, Tables};
 use bp_outside::{Folder, FolderRefusal, put_file};
@@ -63,23 +65,24 @@ fn file_count(list: &[VolumeFile]) -> u32
 }
 
 // Adds these files of the volume in order, each with its line of the manifest.
-fn add_listed<R: Threads + Sync, F: Folder, G: Gate + Sync>(
+fn add_listed<P: Shows + Sync, R: Threads + Sync, F: Folder, G: Gate + Sync>(
     workers: &Workers<'_, R, G>,
     alloc: Global,
-    tables: &Tables,
+    shown: &P,
     production: &Production,
     list: &[VolumeFile],
     folder: &mut F,
     manifest: &mut Vec<u8>,
 ) -> Result<(), FolderRefusal>
-    requires made { All (CanBeMade production.now tables.now.matter) list.now }
-    ensures { let rows = map (row_of production.now tables.now.matter) list.now in
+    requires same { P.production shown.now ≡ production.now }
+    requires made { All (CanBeMade production.now (P.matter shown.now)) list.now }
+    ensures { let rows = map (row_of production.now (P.matter shown.now)) list.now in
         Adds rows (F.shows folder.old) manifest.old.items result
         (F.shows folder.new) manifest.new.items }
 {
     let mut from = 0;
     while from < list.len() {
-        let batch = made_batch(workers, alloc, tables, production, list, from)?;
+        let batch = made_batch(workers, alloc, shown, production, list, from)?;
         add_files(alloc, batch.files.as_slice(), folder, manifest)?;
         from = batch.end;
     }
@@ -125,13 +128,36 @@ pub fn add_volume<R: Threads + Sync, F: Folder, G: Gate + Sync>(
         IfErr result (λ refusal.
         LeavesCut (F.shows folder.old) files refusal (F.shows folder.new)) }
 {
-    let list = list_files(alloc, tables, production)?;
+    let shown = Covered::of(tables, production);
+    write_volume(rt, alloc, &shown, production, folder, gate)
+}
+
+// Writes the volume of a production. Of the matter it is given what the volume shows, and no more.
+fn write_volume<P: Shows + Sync, R: Threads + Sync, F: Folder, G: Gate + Sync>(
+    rt: &R,
+    alloc: Global,
+    shown: &P,
+    production: &Production,
+    folder: &mut F,
+    gate: &G,
+) -> Result<Pressed, FolderRefusal>
+    requires same { P.production shown.now ≡ production.now }
+    requires pressed { CanBePressed production.now (P.matter shown.now) }
+    ensures told { let files = volume_of production.now (P.matter shown.now) in
+        IfOk result (λ pressed. pressed ≡ pressed_of files) }
+    ensures files { let files = volume_of production.now (P.matter shown.now) in
+        OnOk result (AddsAll (F.shows folder.old) files (F.shows folder.new)) }
+    ensures cut { let files = volume_of production.now (P.matter shown.now) in
+        IfErr result (λ refusal.
+        LeavesCut (F.shows folder.old) files refusal (F.shows folder.new)) }
+{
+    let list = list_files(alloc, shown, production)?;
     let mut manifest = Vec::new(alloc);
     let workers = Workers { rt, gate };
     add_listed(
         &workers,
         alloc,
-        tables,
+        shown,
         production,
         list.as_slice(),
         folder,

@@ -1,17 +1,18 @@
 // The strips of images, made on threads.
 ghost use Rattle.std.specs.Prelude.{◌≡◌, ◌<◌, ◌≤◌, All, IfOk, IsTrue, Ok, length, map, slice_index_or};
-ghost use Rattle.bp_rows.specs.Limits.{sides_are_imported};
 ghost use Rattle.bp_t6.specs.Written.{strip_of};
-ghost use Rattle.bp_burn.specs.Band.{produced_of, slip_of};
+ghost use Rattle.bp_burn.specs.Band.{slip_of};
 ghost use Rattle.bp_burn.specs.Drawn.{has_glyphs};
 ghost use Rattle.bp_press.specs.Jobs.{IsCodable, strip_by};
+ghost use Rattle.bp_press.specs.Shown.{CanBeCoded, CanBeCovered, image_lent, page_lent};
 ghost use Rattle.bp_press.specs.declared.jobs.Job.{Job};
 
+use crate::covered::{CoveredImage, CoveredJobs, CoveredPage};
 use crate::gate::Gate;
-use crate::jobs::{Job, JobList, StripList};
-use bp_burn::{produced_strip, slip_page};
-use bp_core::{Basis, Bytes, Ink, ListOf, OutOfMemory, StampList, Text};
-use bp_matter::{KeptPage, Tables};
+use crate::jobs::{JobList, StripList};
+use bp_burn::{OutRoom, slip_page, strip_of_rows};
+use bp_core::{Basis, Bytes, ListOf, OutOfMemory, Text};
+use bp_matter::Tables;
 use bp_t6::code_page;
 use std::alloc::Global;
 use std::thread::{Threads, map_indices};
@@ -32,17 +33,32 @@ pub fn strips_of<R: Threads + Sync, G: Gate + Sync>(
     requires codable { All (IsCodable tables.now.matter) jobs.now }
     ensures { IfOk result (λ strips. strips ≡ map (strip_by tables.now.matter) jobs.now) }
 {
-    let list = jobs.as_slice();
+    let images = CoveredJobs::of(tables, jobs.as_slice());
+    covered_strips(rt, alloc, &images, gate)
+}
+
+// The strips of images that are lent covered.
+pub(crate) fn covered_strips<R: Threads + Sync, G: Gate + Sync>(
+    rt: &R,
+    alloc: Global,
+    images: &CoveredJobs<'_>,
+    gate: &G,
+) -> Result<StripList, OutOfMemory>
+    requires codable { All (IsCodable images.now.tables.now.matter) images.now.jobs.now }
+    ensures { let strip = strip_by images.now.tables.now.matter in
+        IfOk result (λ strips. strips ≡ map strip images.now.jobs.now) }
+{
     let made = map_indices(
         rt,
         alloc,
-        list.len(),
+        images.len(),
         &|job: usize| -> Result<Bytes, OutOfMemory>
-            requires job { job < length list.now }
-            requires codable { All (IsCodable tables.now.matter) list.now }
+            requires job { job < length images.now.jobs.now }
+            requires codable { All (IsCodable images.now.tables.now.matter) images.now.jobs.now }
             ensures { (d : Job) → IfOk result (λ strip.
-                strip ≡ strip_by tables.entry.now.matter (slice_index_or list.entry.now job d)) }
-        { entered_strip(alloc, tables, list, gate, job) },
+                strip ≡ strip_by images.entry.now.tables.now.matter
+                (slice_index_or images.entry.now.jobs.now job d)) }
+        { entered_strip(alloc, images, gate, job) },
     )?;
     all_strips(alloc, made)
 }
@@ -50,18 +66,18 @@ pub fn strips_of<R: Threads + Sync, G: Gate + Sync>(
 // The strip of one job, after its entry.
 fn entered_strip<G: Gate>(
     alloc: Global,
-    tables: &Tables,
-    jobs: &[Job],
+    images: &CoveredJobs<'_>,
     gate: &G,
     job: usize,
 ) -> Result<Bytes, OutOfMemory>
-    requires job { job < length jobs.now }
-    requires codable { All (IsCodable tables.now.matter) jobs.now }
+    requires job { job < length images.now.jobs.now }
+    requires codable { All (IsCodable images.now.tables.now.matter) images.now.jobs.now }
     ensures { (d : Job) → IfOk result (λ strip.
-        strip ≡ strip_by tables.now.matter (slice_index_or jobs.now job d)) }
+        strip ≡ strip_by images.now.tables.now.matter
+        (slice_index_or images.now.jobs.now job d)) }
 {
     gate.enter(job);
-    job_strip(alloc, tables, &jobs[job])
+    image_strip(alloc, images.image(job))
 }
 
 // The strips that were made, or want of memory where one of them has none.
@@ -78,58 +94,30 @@ fn all_strips(
     Ok(ListOf::from_vec(strips))
 }
 
-// The strip of one job.
-pub(crate) fn job_strip(alloc: Global, tables: &Tables, job: &Job) -> Result<Bytes, OutOfMemory>
-    requires { IsCodable tables.now.matter job.now }
-    ensures { IfOk result (λ strip. strip ≡ strip_by tables.now.matter job.now) }
+// The strip of an image that is lent.
+pub(crate) fn image_strip(alloc: Global, image: CoveredImage<'_>) -> Result<Bytes, OutOfMemory>
+    requires { CanBeCoded image }
+    ensures { IfOk result (λ strip. strip ≡ strip_of (image_lent image.entry)) }
 {
-    tables.know_valid();
-    match job {
-        Job::Image {
-            ink,
-            doc,
-            page,
-            stamps,
-            label,
-            designation,
-        } => match tables.kept(*doc, *page) {
-            Some(scan) => page_strip(alloc, scan, *ink, stamps, label, designation),
-            None => unreachable!(),
-        },
-        Job::Slip {
+    match image {
+        CoveredImage::Page(page) => page_strip(alloc, page),
+        CoveredImage::Sheet {
             basis,
             label,
             designation,
-        } => slip_strip(alloc, *basis, label, designation),
+        } => slip_strip(alloc, basis, label, designation),
     }
 }
 
-// The strip of a page with its stamps and its band, made of its own strip. Its pixels are never had.
-fn page_strip(
-    alloc: Global,
-    page: &KeptPage,
-    ink: Ink,
-    stamps: &StampList,
-    label: &Text,
-    designation: &Text,
-) -> Result<Bytes, OutOfMemory>
-    requires sides { IsTrue (sides_are_imported page.now.width page.now.height) }
-    requires label { IsTrue (has_glyphs label.now) }
-    requires designation { IsTrue (has_glyphs designation.now) }
-    ensures { IfOk result (λ strip. strip ≡
-        strip_of (produced_of ink page.now stamps.now label.now designation.now)) }
+// The strip of a page with its stamps and its band, made of its rows, which are lent covered. All room
+// that reading and covering them takes is taken before, by the width alone.
+fn page_strip(alloc: Global, page: CoveredPage<'_>) -> Result<Bytes, OutOfMemory>
+    requires { CanBeCovered page }
+    ensures { IfOk result (λ strip. strip ≡ strip_of (page_lent page.entry)) }
 {
     let frame = page.frame();
-    produced_strip(
-        alloc,
-        ink,
-        page.strip(),
-        frame.width,
-        frame.height,
-        stamps,
-        label,
-        designation,
-    )
+    let room = OutRoom::take(alloc, frame.width)?;
+    strip_of_rows(alloc, page.rows(room), page.label, page.designation)
 }
 
 // The strip of a sheet.

@@ -6,7 +6,7 @@ use Rattle.bp_cli.specs.Burn.{burn_seen}
 use Rattle.bp_cli.specs.Words.{word_bytes}
 use Rattle.bp_cli.specs.Endings.{world}
 use Rattle.std.specs.Str.{chars}
-use Rattle.bp_cli.specs.Commands.{CommandLine, burn, init, import, produce, press, log, check, claw, command_seen, command_of, ReadsAndWorks, ReadsAsOften}
+use Rattle.bp_cli.specs.Commands.{CommandLine, burn, init, import, produce, press, log, check, claw, demo, command_seen, command_of, ReadsAndWorks, ReadsAsOften}
 use Rattle.bp_cli.proofs.BurnLemmas.{burn_reads}
 use Rattle.bp_cli.specs.Check.{check_seen}
 use Rattle.bp_cli.specs.Claw.{claw_seen}
@@ -103,6 +103,15 @@ returns-in-Some-Claw-clause-works g c =
     let is : Some (claw (claw_seen c.in-Some-Claw.asked)) ≡ command_of (word_bytes c.args.words.now) = ap (option_map command_seen) (sym found) ∙ c.in_ok-command_in.ensures in
     subst (λ (o : Option CommandLine). ReadsAndWorks o before c.claw_volume.result after) is c.claw_volume.ensures.works
 
+pub returns-in-Some-Demo-clause-works : goal.returns-in-Some-Demo-clause-works
+returns-in-Some-Demo-clause-works g c =
+    let source = g.S.Source.shows c.args.source.now in
+    let before = world source (g.K.Keeper.shows c.args.keeper.now) (g.F.Folder.shows c.args.folder.now) in
+    let after = world source (g.K.Keeper.shows c.demo_volume.new.keeper) (g.F.Folder.shows c.demo_volume.new.folder) in
+    let found : c.in_ok-command_in.field-0 ≡ Some (commands.Demo c.in-Some-Demo.asked) = c.in-Some-Demo.is ∙ ap (λ (x : Command). Some x) c.in-Some-Demo.field-0-is in
+    let is : Some (demo c.in-Some-Demo.asked) ≡ command_of (word_bytes c.args.words.now) = ap (option_map command_seen) (sym found) ∙ c.in_ok-command_in.ensures in
+    subst (λ (o : Option CommandLine). ReadsAndWorks o before c.demo_volume.result after) is (c.demo_volume.ensures source)
+
 -- ---- how often it read
 
 pub returns-in_err-command_in-clause-reads : goal.returns-in_err-command_in-clause-reads
@@ -146,3 +155,6 @@ returns-in-Some-Claw-clause-reads g c =
     let found : c.in_ok-command_in.field-0 ≡ Some (commands.Claw c.in-Some-Claw.asked) = c.in-Some-Claw.is ∙ ap (λ (x : Command). Some x) c.in-Some-Claw.field-0-is in
     let is : Some (claw (claw_seen c.in-Some-Claw.asked)) ≡ command_of (word_bytes c.args.words.now) = ap (option_map command_seen) (sym found) ∙ c.in_ok-command_in.ensures in
     subst (λ (o : Option CommandLine). ReadsAsOften o (g.S.Source.reads c.args.source.now) (g.S.Source.reads c.claw_volume.new.source)) is c.claw_volume.ensures.reads
+
+pub returns-in-Some-Demo-clause-reads : goal.returns-in-Some-Demo-clause-reads
+returns-in-Some-Demo-clause-reads g c = never_read (command_of (word_bytes c.args.words.now)) (g.S.Source.reads c.args.source.now)

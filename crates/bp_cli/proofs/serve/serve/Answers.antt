@@ -13,8 +13,8 @@ returns-in-Ok g c = λ out out'.
     (hall (g.K.Keeper.shows k) told.doors.items out')) (sym c.told.ensures.keeper)
     (subst (λ ds. ServesWith shows c.args.asked before told.ending told.history
     (hall (g.K.Keeper.shows c.in-Ok.served.closed.keeper) ds.items out')) (sym c.told.ensures.doors)
-    (matter_served shows c.args.asked _ _ _ _ _ _ out out' c.in-Ok.ensures.ok told.ending told.history
-    c.told.ensures.said))
+    (matter_served shows c.args.asked _ _ _ _ _ _ out out' c.in-Ok.ensures.ok c.freezes_stand.ensures
+    told.ending told.history c.told.ensures.said))
 
 pub returns-in-Err : goal.returns-in-Err
 returns-in-Err g c = λ out out'.

@@ -10,7 +10,7 @@ loop-i-preserved c =
     let x = c.args.draws.now.state in
     let so_far = c.loop-i.invariant in (
       c.in_ok-push.ensures.items
-      ∙ words_more c.loop-i.i x c.loop-i.draws.state c.loop-i.words.items c.in_ok-drawn_word.field-0 so_far.0 so_far.1 c.in_ok-drawn_word.ensures.word,
+          ∙ words_more c.loop-i.i x c.loop-i.draws.state c.loop-i.words.items c.in_ok-drawn_word.field-0 so_far.0 so_far.1 c.in_ok-drawn_word.ensures.word,
       after_word c.loop-i.i x c.loop-i.draws.state c.drawn_word.new.draws.state so_far.1 c.in_ok-drawn_word.ensures.state,
     )
 

@@ -6,11 +6,11 @@ use Rattle.bp_press.proofs.contents.pages_text.Given as goal
 
 -- what is written, with the text of the pages that are left, is the text of all pages
 abbrev pub invariant-loop-page : goal.invariant-loop-page
-invariant-loop-page l = record {
-  so_far : l.bytes.items ++ encode_utf8_all (flat_map (kept_text l.tables.matter l.item) (range_with_len (l.page + 1) (l.pages - l.page)))
-      ≡ encode_utf8_all (flat_map (kept_text l.tables.matter l.item) (range_with_len 1 l.pages));
+invariant-loop-page g l = record {
+  so_far : l.bytes.items ++ encode_utf8_all (flat_map (kept_text (g.P.Shows.matter l.shown) l.item) (range_with_len (l.page + 1) (l.pages - l.page)))
+      ≡ encode_utf8_all (flat_map (kept_text (g.P.Shows.matter l.shown) l.item) (range_with_len 1 l.pages));
   within : l.page ≤ l.pages;
 }
 
 abbrev pub decreases-loop-page : goal.decreases-loop-page
-decreases-loop-page l = l.pages - l.page
+decreases-loop-page g l = l.pages - l.page

@@ -5,11 +5,11 @@ use Rattle.bp_press.proofs.FindLemmas.{hit, missed}
 use Rattle.bp_press.proofs.finding.bytes_if.Goals as goal
 
 pub returns-then-ne : goal.returns-then-ne
-returns-then-ne c =
+returns-then-ne g c =
     let other : bytes_eq c.in_ok-own.own c.args.path.now ≡ false = search rules in
-    missed c.args.path.now c.in_ok-own.own (row_of c.args.production.now c.args.tables.now.matter c.args.file.now) c.in_ok-own.ensures other
+    missed c.args.path.now c.in_ok-own.own (row_of c.args.production.now (g.P.Shows.matter c.args.shown.now) c.args.file.now) c.in_ok-own.ensures other
 
 pub returns : goal.returns
-returns c =
+returns g c =
     let same : bytes_eq c.in_ok-own.own c.args.path.now ≡ true = search rules in
-    hit c.args.path.now c.in_ok-own.own c.in_ok-file_bytes.field-0 (row_of c.args.production.now c.args.tables.now.matter c.args.file.now) c.in_ok-own.ensures same c.in_ok-file_bytes.ensures
+    hit c.args.path.now c.in_ok-own.own c.in_ok-file_bytes.field-0 (row_of c.args.production.now (g.P.Shows.matter c.args.shown.now) c.args.file.now) c.in_ok-own.ensures same c.in_ok-file_bytes.ensures

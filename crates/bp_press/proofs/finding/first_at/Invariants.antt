@@ -3,4 +3,4 @@ use Rattle.bp_press.proofs.FindLemmas.{AreSought}
 use Rattle.bp_press.proofs.finding.first_at.Given as goal
 
 abbrev pub invariant-loop-file : goal.invariant-loop-file
-invariant-loop-file l = AreSought l.path (row_of l.production l.tables.matter) l.list l.file-index
+invariant-loop-file g l = AreSought l.path (row_of l.production (g.P.Shows.matter l.shown)) l.list l.file-index

@@ -1,17 +1,29 @@
-use Rattle.std.proofs.Common.{rules, ◌≡◌, ◌∷◌, ◌+◌, length}
+use Rattle.std.proofs.Common.{rules, ◌≡◌, ◌∷◌, ◌+◌, ◌-◌, length, subst, sym}
+use Rattle.std.specs.List.{Contains}
+use Rattle.bp_matter.specs.declared.rows.Production.{Production}
 use Rattle.bp_press.specs.Contents.{part_of}
 use Rattle.bp_press.specs.Needs.{CanBeListed}
 use Rattle.bp_press.proofs.FamilyLemmas.{all-first}
-use Rattle.bp_press.proofs.GatherLemmas.{rows_turn}
+use Rattle.bp_press.proofs.GatherLemmas.{rows_init, rows_turn}
 use Rattle.bp_press.proofs.load_files.dat_rows.Goals as goal
 
+pub loop-item-init : goal.loop-item-init
+loop-item-init g c =
+    rows_init c.args.production.now (g.P.Shows.matter c.args.shown.now) (length c.args.firsts.now - 1) c.as_slice-rest.result.now c.new-rows.result.items
+    c.as_slice-rest.ensures c.new-rows.ensures.items c.requires.pressed.placed c.requires.pressed.listed c.requires.families
+
 pub add_item_row-requires-clause-listed : goal.add_item_row-requires-clause-listed
-add_item_row-requires-clause-listed c =
+add_item_row-requires-clause-listed g c =
     let whole : c.loop-item.rest.now ≡ c.in-Some.item.now ∷ c.in-Some.others.now = search rules in
     all-first (CanBeListed c.args.production.now) _ _ _ whole c.loop-item.invariant.listed
 
-pub loop-item-preserved : goal.loop-item-preserved
-loop-item-preserved c =
+pub add_item_row-requires-clause-there : goal.add_item_row-requires-clause-there
+add_item_row-requires-clause-there g c =
     let whole : c.loop-item.rest.now ≡ c.in-Some.item.now ∷ c.in-Some.others.now = search rules in
-    let next : c.loop-item.place + c.from-place.result ≡ c.loop-item.place + length (part_of c.args.production.now c.args.tables.now.matter c.in-Some.item.now).content.images = search rules in
-    rows_turn c.args.production.now c.args.tables.now.matter c.loop-item.place _ c.loop-item.rest.now c.in-Some.item.now c.in-Some.others.now c.loop-item.rows.items _ whole next c.loop-item.invariant c.in_ok-count.ensures.rows
+    subst (λ (f : Production). Contains f.items c.in-Some.item.now) (sym c.requires.same) (all-first (Contains c.args.production.now.items) _ _ _ whole c.loop-item.invariant.own)
+
+pub loop-item-preserved : goal.loop-item-preserved
+loop-item-preserved g c =
+    let whole : c.loop-item.rest.now ≡ c.in-Some.item.now ∷ c.in-Some.others.now = search rules in
+    let next : c.loop-item.place + c.from-place.result ≡ c.loop-item.place + length (part_of c.args.production.now (g.P.Shows.matter c.args.shown.now) c.in-Some.item.now).content.images = search rules in
+    rows_turn c.args.production.now (g.P.Shows.matter c.args.shown.now) (length c.args.firsts.now - 1) c.loop-item.place _ c.loop-item.rest.now c.in-Some.item.now c.in-Some.others.now c.loop-item.rows.items _ whole next c.loop-item.invariant c.in_ok-count.ensures.rows

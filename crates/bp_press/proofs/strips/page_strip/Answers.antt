@@ -1,21 +1,37 @@
-use Rattle.std.proofs.Common.{subst}
-use Rattle.std.specs.Prelude.{IsTrue}
+use Rattle.std.proofs.Common.{◌≡◌, ap, subst, sym, ◌∙◌, arith}
+use Rattle.std.specs.Prelude.{IfOk, IsTrue}
 use Rattle.bp_rows.specs.Image.{Image}
 use Rattle.bp_rows.specs.Limits.{sides_are_imported}
-use Rattle.bp_press.proofs.JobLemmas.{own_strip}
+use Rattle.bp_t6.specs.Written.{strip_of}
+use Rattle.bp_burn.specs.Band.{produced_of}
+use Rattle.bp_burn.specs.RowsOut.{AreOf, HasPage, RowsOut}
+use Rattle.bp_press.proofs.JobLemmas.{imported_width, own_rows}
 use Rattle.bp_press.proofs.strips.page_strip.Goals as goal
 
-pub produced_strip-requires-clause-sides : goal.produced_strip-requires-clause-sides
-produced_strip-requires-clause-sides c =
-    subst (λ (p : Image). IsTrue (sides_are_imported p.width p.height)) c.frame-frame.ensures.frame c.requires.sides
+pub take-requires-clause-some : goal.take-requires-clause-some
+take-requires-clause-some c =
+    let wide = ap (λ (p : Image). p.width) c.frame-frame.ensures.frame in
+    omega (arith, wide, (imported_width c.args.page.page.now.width c.args.page.page.now.height c.requires.sides).0)
 
-pub produced_strip-requires-clause-strip : goal.produced_strip-requires-clause-strip
-produced_strip-requires-clause-strip c = record {
-  page = c.args.page.now;
-  has = own_strip c.args.page.now c.frame-frame.result c.strip.result.now c.frame-frame.ensures.page c.frame-frame.ensures.frame c.strip.ensures.strip;
-}
+pub take-requires-clause-wide : goal.take-requires-clause-wide
+take-requires-clause-wide c =
+    let wide = ap (λ (p : Image). p.width) c.frame-frame.ensures.frame in
+    omega (arith, wide, (imported_width c.args.page.page.now.width c.args.page.page.now.height c.requires.sides).1)
+
+pub rows-requires-clause-room : goal.rows-requires-clause-room
+rows-requires-clause-room c = c.in_ok-room.ensures ∙ sym (ap (λ (p : Image). p.width) c.frame-frame.ensures.frame)
+
+pub strip_of_rows-requires-clause-sides : goal.strip_of_rows-requires-clause-sides
+strip_of_rows-requires-clause-sides c = subst (λ (o : RowsOut). IsTrue (sides_are_imported o.width o.height)) (sym c.rows.ensures) c.requires.sides
+
+pub strip_of_rows-requires-clause-page : goal.strip_of_rows-requires-clause-page
+strip_of_rows-requires-clause-page c = subst HasPage (sym c.rows.ensures) (record { page = c.args.page.page.now; are = own_rows c.args.page c.frame-frame.ensures.page })
+
+pub strip_of_rows-requires-clause-none : goal.strip_of_rows-requires-clause-none
+strip_of_rows-requires-clause-none c = ap (λ (o : RowsOut). o.row) c.rows.ensures
 
 pub returns : goal.returns
 returns c =
-    c.produced_strip.ensures c.args.page.now
-    (own_strip c.args.page.now c.frame-frame.result c.strip.result.now c.frame-frame.ensures.page c.frame-frame.ensures.frame c.strip.ensures.strip)
+    let p = c.args.page.page.now in
+    let made = c.strip_of_rows.ensures p (subst (λ (o : RowsOut). AreOf o p) (sym c.rows.ensures) (own_rows c.args.page c.frame-frame.ensures.page)) in
+    subst (λ (o : RowsOut). IfOk c.strip_of_rows.result (λ out. out ≡ strip_of (produced_of o.ink p o.stamps c.args.page.label.now c.args.page.designation.now))) c.rows.ensures made

@@ -1,0 +1,23 @@
+use Rattle.std.proofs.Common.{rules, ◌≡◌, ◌<◌, ℕ, length, subst, sym}
+use denote.Param.Send.{sendable}
+use Rattle.std.proofs.Crossing.{crosses}
+use Rattle.bp_press.specs.Jobs.{strip_by}
+use Rattle.bp_press.proofs.JobLemmas.{all_done}
+use Rattle.bp_press.proofs.ThreadLemmas.{bytes_send, covered_jobs_sync}
+use Rattle.bp_press.proofs.strips.covered_strips.Goals as goal
+
+pub map_indices-requires-send-X : goal.map_indices-requires-send-X
+map_indices-requires-send-X g c κs within = search (bytes_send, sendable, crosses) depth 40 fits 20000
+
+pub map_indices-requires-sync-F : goal.map_indices-requires-sync-F
+map_indices-requires-sync-F g c κs within =
+    let r = c.type_bounds.sync-R in
+    let gate = c.type_bounds.sync-G in search (covered_jobs_sync, sendable, crosses) depth 40 fits 20000
+
+pub returns : goal.returns
+returns g c =
+    let m = c.args.images.now.tables.now.matter in
+    let jobs = c.args.images.now.jobs.now in
+    let made = c.in_ok-made.made.items in
+    let long : length made ≡ length jobs = search rules in
+    all_done (strip_by m) jobs made c.all_strips.result c.all_strips.ensures long (λ k d e less. (c.in_ok-made.ensures.each k e (subst (λ (n : ℕ). k < n) (sym c.len.ensures) less)).1.met d)

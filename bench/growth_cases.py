@@ -307,6 +307,7 @@ CASES = [
     Case("serve_two", imported, ["serve", "2"], asked_at_a_desk),
     Case("serve_seen", called, ["serve", "2"], asked_at_two_desks),
     Case("deliver", with_grants, ["deliver", "grants.csv"], asked_of_a_delivery),
+    Case("demo", as_it_was, ["demo", "7", "3"]),
     Case("lines_loads", with_load_lines, None, is_lines=True),
     Case("lines_strips", with_strip_lines, None, is_lines=True),
     Case("day", to_be_imported, ["init", "..", "check"], steps=DAY),

@@ -202,8 +202,8 @@ class Trial:
     def again(self):
         """With memory, over what stands."""
         due = self.right
-        if self.case.name == "init" and rows_in(self.folder):
-            due = due._replace(status=2, out=b"refused 42 MatterThere 0 0 0\n")
+        if self.case.name in ("init", "demo") and rows_in(self.folder):
+            due = due._replace(status=2, out=b"refused 42 MatterThere 0 0 0\n", files=files_in(self.folder))
         told = self.carried_out(0)
         if told != due:
             raise Otherwise(f"given again: status {told.status}, {told.out!r}")
@@ -217,6 +217,8 @@ class Trial:
     def begin(self):
         """What is right, and how many growths there are. Where no thread can be started the same is right."""
         self.right = self.carried_out(0)
+        if self.case.name == "demo" and self.right.status == 1:
+            raise Otherwise("the program knows no demo")
         count = self.counts()[0]
         self.fresh()
         self.mode.append("alone")

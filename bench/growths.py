@@ -6,7 +6,8 @@ is right. Then the Nth is refused, for each N, by growths.c, which is compiled a
 to end with 6 and leave what docs/STATUSES.md says: rows as before, or those of the whole command; of its files some first ones, the last
 perhaps in part. A desk has to reply what is right, or that memory ran out, or a beginning of either; the calls that it answered stand in
 the rows, and one that it didn't answer may. After every sixteenth the command is given again, with memory: it has to give the right answer
-over what stands. No other answer is let through.
+over what stands. No other answer is let through. Where what is refused is a thread, two desks are served one behind the other: the answers
+have to be right in that order.
 
 KEEP has what was tried, so that the same words go on where they were left, also of another run of the same program; and each case that
 ended otherwise, with its folder. First comes one N for each place of the program that growths come from; then all others, in an order that
@@ -43,12 +44,17 @@ AT_ONCE = 50  # of a case, before the next has its turn
 AGAIN = 16
 WORDS, INNERMOST = 27, 9  # of a record of growths.c; of its places
 FIRST_PORT = 48201
+SOON = 5  # seconds, before desks are looked for that are served in turn
 NO_MEMORY = (b"HTTP/1.1 507 Insufficient Storage\r\nContent-Type: application/json\r\nContent-Length: 54\r\nConnection: close\r\n\r\n"
              b'{"a":0,"b":0,"line":0,"name":"OutOfMemory","rule":108}')
 
 
 class Otherwise(Exception):
     """The program does what no answer allows."""
+
+
+class InTurn(Exception):
+    """No thread was started, so the desks are served one behind another, each until all its connections were taken."""
 
 
 # ---- what stands
@@ -264,6 +270,8 @@ class Desk(Trial):
             except ConnectionRefusedError:
                 if time.monotonic() - began > LIMIT:
                     raise Otherwise("no desk is opened") from None
+                if self.desks > 1 and time.monotonic() - began > SOON and is_alone(process) and open_desks():
+                    raise InTurn from None
                 time.sleep(0.001)
             finally:
                 peer.close()
@@ -309,9 +317,40 @@ class Desk(Trial):
                 self.requests, self.words = left, words
         return self.due[at]
 
+    def in_turn(self, at):
+        """Asks the desks one behind another, as they are opened."""
+        self.fresh()
+        process = self.start(at, self.words)
+        matter, left, replies, due, made = copy.deepcopy(self.matter), set(range(self.desks)), [], [], 0
+        try:
+            while left:
+                began = time.monotonic()
+                while not (found := left & open_desks()):
+                    if process.poll() is not None or time.monotonic() - began > LIMIT:
+                        raise Otherwise(f"no other desk is opened, though {len(left)} are left")
+                    time.sleep(0.01)
+                desk = found.pop()
+                left.remove(desk)
+                for data in self.requests[desk :: self.desks]:
+                    told, is_call = days.answered(matter, data)
+                    made += is_call
+                    due.append(told)
+                    replies.append(self.reply(process, FIRST_PORT + desk, data))
+            status, out = self.ended(process)
+        finally:
+            if process.poll() is None:
+                process.kill()
+                process.communicate()
+        if (replies, status, out, rows_in(self.folder)) != (due, 0, f"served {made}\n".encode(), matters.rows_of(matter)):
+            raise Otherwise(f"desks in turn: {status}, {out!r}; due was {made} calls")
+        return "in turn"
+
     def is_right(self, at):
         self.fresh()
-        replies, status, out = self.asked(at)
+        try:
+            replies, status, out = self.asked(at)
+        except InTurn:
+            return self.in_turn(at)
         rows = rows_in(self.folder)
         if (replies, status, out, rows) == self.due[None]:
             return "right"
@@ -522,6 +561,17 @@ class Lines(Trial):
 
     def again(self):
         """Nothing is left behind."""
+
+
+def is_alone(process):
+    return len(os.listdir(f"/proc/{process.pid}/task")) == 1
+
+
+def open_desks():
+    """The desks, from 0, at whose ports somebody listens."""
+    with open("/proc/net/tcp", encoding="ascii") as file:
+        rows = [line.split() for line in file.readlines()[1:]]
+    return {int(row[1].split(":")[1], 16) - FIRST_PORT for row in rows if row[3] == "0A"} & set(range(16))
 
 
 def exchanged(peer, data):

@@ -303,7 +303,8 @@ def check_files(room):
         left = size - len(short) - 64 - 2 - 1
         name = "l" if left % 2 else "ll"
         room.write(name, b"l")
-        room.write("m.txt", short + hashlib.sha256(b"l").hexdigest().encode() + b"  " + b"./" * ((left - len(name)) // 2) + name.encode() + b"\n")
+        path = b"./" * ((left - len(name)) // 2) + name.encode()
+        room.write("m.txt", short + hashlib.sha256(b"l").hexdigest().encode() + b"  " + path + b"\n")
         checked(room, f"`check`, a manifest of {size:,} bytes", more and matters.Rule(55, 2), 5, *rest, "m.txt")
 
 
@@ -337,7 +338,8 @@ def names(room):
     for what, rule, words, first in (
         ("an id of 33 characters", 32, ("x" * 33, "V1", "A-", "4"), None), ("an id of 32 characters", 0, ("x" * 32, "V1", "A-", "4"), "A-0001"),
         ("a volume with a name of 33", 32, ("R2", "V" * 33, "A-", "4"), None), ("a volume with a name of 32", 0, ("R2", "V" * 32, "A-", "4"), "A-0002"),
-        ("a prefix of 13 characters", 29, ("R3", "V3", "X" + long_prefix, "4"), None), ("a prefix of 12 characters", 0, ("R3", "V3", long_prefix, "4"), long_prefix + "0001"),
+        ("a prefix of 13 characters", 29, ("R3", "V3", "X" + long_prefix, "4"), None),
+        ("a prefix of 12 characters", 0, ("R3", "V3", long_prefix, "4"), long_prefix + "0001"),
         ("labels of 11 digits", 29, ("R4", "V4", "W-", "11"), None), ("labels of 10 digits", 0, ("R4", "V4", "W-", "10"), "W-0000000001"),
         ("labels of 3 digits", 29, ("R5", "V5", "N-", "3"), None), ("labels of 4 digits", 0, ("R5", "V5", "N-", "4"), "N-0001"),
         ("a width of 256, no word", 1, ("R6", "V6", "N-", "256"), None), ("a width of 255, a word", 29, ("R6", "V6", "N-", "255"), None),
@@ -555,7 +557,8 @@ def requests(room):
             entry = {"date": "", "author": "", "recipients": "", "description": ""} | {name: "x" * length}
             asked.append((f"{'an author' if name == 'author' else 'recipients'} of {length} bytes", post("/docs/1/entry", entry)))
     for length in (200, 201):
-        asked.append((f"a name of a member of {length} bytes", post("/staff", {"name": "x" * length, "role": "Reviewer", "digest": "0" * 63 + str(length - 200)})))
+        member = {"name": "x" * length, "role": "Reviewer", "digest": "0" * 63 + str(length - 200)}
+        asked.append((f"a name of a member of {length} bytes", post("/staff", member)))
     for depth in (127, 128):
         body = b'{"x":' + b"[" * (depth - 1) + b"]" * (depth - 1) + b"}"
         head = f"POST /docs/1/back HTTP/1.1\r\nDesk-Key: {KEY}\r\nContent-Length: {len(body)}\r\n\r\n".encode()

@@ -11,10 +11,13 @@ have to be right in that order.
 
 KEEP has what was tried, so that the same words go on where they were left, also of another run of the same program; and each case that
 ended otherwise, with its folder. First comes one N for each place of the program that growths come from; then all others, in an order that
-is spread evenly at each moment. At the end, or after SECONDS, a table is printed. Names of cases run these alone; `list` tells them. A name that ends in +lasting has each growth from the Nth on refused,
-as where memory stays full (not of a desk); one that ends in +libc has also those refused that the C library makes for itself: the system then fails in
-other ways, so that also the answers 3, 4, 5 and 7 may come. Takes the ports 48201 and 48202, in a network of its own where that can be.
-Needs cc.
+is spread evenly at each moment. At the end, or after SECONDS, a table is printed. Names of cases run these alone; `list list` tells them.
+The case `day` is the commands of a day over one folder: behind the one of which a growth was refused it is given again, and the others follow.
+The cases `lines_..` are bp_lines over files of lines; it is looked for beside PROGRAM, in crates/bp_lines/out, and where LINES says.
+
+A name that ends in +lasting has each growth from the Nth on refused, as where memory stays full (not of a desk or a day); one that ends in
++libc has also those refused that the C library makes for itself: the system then fails in other ways, so that also the answers 3, 4, 5 and 7
+may come. Takes the ports 48201 and 48202, in a network of its own where that can be. Needs cc.
 """
 import collections
 import copy

@@ -10,9 +10,10 @@ a box, in a file of both forms in turn: the growths of `burn` behind the reading
 
 Each pair runs once with no thread, so that the order is one, and once with threads, when the sizes are compared as a bag; where bags differ
 one of the two runs again, and differs from itself or not. Of `produce` the lists are also compared without what the freeze asks for, that is
-the room that it makes, its commit, and the closing behind that (by the symbols of the program). Prints a table by kind of difference, and then the first growth that
-differs in each pair of lists, by its place in the program, with the first few sizes. A pair's matters have to give the same volume by the
-program and by the model. KEEP has the folders of the first pair of each cause. Needs cc. Ends with 1 where a list differs beside the freeze.
+the room that it makes, its commit, and the closing behind that (by the symbols of the program). Prints a table by kind of difference, and then
+the first growth that differs in each pair of lists, by its place in the program, with the first few sizes. A pair's matters have to give the
+same volume by the program and by the model. KEEP has the folders of the first pair of each cause. Needs cc. Ends with 1 where a list differs
+beside the freeze.
 """
 import collections
 import copy

@@ -3,6 +3,7 @@
 built PROGRAM says with the model (docs/FORMATS.md, docs/STATUSES.md), and writes each case that differs into the folder KEEP.
 Ends with status 1 where one does. The same words give the same cases.
 
+Where PROGRAM is - the lines of these are written into files of a hundred below KEEP, for fuzz_try.sh, and nothing runs.
 Jobs over the programs that read lines, COUNT lines each, of `volumes` COUNT checks:
     tiff strips pages loads words names     by bp_lines
     requests                                by bp_web_lines
@@ -37,7 +38,7 @@ LINES = {
     "tiff": pages.tiff_lines, "strips": pages.strip_lines, "pages": pages.page_lines, "loads": loads.load_lines,
     "words": loads.word_lines, "names": loads.name_lines, "volumes": checks.volume_lines,
 }
-AT_ONCE = 20000
+AT_ONCE, IN_A_FILE = 20000, 100
 
 
 # ---- programs that read lines
@@ -86,9 +87,12 @@ def fuzz_lines(job, program, count, seed, keep):
     while done < count:
         # the lines of a case stay in one file; page files are put behind an empty one
         chunk = [("file hex -", "")] if job == "tiff" else []
-        while len(chunk) < AT_ONCE and counted(job, chunk) < count - done:
+        while len(chunk) < (AT_ONCE if program != "-" else IN_A_FILE) and counted(job, chunk) < count - done:
             chunk += next(cases)
-        failed += told_otherwise(program, chunk, f"{keep}/{job}-{seed}-{done}.txt", job)
+        if program == "-":
+            write_lines(f"{keep}/{job}-{seed}-{done}.txt", chunk)
+        else:
+            failed += told_otherwise(program, chunk, f"{keep}/{job}-{seed}-{done}.txt", job)
         done += counted(job, chunk)
         told.update(kind_of(due) for asked, due in chunk if is_counted(job, asked))
     return done, failed, told
@@ -115,12 +119,16 @@ def lines_of_case(chunk, at, job):
     return chunk[begin : at + 1]
 
 
+def write_lines(place, chunk):
+    with open(place, "w", encoding="utf-8", newline="") as file:
+        file.writelines(f"{asked} = {due}\n" for asked, due in chunk)
+
+
 def told_otherwise(program, chunk, kept, job):
     """How many lines of a chunk are told otherwise; those are kept with what is due and what is told."""
     with tempfile.TemporaryDirectory() as room:
         place = os.path.join(room, "lines.txt")
-        with open(place, "w", encoding="utf-8", newline="") as file:
-            file.writelines(f"{asked} = {due}\n" for asked, due in chunk)
+        write_lines(place, chunk)
         try:
             done = subprocess.run([program, place], capture_output=True, timeout=days.LIMIT + len(chunk) / 100)
             out = done.stdout.decode("utf-8", "replace")

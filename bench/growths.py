@@ -6,22 +6,23 @@ is right. Then the Nth is refused, for each N, by growths.c, which is compiled a
 to end with 6 and leave what docs/STATUSES.md says: rows as before, or those of the whole command; of its files some first ones, the last
 perhaps in part. A desk has to reply what is right, or that memory ran out, or a beginning of either; the calls that it answered stand in
 the rows, and one that it didn't answer may. After every sixteenth the command is given again, with memory: it has to give the right answer
-over what stands. No other answer is let through.
+over what stands. No other answer is let through. Where what is refused is a thread, two desks are served one behind the other: the answers
+have to be right in that order.
 
 KEEP has what was tried, so that the same words go on where they were left, also of another run of the same program; and each case that
 ended otherwise, with its folder. First comes one N for each place of the program that growths come from; then all others, in an order that
-is spread evenly at each moment. At the end, or after SECONDS, a
-table is printed. Names of cases run these alone; `list` tells them. A name that ends in +lasting has each growth from the Nth on refused,
-as where memory stays full (not of a desk); one that ends in +libc has also those refused that the C library makes for itself: the system then fails in
-other ways, so that also the answers 3, 4, 5 and 7 may come. Takes the ports 48201 and 48202, in a network of its own where that can be.
-Needs cc.
+is spread evenly at each moment. At the end, or after SECONDS, a table is printed. Names of cases run these alone; `list list` tells them.
+The case `day` is the commands of a day over one folder: behind the one of which a growth was refused it is given again, and the others follow.
+The cases `lines_..` are bp_lines over files of lines; it is looked for beside PROGRAM, in crates/bp_lines/out, and where LINES says.
+
+A name that ends in +lasting has each growth from the Nth on refused, as where memory stays full (not of a desk or a day); one that ends in
++libc has also those refused that the C library makes for itself: the system then fails in other ways, so that also the answers 3, 4, 5 and 7
+may come. Takes the ports 48201 and 48202, in a network of its own where that can be. Needs cc.
 """
 import collections
 import copy
 import hashlib
-import json
 import os
-import random
 import shutil
 import signal
 import socket
@@ -36,12 +37,9 @@ sys.dont_write_bytecode = True
 HERE = os.path.dirname(os.path.abspath(__file__))
 sys.path.insert(0, os.path.join(HERE, "..", "tools", "tests"))
 import apart  # noqa: E402
-import fuzz_batch as batches  # noqa: E402
 import fuzz_days as days  # noqa: E402
-import fuzz_loads as loads  # noqa: E402
 import fuzz_matter as matters  # noqa: E402
-import fuzz_pages as pages  # noqa: E402
-import web_model  # noqa: E402
+from growth_cases import CASES, get  # noqa: E402
 
 LIMIT = 300
 LACKS = b"out of memory\n"
@@ -49,6 +47,7 @@ AT_ONCE = 50  # of a case, before the next has its turn
 AGAIN = 16
 WORDS, INNERMOST = 27, 9  # of a record of growths.c; of its places
 FIRST_PORT = 48201
+SOON = 5  # seconds, before desks are looked for that are served in turn
 NO_MEMORY = (b"HTTP/1.1 507 Insufficient Storage\r\nContent-Type: application/json\r\nContent-Length: 54\r\nConnection: close\r\n\r\n"
              b'{"a":0,"b":0,"line":0,"name":"OutOfMemory","rule":108}')
 
@@ -57,184 +56,8 @@ class Otherwise(Exception):
     """The program does what no answer allows."""
 
 
-# ---- folders
-
-
-def page(draw, width, height):
-    return pages.Page(width, height, pages.some_lines(draw, width, height))
-
-
-def batch(draw, ids, sizes):
-    """The files of a batch: families of two, the named documents, of each as many pages as there are sizes."""
-    files, opt, words, records = {}, [], b"", []
-    for k, id_ in enumerate(ids):
-        records.append([id_, ids[k - k % 2], f"Ng {k}", "caf\u00e9, 2019" if k % 2 else ""])
-        for p, (width, height) in enumerate(sizes[k]):
-            image = id_ if p == 0 else f"{id_}.{p}"
-            files[f"I/{image}.tif"] = pages.tiff_of(page(draw, width, height), ("g4", "plain")[p % 2])
-            opt.append((image, "", f"I\\{image}.tif", p == 0, False, False, ""))
-            for n in range(3):
-                words += f"{image},{n},{n},0,{1 + n},1,w{n}\n".encode()
-    return files | {"load.dat": loads.dat_of(["BEGDOC", "BEGATTACH", "AUTHOR", "NOTE"], records), "load.opt": loads.opt_of(opt), "words.csv": words}
-
-
-SIZES = [[(8, 1), (64, 40)], [(33, 20)], [(40, 33), (9, 9), (64, 12)], [(50, 30)]]
-
-
-def begun(folder):
-    """A folder with a matter that has its lead alone, and the batches B1 and B2."""
-    draw = random.Random(37)
-    batches.write_folder(os.path.join(folder, "B1"), batch(draw, ["A1", "A2", "A3", "A4"], SIZES))
-    batches.write_folder(os.path.join(folder, "B2"), batch(draw, ["C1", "C2"], SIZES[:2]))
-    matter = matters.begun(days.DIGESTS[0])
-    days.write_rows(folder, matters.rows_of(matter))
-    return matter
-
-
-def imported(folder):
-    matter = begun(folder)
-    matters.batch_in(matter, batches.read_batch(folder, "B1"))
-    for k, role in ((1, "Reviewer"), (2, "Receiver"), (3, "Clerk")):
-        matter.staff.append((role, days.DIGESTS[k], f"member {k}"))
-    days.write_rows(folder, matters.rows_of(matter))
-    return matter
-
-
-def called(folder):
-    """All documents are called: Produce, Redact with boxes and a held field, withheld, Redact; and confirmed."""
-    matter = imported(folder)
-    for data in decisions():
-        days.answered(matter, data)
-    days.write_rows(folder, matters.rows_of(matter))
-    return matter
-
-
-def frozen(folder):
-    matter = called(folder)
-    matters.freeze(matter, {"id": "R-1", "volume": "V1", "prefix": "AB-", "width": 4, "from": 1, "to": 4, "fields": ["AUTHOR", "NOTE"]})
-    days.write_rows(folder, matters.rows_of(matter))
-    return matter
-
-
-def pressed(folder):
-    """The volume of R-1 stands in the folder itself, for a check."""
-    matter = frozen(folder)
-    batches.write_folder(folder, days.volume_of(matter, matter.productions[0]))
-    return matter
-
-
-def with_notice(folder):
-    frozen(folder)
-    batches.write_folder(folder, {"notice.csv": b'1,AC,2019-01-07,Ng,"Ortiz, Berg",Letter to counsel\n'})
-
-
-def with_grants(folder):
-    frozen(folder)
-    batches.write_folder(folder, {"grants.csv": b"3,R-1\n"})
-
-
-def with_page(folder):
-    batches.write_folder(folder, {"in.tif": pages.tiff_of(page(random.Random(3), 64, 40), "g4"), "out/b.tif": b"as it was"})
-
-
-def with_plain_page(folder):
-    batches.write_folder(folder, {"in.tif": pages.tiff_of(page(random.Random(3), 64, 40), "plain")})
-
-
-def changed(prepare, path, change):
-    """The same with one file changed."""
-    def prepared(folder):
-        prepare(folder)
-        place = os.path.join(folder, path)
-        with open(place, "rb") as file:
-            data = file.read()
-        with open(place, "wb") as file:
-            file.write(change(data))
-    return prepared
-
-
-# ---- requests
-
-
-def post(key, target, body):
-    data = days.as_json(body)
-    return f"POST {target} HTTP/1.1\r\nDesk-Key: {key}\r\nContent-Length: {len(data)}\r\n\r\n".encode() + data
-
-
-def get(key, target):
-    return f"GET {target} HTTP/1.1\r\nDesk-Key: {key}\r\n\r\n".encode()
-
-
-def decisions():
-    """The requests that settle the four documents."""
-    lead, reviewer = days.KEYS[0], days.KEYS[1]
-    entry = {"date": "2019-03-04", "author": "Ng", "recipients": "Ortiz, Berg", "description": "Letter"}
-    for doc, treatment in ((1, "Produce"), (2, "Redact"), (3, "Redact"), (4, "Withhold-AC")):
-        yield post(reviewer, f"/docs/{doc}/call", {"responsive": True, "treatment": treatment, "designation": "CONFIDENTIAL"})
-    yield post(reviewer, "/docs/2/box", {"num": 1, "page": 1, "left": 2, "top": 3, "width": 20, "height": 9, "basis": "AC"})
-    yield post(reviewer, "/docs/3/box", {"num": 1, "page": 1, "left": 0, "top": 0, "width": 40, "height": 30, "basis": "PI"})
-    yield post(reviewer, "/docs/3/box", {"num": 2, "page": 3, "left": 1, "top": 1, "width": 2, "height": 2, "basis": "WP"})
-    yield post(reviewer, "/docs/3/hold", {"field": "AUTHOR", "basis": "PI"})
-    for doc in (2, 3, 4):
-        yield post(reviewer, f"/docs/{doc}/entry", entry)
-        yield post(lead, f"/docs/{doc}/confirm", {})
-
-
-def asked_at_a_desk():
-    """A request of each kind, and some that are refused."""
-    lead, reviewer = days.KEYS[0], days.KEYS[1]
-    return [
-        post(lead, "/staff", {"name": "member 5", "role": "Second", "digest": days.DIGESTS[5].hex()}), *decisions(),
-        post(reviewer, "/docs/3/unbox", {"num": 2}), get(lead, "/docs/3"), get(reviewer, "/docs/3/pages/1"), get(lead, "/docs/1/pages/1/words"),
-        post(days.KEYS[5], "/docs/3/confirm", {}), post(reviewer, "/docs/2/free", {"field": "NOTE"}), post(reviewer, "/docs/3/confirm", {}),
-        post(days.KEYS[3], "/productions", {"id": "R-1", "volume": "V1", "prefix": "AB-", "width": 4, "from": 1, "to": 4, "fields": ["NOTE"]}),
-        get(days.KEYS[3], "/productions/R-1"), post(reviewer, "/docs/1/back", {}), get("nobody", "/docs/1"), get(lead, "/docs/9"),
-        post(reviewer, "/docs/2/box", {"num": 1}), b"GET / HTTP/1.1\r\n\r\n", b"\x00",
-        get(lead, "/docs/2"), post(reviewer, "/docs/2/box", {"num": 7, "page": 1, "left": 0, "top": 0, "width": 4, "height": 4, "basis": "TS"}),
-    ]
-
-
-def asked_of_a_delivery():
-    lead, receiver = days.KEYS[0], days.KEYS[2]
-    return [
-        get(receiver, "/granted"), get(receiver, "/granted/R-1/V1/MANIFEST.TXT"), get(receiver, "/granted/R-1/V1/DATA/V1.DAT"),
-        get(receiver, "/granted/R-1/V1/IMAGES/0001/AB-0001.TIF"), get(receiver, "/granted/R-1/V1/X"), get(receiver, "/granted/P/V1/MANIFEST.TXT"),
-        get(receiver, "/docs/1"), get(lead, "/docs/1"), get(receiver, "/granted/R-1/V1/TEXT/0001/AB-0007.TXT"), post(lead, "/grants", {"staff": 1, "id": "R-1"}),
-        get(receiver, "/granted/R-1/V1/DATA/V1-LOG.CSV"), post(days.KEYS[1], "/docs/1/back", {}), get(receiver, "/granted"),
-    ]
-
-
-# ---- cases
-
-Case = collections.namedtuple("Case", "name prepare words requests", defaults=(None,))
-
-PRODUCE = ["produce", "R-1", "V1", "AB-", "4", "1", "4", "AUTHOR", "NOTE"]
-CHECKED = ["check", "V1/DATA/V1.DAT", "V1/DATA/V1.OPT", "V1/MANIFEST.TXT"]
-CASES = [
-    Case("burn", with_page, ["burn", "in.tif", "3", "4", "20", "9", "b.tif", "plain"]),
-    Case("burn_g4", with_plain_page, ["burn", "in.tif", "3", "4", "20", "9", "b.tif", "g4"]),
-    Case("burn_refused", with_page, ["burn", "in.tif", "60", "4", "20", "9", "b.tif", "plain"]),
-    Case("words_refused", begun, ["burn", "in.tif"]),
-    Case("init", lambda folder: None, ["init", days.DIGESTS[0].hex()]),
-    Case("init_refused", begun, ["init", days.DIGESTS[0].hex()]),
-    Case("import", begun, ["import", "B1"]),
-    Case("import_again", imported, ["import", "B1"]),
-    Case("import_more", imported, ["import", "B2"]),
-    Case("import_differs", changed(imported, "B1/words.csv", lambda data: data + b"A1,1,0,0,1,1,x\n"), ["import", "B1"]),
-    Case("import_damaged", changed(begun, "B1/I/A3.tif", lambda data: data[:-4] + b"\0\0\0\1"), ["import", "B1"]),
-    Case("produce", called, PRODUCE),
-    Case("produce_again", frozen, PRODUCE),
-    Case("produce_refused", imported, PRODUCE),
-    Case("press", frozen, ["press", "R-1"]),
-    Case("press_refused", frozen, ["press", "R-2"]),
-    Case("log", frozen, ["log", "R-1"]),
-    Case("claw", with_notice, ["claw", "R-1", "V2", "notice.csv"]),
-    Case("check", pressed, CHECKED),
-    Case("check_refused", changed(pressed, "V1/DATA/V1-LOG.CSV", lambda data: data + b"\n"), CHECKED),
-    Case("serve", imported, ["serve", "1"], asked_at_a_desk),
-    Case("serve_two", imported, ["serve", "2"], asked_at_a_desk),
-    Case("deliver", with_grants, ["deliver", "grants.csv"], asked_of_a_delivery),
-]
+class InTurn(Exception):
+    """No thread was started, so the desks are served one behind another, each until all its connections were taken."""
 
 
 # ---- what stands
@@ -255,11 +78,11 @@ def files_in(folder):
 
 
 def in_order(files):
-    """The paths of a volume in the order in which they are written: that of its manifest, which comes last."""
-    manifest = [path for path in files if path.endswith("/MANIFEST.TXT")]
-    if len(manifest) != 1:
+    """The paths of volumes in the order in which they are written: that of the manifest of each, which comes last."""
+    manifests = sorted(path for path in files if path.endswith("/MANIFEST.TXT"))
+    if not manifests:
         return sorted(files)
-    return [line.split("  ", 1)[1] for line in files[manifest[0]].decode().splitlines()] + manifest
+    return [path for last in manifests for path in [*(line.split("  ", 1)[1] for line in files[last].decode().splitlines()), last]]
 
 
 def is_beginning(files, whole, old):
@@ -288,6 +111,8 @@ Told = collections.namedtuple("Told", "status out rows files")
 class Trial:
     """The runs of a case by the preloaded program."""
 
+    errors = subprocess.DEVNULL
+
     def __init__(self, program, library, case, mode, room):
         self.program, self.library, self.case, self.mode = program, library, case, mode
         self.template, self.folder = os.path.join(room, "template"), os.path.join(room, "folder")
@@ -315,7 +140,7 @@ class Trial:
         if os.path.exists(self.tell):
             os.remove(self.tell)
         return subprocess.Popen([self.program, *words], cwd=self.folder, env=environ, stdin=subprocess.DEVNULL, stdout=subprocess.PIPE,
-                                stderr=subprocess.DEVNULL)
+                                stderr=self.errors)
 
     def ended(self, process):
         try:
@@ -386,15 +211,23 @@ class Trial:
     def again(self):
         """With memory, over what stands."""
         due = self.right
-        if self.case.name == "init" and rows_in(self.folder):
-            due = due._replace(status=2, out=b"refused 42 MatterThere 0 0 0\n")
+        if self.case.name in ("init", "demo") and rows_in(self.folder):
+            due = due._replace(status=2, out=b"refused 42 MatterThere 0 0 0\n", files=files_in(self.folder))
         told = self.carried_out(0)
         if told != due:
             raise Otherwise(f"given again: status {told.status}, {told.out!r}")
 
+    def carry_on(self):
+        """With memory, where the day goes on behind another command's want of it."""
+        told = self.carried_out(0)
+        if told != self.right:
+            raise Otherwise(f"the day goes on: {self.case.words[:1]} gives {told.status}, {told.out!r}; due was {self.right.status}, {self.right.out!r}")
+
     def begin(self):
         """What is right, and how many growths there are. Where no thread can be started the same is right."""
         self.right = self.carried_out(0)
+        if self.case.name == "demo" and self.right.status == 1:
+            raise Otherwise("the program knows no demo")
         count = self.counts()[0]
         self.fresh()
         self.mode.append("alone")
@@ -440,6 +273,8 @@ class Desk(Trial):
             except ConnectionRefusedError:
                 if time.monotonic() - began > LIMIT:
                     raise Otherwise("no desk is opened") from None
+                if self.desks > 1 and time.monotonic() - began > SOON and is_alone(process) and open_desks():
+                    raise InTurn from None
                 time.sleep(0.001)
             finally:
                 peer.close()
@@ -485,9 +320,40 @@ class Desk(Trial):
                 self.requests, self.words = left, words
         return self.due[at]
 
+    def in_turn(self, at):
+        """Asks the desks one behind another, as they are opened."""
+        self.fresh()
+        process = self.start(at, self.words)
+        matter, left, replies, due, made = copy.deepcopy(self.matter), set(range(self.desks)), [], [], 0
+        try:
+            while left:
+                began = time.monotonic()
+                while not (found := left & open_desks()):
+                    if process.poll() is not None or time.monotonic() - began > LIMIT:
+                        raise Otherwise(f"no other desk is opened, though {len(left)} are left")
+                    time.sleep(0.01)
+                desk = found.pop()
+                left.remove(desk)
+                for data in self.requests[desk :: self.desks]:
+                    told, is_call = days.answered(matter, data)
+                    made += is_call
+                    due.append(told)
+                    replies.append(self.reply(process, FIRST_PORT + desk, data))
+            status, out = self.ended(process)
+        finally:
+            if process.poll() is None:
+                process.kill()
+                process.communicate()
+        if (replies, status, out, rows_in(self.folder)) != (due, 0, f"served {made}\n".encode(), matters.rows_of(matter)):
+            raise Otherwise(f"desks in turn: {status}, {out!r}; due was {made} calls")
+        return "in turn"
+
     def is_right(self, at):
         self.fresh()
-        replies, status, out = self.asked(at)
+        try:
+            replies, status, out = self.asked(at)
+        except InTurn:
+            return self.in_turn(at)
         rows = rows_in(self.folder)
         if (replies, status, out, rows) == self.due[None]:
             return "right"
@@ -522,6 +388,193 @@ class Desk(Trial):
         self.requests, self.words = left, words
         if status != 0 or not replies[0].startswith(b"HTTP/1.1 200 ") or rows_in(self.folder) != rows:
             raise Otherwise(f"opened again: status {status}, {replies!r}")
+
+
+class DeskInDay(Desk):
+    """The same where the day goes on: a request that isn't answered is asked once more, at once, and has the right answer then."""
+
+    def is_right(self, at):
+        self.fresh()
+        verdict, left, made, process = "right", 1, 0, None
+        due = self.due[None]
+        words = ["serve", "1", str(len(self.requests) + 1)]
+        try:
+            process = self.start(at, words)
+            for k, data in enumerate(self.requests):
+                reply = self.reply(process, FIRST_PORT, data)
+                if reply is None and k == 0:
+                    verdict, process = self.opened_again(process, words)
+                elif reply is not None and reply != due[0][k] and left:
+                    if not NO_MEMORY.startswith(reply) and not due[0][k].startswith(reply):
+                        raise Otherwise(f"request {k} of the day is replied {reply!r}")
+                    verdict, left = "507" if reply == NO_MEMORY else "cut", 0
+                else:
+                    self.is_due(k, reply)
+                    continue
+                self.is_due(k, self.reply(process, FIRST_PORT, data))
+            if left:
+                self.is_seen(self.reply(process, FIRST_PORT, get(days.KEYS[0], "/docs/1")))
+            status, out = self.ended(process)
+        finally:
+            if process.poll() is None:
+                process.kill()
+                process.communicate()
+        made = int(due[2].split()[1]) + 1
+        if (status, out) not in ((0, b"served %d\n" % k) for k in (made - 1, made)) and not (status == 6 and LACKS.startswith(out)):
+            raise Otherwise(f"the desk of the day ends with {status}, {out!r}, and {made} calls were made")
+        if rows_in(self.folder) != due[3]:
+            raise Otherwise("the rows after the desk of the day aren't those of its calls")
+        return "6" if status == 6 and verdict == "right" else verdict
+
+    def opened_again(self, process, words):
+        status, out = self.ended(process)
+        if status != 6 or not LACKS.startswith(out) or rows_in(self.folder) != self.before:
+            raise Otherwise(f"no desk was opened: {status}, {out!r}")
+        return "6", self.start(0, words)
+
+    def is_due(self, k, reply):
+        if reply != self.due[None][0][k]:
+            raise Otherwise(f"request {k} of the day is replied {reply!r}; due is {self.due[None][0][k]!r}")
+
+    def is_seen(self, reply):
+        if reply is None or not reply.startswith((b"HTTP/1.1 200 ", b"HTTP/1.1 507 ")):
+            raise Otherwise(f"a document is replied {reply!r}")
+
+    def again(self):
+        """All was asked to its end already."""
+
+    def carry_on(self):
+        replies, status, out = self.asked(0)
+        if (replies, status, out, rows_in(self.folder)) != self.due[None]:
+            raise Otherwise(f"the desk of the day with memory: {status}, {out!r}")
+
+
+class Day:
+    """The commands of a day over one folder, one after another. Where a growth of one is refused it is given again, with memory, and the
+    others follow it: each has the right answer. What stands before a command was left there by the commands before it."""
+
+    def __init__(self, program, library, case, mode, room):
+        self.folder, self.steps, self.words = os.path.join(room, "folder"), [], ["init .. check"]
+        self.made = program, library, mode, room
+        os.makedirs(self.folder)
+        case.prepare(self.folder)
+        self.case, self.counts = case, []
+
+    def begin(self):
+        program, library, mode, room = self.made
+        before = self.folder
+        for k, case in enumerate(self.case.steps):
+            place = os.path.join(room, f"{k}")
+            os.makedirs(place)
+            step = (DeskInDay if case.requests else Trial)(program, library, case._replace(prepare=left_by(before, case.prepare)), mode, place)
+            self.counts.append(step.begin())
+            before = os.path.join(place, "after")
+            shutil.copytree(step.folder, before)
+            step.between = case.prepare
+            self.steps.append(step)
+        return sum(self.counts)
+
+    def step_of(self, at):
+        for step, count in zip(self.steps, self.counts):
+            if at <= count:
+                return step, at
+            at -= count
+        return self.steps[-1], at
+
+    def sites(self):
+        found, passed = [], 0
+        for step, count in zip(self.steps, self.counts):
+            found += [passed + at for at in step.sites()]
+            passed += count
+        return found
+
+    def is_right(self, at):
+        step, own = self.step_of(at)
+        self.folder = step.folder
+        verdict = step.is_right(own)
+        step.again()
+        for later in self.steps[self.steps.index(step) + 1 :]:
+            shutil.rmtree(later.folder, ignore_errors=True)
+            shutil.copytree(self.folder, later.folder)
+            later.between(later.folder)
+            self.folder = later.folder
+            later.carry_on()
+        return verdict
+
+    def again(self):
+        """Each was given again."""
+
+
+def left_by(before, prepare):
+    """What a command of the day begins with: what stands behind the one before it."""
+    def prepared(folder):
+        shutil.copytree(before, folder, dirs_exist_ok=True)
+        prepare(folder)
+        rows = rows_in(folder)
+        return matters.load(rows) if rows else None
+    return prepared
+
+
+class Lines(Trial):
+    """The runs of bp_lines over files of lines. Where memory runs out a line is told so, and what follows it in its file may be told
+    otherwise as well; where it runs out for the words of a line, which bp_script reads, that is told as not read; or the program ends with 1,
+    and says on standard error why."""
+
+    def __init__(self, program, library, case, mode, room):
+        beside = [os.path.join(os.path.dirname(program), "bp_lines"), os.path.join(HERE, "..", "crates", "bp_lines", "out", "bp_lines")]
+        found = [place for place in (os.environ.get("LINES"), *beside) if place and os.path.exists(place)]
+        if not found:
+            raise Otherwise("there is no bp_lines beside the program")
+        super().__init__(os.path.abspath(found[0]), library, case, mode, room)
+        self.words = sorted(os.listdir(self.template), key=lambda name: int(name.split(".")[0]))
+        self.case = case._replace(words=self.words)
+        self.errors = tempfile.TemporaryFile()
+
+    def begin(self):
+        count = super().begin()
+        if self.right.status != 0 or not self.right.out.endswith(b" lines, 0 of them told otherwise\n"):
+            raise Otherwise(f"bp_lines tells {self.right.out!r}")
+        return count
+
+    def is_right(self, at):
+        self.fresh()
+        self.errors.seek(0)
+        self.errors.truncate()
+        told = self.carried_out(at)
+        if told == self.right:
+            return "right"
+        lines, lacking, verdict = told.out.decode("utf-8", "replace").split("\n"), set(), "1"
+        others = 0
+        for k, line in enumerate(lines):
+            name, _, rest = line.partition(":")
+            text = rest.partition(": ")[2]
+            if name in lacking or name in self.words and text in ("out of memory", "not read"):
+                verdict = verdict if name in lacking else "told" if text == "out of memory" else "not read"
+                lacking.add(name)
+                others += 1
+            elif line and line != self.right.out.decode().replace(" 0 of", f" {others} of").rstrip("\n") and k + 1 < len(lines):
+                raise Otherwise(f"bp_lines tells {line!r}, status {told.status}")
+        self.errors.seek(0)
+        why = self.errors.read()
+        if told.status != 0 and (told.status != 1 or b"memory" not in why and b"no page is made" not in why):
+            raise Otherwise(f"bp_lines ends with {told.status}, {why!r}")
+        if told.status == 0 and not lacking:
+            raise Otherwise(f"bp_lines tells {told.out!r}")
+        return verdict if told.status == 0 else "1"
+
+    def again(self):
+        """Nothing is left behind."""
+
+
+def is_alone(process):
+    return len(os.listdir(f"/proc/{process.pid}/task")) == 1
+
+
+def open_desks():
+    """The desks, from 0, at whose ports somebody listens."""
+    with open("/proc/net/tcp", encoding="ascii") as file:
+        rows = [line.split() for line in file.readlines()[1:]]
+    return {int(row[1].split(":")[1], 16) - FIRST_PORT for row in rows if row[3] == "0A"} & set(range(16))
 
 
 def exchanged(peer, data):
@@ -560,10 +613,11 @@ class Sweep:
         self.name, self.keep = name, keep
         base, *mode = name.split("+")
         self.case = next(case for case in CASES if case.name == base)
-        if self.case.requests and "lasting" in mode:
-            raise Otherwise("of a desk one growth is refused, not all from there on")
+        if (self.case.requests or self.case.steps) and "lasting" in mode:
+            raise Otherwise("of a desk or a day one growth is refused, not all from there on")
         self.room = tempfile.mkdtemp(dir="/dev/shm" if os.path.isdir("/dev/shm") else None)
-        self.trial = (Desk if self.case.requests else Trial)(program, library, self.case, mode, self.room)
+        kind = Desk if self.case.requests else Day if self.case.steps else Lines if self.case.is_lines else Trial
+        self.trial = kind(program, library, self.case, mode, self.room)
         self.count = self.trial.begin()
         self.place = os.path.join(keep, f"{name}-{sum_}.tried")
         self.tried = {}
@@ -606,7 +660,8 @@ class Sweep:
     def row(self):
         verdicts = collections.Counter(self.tried.values())
         told = ", ".join(f"{verdict}: {times}" for verdict, times in sorted(verdicts.items()))
-        return f"| {self.name} | {' '.join(self.trial.words if self.case.requests else self.case.words)[:60]} | {self.count} | {self.site_count} | {len(self.tried)} | {told} |"
+        words = getattr(self.trial, "words", self.trial.case.words)
+        return f"| {self.name} | {' '.join(words)[:60]} | {self.count} | {self.site_count} | {len(self.tried)} | {told} |"
 
     def end(self):
         shutil.rmtree(self.room, ignore_errors=True)

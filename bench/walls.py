@@ -2,15 +2,18 @@
 """Whether want of memory can tell what is covered: walls.py PROGRAM [PAIRS] [SEED] [KEEP]
 
 Pairs of matters that agree: they have the same decisions, and differ in covered pixels, in words that a box touches, in the values of held
-fields, or in pages, words and values of withheld documents, or in all of these. For each of a pair `press` runs over a kept production, and
-`produce` over the decisions alone, with growths.c preloaded, which lists every growth: kind, size, and where in the program. The growths
-from the end of the load of the tables to the end of the program have to be the same list. The load ends where the growths of a run part
-that is refused right after it, by an id of the same length that no production has.
+fields, or in pages, words and values of withheld documents, or in all of these. For each of a pair `press` and `claw` run over a kept
+production, and `produce` over the decisions alone, with growths.c preloaded, which lists every growth: kind, size, and where in the program.
+The growths from the end of the load of the tables to the end of the program have to be the same list. The load ends where the growths of a
+run part that is refused right after it, by an id of the same length that no production has. With each pair comes one of scans that differ below
+a box, in a file of both forms in turn: the growths of `burn` behind the reading of the scan, which ends where those of a run part whose box is refused.
 
-Each pair runs once with no thread, so that the order is one, and once with threads, when the sizes are compared as a bag. Prints a table
-by kind of difference, and then the first growth that differs in each pair of lists, by its place in the program (by its symbols, where it
-has any), with the first few sizes. A pair's matters have to give the same volume by the program and by the model. KEEP has the folders of the first pair of each cause.
-Needs cc. Ends with 1 where a list differs.
+Each pair runs once with no thread, so that the order is one, and once with threads, when the sizes are compared as a bag; where bags differ
+one of the two runs again, and differs from itself or not. Of `produce` the lists are also compared without what the freeze asks for, that is
+the room that it makes, its commit, and the closing behind that (by the symbols of the program). Prints a table by kind of difference, and then
+the first growth that differs in each pair of lists, by its place in the program, with the first few sizes. A pair's matters have to give the
+same volume by the program and by the model. KEEP has the folders of the first pair of each cause. Needs cc. Ends with 1 where a list differs
+beside the freeze.
 """
 import collections
 import copy
@@ -34,6 +37,8 @@ from fuzz_tools import Rule  # noqa: E402
 HERE = os.path.dirname(os.path.abspath(__file__))
 LIMIT, WORDS = 300, 27  # seconds; words of a record
 KINDS = ("pixels", "words", "values", "withheld", "all")
+NOTICE, SCAN = "notice.csv", "in.tif"
+FREEZE = ("make_room", "commit", "bp_rules", "bp_keep", "sqlite")
 Growth = collections.namedtuple("Growth", "thread kind size places")
 
 
@@ -129,6 +134,21 @@ def a_pair(draw, room, kind):
             return made, asked, frozen, others
 
 
+def a_notice(draw, production):
+    """One of the documents that are shown is claimed back; none where none is."""
+    shown = [item["doc"] for item in production["items"] if item["treatment"] not in matters.PRIVILEGED]
+    return {NOTICE: f"{draw.choice(shown)},{draw.choice(('AC', 'WP'))},2019-01-07,Ng,Berg,Letter\n".encode()} if shown else None
+
+
+def two_scans(draw):
+    """Two page files that differ below a box, and the box."""
+    page = pages.some_page(draw)
+    left, top = draw.randrange(page.width), draw.randrange(page.height)
+    box = left, top, draw.randrange(1, page.width - left + 1), draw.randrange(1, page.height - top + 1)
+    form = draw.choice(("plain", "g4"))
+    return [{SCAN: pages.tiff_of(made, form)} for made in (page, other_pixels(draw, page, [box]))], [str(n) for n in box]
+
+
 def other_document(draw, matter, doc):
     """Other pages, words and values, and perhaps more or fewer pages."""
     for page in range(1, matter.page_count(doc) + 1):
@@ -152,11 +172,14 @@ class Program:
         self.symbols = symbols_of(self.path)
 
     def growths(self, rows, words, is_alone):
-        """The growths of a run over these rows, and what it gave: status, line, files."""
+        """The growths of a run over these rows, or these files, and what it gave: status, line, files."""
         folder = os.path.join(self.room, "folder")
         shutil.rmtree(folder, ignore_errors=True)
         os.makedirs(folder)
-        days.write_rows(folder, rows)
+        files = {name: data for name, data in rows.items() if isinstance(name, str)}
+        batches.write_folder(folder, files)
+        if len(files) < len(rows):
+            days.write_rows(folder, {key: body for key, body in rows.items() if key not in files})
         environ = {"LD_PRELOAD": self.library, "GROWTH_LIST": self.list, **({"GROWTH_ALONE": "1"} if is_alone else {})}
         done = subprocess.run([self.path, *words], cwd=folder, env=environ, capture_output=True, timeout=LIMIT)
         found = []
@@ -168,24 +191,40 @@ class Program:
                 found.append(Growth(record[0], chr(record[1]), record[2], record[3:]))
         return found, (done.returncode, done.stdout, days.files_below(os.path.join(folder, "out")))
 
-    def after_load(self, rows, words, is_alone):
-        """The growths behind the load, and what the run gave: the load is what a run that is refused right after it has as well."""
-        whole, told = self.growths(rows, words, is_alone)
-        refused = [words[0], "R 0", *words[2:]]
-        loaded, (status, _, _) = self.growths(rows, refused, is_alone)
+    def after_load(self, rows, words):
+        """The growths behind the load, how many were before, and what the run gave: the load is what a run that is refused right after it
+        has as well."""
+        whole, told = self.growths(rows, words, True)
+        refused = [*words[:2], "999999999", *words[3:]] if words[0] == "burn" else [words[0], "R 0", *words[2:]]
+        loaded, (status, _, _) = self.growths(rows, refused, True)
         if status != 2:
             sys.exit(f"walls.py: {refused} ended with {status}")
         begin = next((k for k, (one, two) in enumerate(zip(whole, loaded)) if (one.kind, one.size) != (two.kind, two.size)), len(loaded))
-        return whole[begin:], told
+        return whole[begin:], begin, told
 
-    def place(self, growth):
-        """Where a growth was asked for: the functions of the product and of sqlite on the stack, or the numbers of all."""
+    def names(self, growth):
+        """The functions on the stack, from the innermost on."""
         names = []
         for at in growth.places:
             if at:
                 name = name_of(self.symbols, at).split("::<")[0]
                 if not names or names[-1] != name:
                     names.append(name)
+        return names
+
+    def is_of_freeze(self, growth):
+        """Whether the freeze of `produce` asked for it, and not the press behind it: the room that it makes, its commit or the closing of the
+        database behind that comes first on the stack."""
+        for name in self.names(growth):
+            if name.startswith(("bp_press", "bp_claw")):
+                return False
+            if any(word in name for word in FREEZE):
+                return True
+        return False
+
+    def place(self, growth):
+        """Where a growth was asked for: the functions of the product and of sqlite on the stack, or the numbers of all."""
+        names = self.names(growth)
         own = [name for name in names if name.startswith(("bp_", "sqlite"))]
         return " < ".join((own or names)[:3])
 
@@ -230,43 +269,89 @@ class Walls:
         self.causes = collections.defaultdict(list)
 
     def pair(self, kind, command, words, rows):
-        told = [self.program.after_load(each, words, True) for each in rows]
-        if told[0][1] != told[1][1] or told[0][1][0] != 0:
-            sys.exit(f"walls.py: two matters that agree aren't told alike by {command}: {told[0][1][:2]}, {told[1][1][:2]}")
+        runs = [self.program.after_load(each, words) for each in rows]
+        told = runs[0][2]
+        if told != runs[1][2] or told[0] != 0:
+            sys.exit(f"walls.py: two matters that agree aren't told alike by {command}: {told[:2]}, {runs[1][2][:2]}")
         counts = self.table[kind, command]
         counts["pairs"] += 1
-        counts["growths"] += len(told[0][0])
-        found = first_difference(told[0][0], told[1][0])
+        counts["growths"] += len(runs[0][0])
+        counts["of these beside the freeze"] += len(self.beside(command, runs[0][0]))
+        found, rest = self.compared(command, [run[0] for run in runs])
+        counts["lists differ"] += found is not None
+        counts["lists differ beside it"] += rest is not None
         if found:
-            counts["lists differ"] += 1
-            counts["longer or shorter"] += len(told[0][0]) != len(told[1][0])
-            self.cause(kind, command, *found[1:], rows)
-        together = [self.program.after_load(each, words, False)[0] for each in rows]
-        counts["bags differ, with threads"] += bag(together[0]) != bag(together[1])
-        return told[0][1][2]
+            self.cause(kind, command, *(rest or found)[1:], rows, "beside the freeze" if rest else "")
+        together = [self.program.growths(each, words, False)[0][run[1] :] for each, run in zip(rows, runs)]
+        if bag(together[0]) != bag(together[1]):
+            counts["bags differ, with threads"] += 1
+            if bag(self.beside(command, together[0])) != bag(self.beside(command, together[1])):
+                again = self.program.growths(rows[0], words, False)[0][runs[0][1] :]
+                is_own = bag(self.beside(command, together[0])) != bag(self.beside(command, again))
+                counts["bags that differ from run to run" if is_own else "bags differ beside it"] += 1
+        return told[2]
 
-    def cause(self, kind, command, one, two, rows):
-        place = self.program.place(one or two)
+    def compared(self, command, lists):
+        """The first difference of all, and the first beside what the freeze does."""
+        return first_difference(*lists), first_difference(*(self.beside(command, part) for part in lists))
+
+    def beside(self, command, growths):
+        return [each for each in growths if command != "produce" or not self.program.is_of_freeze(each)]
+
+    def cause(self, kind, command, one, two, rows, where):
+        place = " ".join(word for word in (where, self.program.place(one or two)) if word)
         sizes = (one.size if one else None, two.size if two else None)
         if (command, place) not in self.causes and self.keep:
             folder = os.path.join(self.keep, f"{command}-{len(self.causes)}")
             for name, each in zip("ab", rows):
                 os.makedirs(os.path.join(folder, name), exist_ok=True)
-                days.write_rows(os.path.join(folder, name), each)
+                batches.write_folder(os.path.join(folder, name), {path: data for path, data in each.items() if isinstance(path, str)})
+                days.write_rows(os.path.join(folder, name), {key: body for key, body in each.items() if not isinstance(key, str)})
         self.causes[command, place].append((kind, sizes))
 
     def tell(self):
-        print("| Difference | Command | Pairs | Growths after the load | Lists that differ | of these in length | Bags that differ, with threads |")
-        print("|---|---|---|---|---|---|---|")
+        columns = ("pairs", "growths", "of these beside the freeze", "lists differ", "lists differ beside it", "bags differ, with threads",
+                   "bags differ beside it", "bags that differ from run to run")
+        print(f"| Difference | Command | {' | '.join(columns)} |\n|---|---{'|---' * len(columns)}|")
         for (kind, command), counts in self.table.items():
-            print(f"| {kind} | {command} | {counts['pairs']} | {counts['growths']} | {counts['lists differ']} | {counts['longer or shorter']} | "
-                  f"{counts['bags differ, with threads']} |")
+            print(f"| {kind} | {command} | {' | '.join(str(counts[column]) for column in columns)} |")
         print()
         for (command, place), found in sorted(self.causes.items(), key=lambda pair: -len(pair[1])):
             kinds = collections.Counter(kind for kind, _ in found)
             print(f"{command}, {len(found)} times ({', '.join(f'{kind} {times}' for kind, times in kinds.items())}): {place}")
             print(f"    sizes {', '.join(f'{a} / {b}' for _, (a, b) in found[:6])}")
-        return any(counts["lists differ"] or counts["bags differ, with threads"] for counts in self.table.values())
+        return any(counts["lists differ beside it"] or counts["bags differ beside it"] for counts in self.table.values())
+
+
+Compared = collections.namedtuple("Compared", "kind command words inputs volume")
+
+
+def some_pairs(draw, count, room):
+    """What is compared of each pair: a command and its two inputs, rows and files; of `press` the volume that is due, too."""
+    for k in range(count):
+        kind = KINDS[k % len(KINDS)]
+        made, asked, frozen, others = a_pair(draw, room, kind)
+        production = frozen.productions[0]
+        volume = days.volume_of(frozen, production)
+        if volume != days.volume_of(others[1], production) or not matters.is_valid(others[1]) or not matters.is_valid(others[0]):
+            sys.exit("walls.py: the model's matters don't agree")
+        words = ["produce", "R-0", "V0", "AB-", "4", "1", str(asked["to"]), *asked["fields"]]
+        kept = [matters.rows_of(matter) for matter in (frozen, others[1])]
+        notice = a_notice(draw, production)
+        scans, box = two_scans(draw)
+        yield [
+            Compared(kind, "press", ["press", "R-0"], kept, volume),
+            Compared(kind, "produce", words, [matters.rows_of(matter) for matter in (made, others[0])], None),
+            *([Compared(kind, "claw", ["claw", "R-0", "V9", NOTICE], [rows | notice for rows in kept], None)] if notice else []),
+            Compared("a scan", "burn", ["burn", SCAN, *box, "b.tif", draw.choice(("plain", "g4"))], scans, None),
+        ]
+
+
+def compare(walls, pairs):
+    for each in (each for pair in pairs for each in pair):
+        files = walls.pair(each.kind, each.command, each.words, each.inputs)
+        if each.volume is not None and files != each.volume:
+            sys.exit("walls.py: the program's volume isn't the model's")
 
 
 def main():
@@ -278,19 +363,8 @@ def main():
     signal.signal(signal.SIGTERM, lambda *_: sys.exit("ended"))
     walls = Walls(None, keep)
     try:
-        walls.program, draw = Program(sys.argv[1], room), random.Random(f"walls {seed}")
-        for k in range(count):
-            kind = KINDS[k % len(KINDS)]
-            made, asked, frozen, others = a_pair(draw, room, kind)
-            production = frozen.productions[0]
-            volume = days.volume_of(frozen, production)
-            if volume != days.volume_of(others[1], production) or not matters.is_valid(others[1]) or not matters.is_valid(others[0]):
-                sys.exit("walls.py: the model's matters don't agree")
-            words = ["produce", "R-0", "V0", "AB-", "4", "1", str(asked["to"]), *asked["fields"]]
-            files = walls.pair(kind, "press", ["press", "R-0"], [matters.rows_of(matter) for matter in (frozen, others[1])])
-            if files != volume:
-                sys.exit("walls.py: the program's volume isn't the model's")
-            walls.pair(kind, "produce", words, [matters.rows_of(matter) for matter in (made, others[0])])
+        walls.program = Program(sys.argv[1], room)
+        compare(walls, some_pairs(random.Random(f"walls {seed}"), count, room))
     finally:
         failed = walls.tell()
         shutil.rmtree(room)

@@ -15,16 +15,21 @@ scratch=$(mktemp -d)
 trap 'rm -rf "$scratch"' EXIT
 (cd "$here/../crates/bp_bench" && rt run -- codes white index 1) > "$scratch/build.log" 2>&1 || { cat "$scratch/build.log"; exit 1; }
 
-# the file of an almost white page of 64 by 32 pixels
-python3 - "$scratch/small.tif" << 'END'
+# the files of an almost white page of 64 by 32 pixels, uncompressed, and of a white one of 20,000 by 10,000, of which a row is a bit 1 in T.6
+python3 - "$scratch" << 'END'
 import struct, sys
-entries = [(256, 4, 64), (257, 4, 32), (258, 3, 1), (259, 3, 1), (262, 3, 0), (273, 4, 122), (278, 4, 32), (279, 4, 256)]
-strip = bytes(8) * 31 + b"\0\0\0\1\0\0\0\0"
-head = b"II" + struct.pack("<HI", 42, 8) + struct.pack("<H", len(entries))
-for tag, kind, value in entries:
-    head += struct.pack("<HHI", tag, kind, 1) + (struct.pack("<I", value) if kind == 4 else struct.pack("<HH", value, 0))
-head += struct.pack("<I", 0)
-open(sys.argv[1], "wb").write(head.ljust(122, b"\0") + strip)
+
+def write(name, width, height, compression, strip):
+    entries = [(256, 4, width), (257, 4, height), (258, 3, 1), (259, 3, compression), (262, 3, 0), (273, 4, 122), (278, 4, height),
+               (279, 4, len(strip))]
+    head = b"II" + struct.pack("<HI", 42, 8) + struct.pack("<H", len(entries))
+    for tag, kind, value in entries:
+        head += struct.pack("<HHI", tag, kind, 1) + (struct.pack("<I", value) if kind == 4 else struct.pack("<HH", value, 0))
+    head += struct.pack("<I", 0)
+    open(f"{sys.argv[1]}/{name}", "wb").write(head.ljust(122, b"\0") + strip)
+
+write("small.tif", 64, 32, 1, bytes(8) * 31 + b"\0\0\0\1\0\0\0\0")
+write("white.tif", 20000, 10000, 4, bytes([255]) * 1250 + bytes([0, 16, 1]))
 END
 
 # job, name: the least seconds of processor time of three runs, and the most memory in MB
@@ -67,17 +72,6 @@ for count in 1000 2000 5000 10000; do
     rm -rf "$scratch/S$count"
 done
 
-# a white page of 20,000 by 10,000 is a bit 1 a row in T.6, and the end of the block
-python3 - "$scratch/white.tif" << 'END'
-import struct, sys
-strip = bytes([255]) * 1250 + bytes([0, 16, 1])
-entries = [(256, 4, 20000), (257, 4, 10000), (258, 3, 1), (259, 3, 4), (262, 3, 0), (273, 4, 122), (278, 4, 10000), (279, 4, len(strip))]
-head = b"II" + struct.pack("<HI", 42, 8) + struct.pack("<H", len(entries))
-for tag, kind, value in entries:
-    head += struct.pack("<HHI", tag, kind, 1) + (struct.pack("<I", value) if kind == 4 else struct.pack("<HH", value, 0))
-head += struct.pack("<I", 0)
-open(sys.argv[1], "wb").write(head.ljust(122, b"\0") + strip)
-END
 for count in 1 25; do
     make "W$count" "$count" "$scratch/white.tif" 4 1
     set -- $(cost_of import "W$count")

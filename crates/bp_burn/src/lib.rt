@@ -5,7 +5,8 @@
 //! label; `covered_runs` covers one row, as runs, and `produced_strip` makes the strip of the page that
 //! goes out of the page's strip, a row at a time, which `CoveredRows` reads and covers in room that was
 //! taken before; `strip_of_rows` makes it of such rows and sees no more of the page; `slip_page` makes
-//! the sheet that stands for a withheld document. Their contracts cite `burned`, `covered`, `produced_of` and `slip_of`.
+//! the sheet that stands for a withheld document. Their contracts cite `burned`, `covered`,
+//! `produced_of` and `slip_of`.
 #![tactic(auto)]
 
 mod band;

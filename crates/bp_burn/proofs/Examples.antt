@@ -1,11 +1,14 @@
 -- Worked examples of the definitions in specs/, each run by the check.
-use Rattle.std.proofs.Common.{◌≡◌, ℕ, Bool, true, false, List, [], ◌∷◌, ◌++◌, map, replicate, refl}
-use Rattle.std.specs.Prelude.{codes, not}
+use Rattle.std.proofs.Common.{◌≡◌, ◌<◌, ℕ, zero, suc, Bool, true, false, List, [], ◌∷◌, ◌++◌, map, replicate, refl, arith}
+use Rattle.std.specs.Prelude.{codes, length, not, slice_index_or}
 use Rattle.std.specs.List.{range_with_len}
+use Rattle.bp_codes.specs.Bits.{bits_of}
+use Rattle.bp_codes.specs.CodeLists.{mode_codes}
 use Rattle.bp_codes.specs.Glyphs.{glyph_rows}
+use Rattle.bp_codes.specs.declared.span.Fill.TheVariants.{High}
 use Rattle.bp_core.specs.declared.rectangle.Rect.{Rect}
 use Rattle.bp_rows.specs.declared.resolution.Unit.TheVariants.{Inch}
-use Rattle.bp_rows.specs.Image.{Image}
+use Rattle.bp_rows.specs.Image.{FitsRes, Image, IsPage}
 use Rattle.bp_core.specs.declared.review.Basis.{Basis}
 use Rattle.bp_core.specs.declared.review.Basis.TheVariants.{Ac, Pi}
 use Rattle.bp_core.specs.declared.stamps.Ink.{Ink}
@@ -15,6 +18,7 @@ use Rattle.bp_burn.specs.Band.{band_texts, produced_of, slip_text}
 use Rattle.bp_burn.specs.Covered.{covered_pixel}
 use Rattle.bp_burn.specs.Drawn.{columns_of, has_glyphs, is_drawn}
 use Rattle.bp_burn.specs.Ink.{in_row, inked}
+use Rattle.bp_burn.specs.RowsOut.{RowsOut, HasBits, IsOneRow, IsOutRoom, above_out, last_out}
 use Rattle.bp_burn.specs.Strips.{touches_above, touches_row}
 use Rattle.bp_burn.specs.declared.band.TheConstants.{BAND_ROWS, MARGIN, TEXT_TOP}
 use Rattle.bp_burn.specs.declared.drawing.TheConstants.{COLUMNS, PITCH, SCALE}
@@ -155,6 +159,49 @@ below_letters = refl
 black_beside : map (λ c. covered_pixel Lettered (stamp Ac 4 4 39 27 ∷ []) 7 c true) (range_with_len 0 12) ≡ runs true (10 ∷ 2 ∷ [])
 unfolding glyph_rows
 black_beside = refl
+
+-- ---- rows on their way out
+
+across : (r : ℕ) → r < 1 → length (slice_index_or ((false ∷ false ∷ []) ∷ []) r []) ≡ 2
+across zero low = refl
+across (suc r) low = omega (arith, low)
+
+two_hundred : FitsRes (record { num = 200; den = 1 })
+two_hundred = record { num = omega arith; den = omega arith }
+
+is_page : IsPage two_columns
+is_page = record { sides = refl; xres = two_hundred; yres = two_hundred; grid = record { down = refl; across = across } }
+
+-- the strip of the page of two columns: V0 for its row, and the end of the page
+abbrev two_bits : List Bool
+two_bits = bits_of High (0x80 ∷ 0x08 ∷ 0x00 ∷ 0x80 ∷ [])
+
+has_bits : HasBits 2 1 two_bits two_columns
+unfolding mode_codes
+has_bits = record { page = is_page; wide = refl; high = refl; codes = refl }
+
+-- its row, read and covered by the box past the edges
+abbrev row_out : RowsOut
+row_out = record {
+  bits = two_bits;
+  width = 2;
+  height = 1;
+  ink = Black;
+  stamps = stamp Ac 1 0 3 5 ∷ [];
+  row = 1;
+}
+
+black_at_the_edge : last_out row_out two_columns ≡ false ∷ true ∷ []
+black_at_the_edge = refl
+
+white_above : above_out row_out two_columns ≡ false ∷ false ∷ []
+white_above = refl
+
+one_row : IsOneRow 2 (false ∷ true ∷ []) (record two_columns { rows = (false ∷ true ∷ []) ∷ [] })
+one_row = record { wide = refl; high = refl; row = refl }
+
+white_room : IsOutRoom 2 two_columns (2 ∷ [])
+white_room = record { wide = refl; high = refl; blank = refl }
 
 -- ---- the numbers that the definitions cite, in pixels
 

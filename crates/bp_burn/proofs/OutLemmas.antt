@@ -1,17 +1,17 @@
 -- Rows on their way out: carry what is kept over from one row to the next, and to the strip that goes out.
-use Rattle.std.proofs.Common.{ℕ, suc, ◌≡◌, ◌+◌, ◌-◌, ◌<◌, ◌≤◌, ◌&&◌, ◌||◌, Bool, true, false, not, nat_le, nat_lt, List, [], ◌∷◌, ◌++◌, length, take, get_or, replicate, refl, sym, ap, subst, ◌∙◌, arith, inl, inr}
+use Rattle.std.proofs.Common.{ℕ, suc, ◌≡◌, ◌+◌, ◌-◌, ◌<◌, ◌≤◌, ◌&&◌, ◌||◌, Bool, true, false, not, nat_le, nat_lt, List, [], ◌∷◌, length, take, get_or, replicate, refl, sym, ap, subst, ◌∙◌, arith, inl, inr}
 use Rattle.std.proofs.lemmas.Bool.{cases_lt, le-leb, lt-ltb}
 use Rattle.std.proofs.lemmas.Bool.Decides.{nat_tests}
-use Rattle.std.proofs.lemmas.List.{ext_get_or, get_or-replicate, get_or-set_same, get_or_past, length-replicate, length-take, append-nil}
+use Rattle.std.proofs.lemmas.List.{ext_get_or, get_or-replicate, get_or-set_same, length-take, append-nil}
 use Rattle.bp_core.specs.declared.stamps.Ink.{Ink}
 use Rattle.bp_core.specs.declared.stamps.Stamp.{Stamp}
 use Rattle.bp_codes.specs.declared.span.Fill.TheVariants.{High}
 use Rattle.bp_codes.specs.Bits.{bits_of}
 use Rattle.bp_rows.specs.Burned.{burned, covers, row_part}
-use Rattle.bp_rows.specs.Changes.{Rises, Shows, odd, place_at}
+use Rattle.bp_rows.specs.Changes.{Shows, odd, place_at}
 use Rattle.bp_rows.specs.Image.{Image, pixel, row_of, with_row}
 use Rattle.bp_rows.specs.Runs.{painted_runs}
-use Rattle.bp_rows.proofs.BurnedLemmas.{burned_is_grid, pixel-burned}
+use Rattle.bp_rows.proofs.BurnedLemmas.{pixel-burned}
 use Rattle.bp_rows.proofs.ShownLemmas.{odd_two, up}
 use Rattle.bp_t6.specs.SoFar.{AddedSoFar, HasAdded, HasNextRow, ReadSoFar, ReadsPage, row_above, unread}
 use Rattle.bp_t6.specs.Written.{strip_of}

@@ -69,21 +69,28 @@ pub record IsOutRoom (width : ℕ) (line : Image) (white : List ℕ) : Type 0 wh
   pub blank : white ≡ width ∷ []
 
 -- what is known of the row of a page that was read last
-pub record HasGoneOut (p : Image) (reader : ReadSoFar) (from : ℕ) (line : Image) (ink : Ink) (stamps : List Stamp) (row : ℕ) : Type 0 where
-  pub shows : Shows reader.above reader.width (row_of p row)
-  pub code : slice_range reader.bits from reader.at ≡ row_code (row_above p row) (row_of p row)
-  pub painted : touches_row stamps row ≡ true → row_of line 0 ≡ row_of (covered ink p stamps) row
+pub record HasGoneOut
+    (p : Image) (reader : ReadSoFar) (from : ℕ) (line : Image) (ink : Ink) (stamps : List Stamp) (row : ℕ)
+    : Type 0
+  where
+    pub shows : Shows reader.above reader.width (row_of p row)
+    pub code : slice_range reader.bits from reader.at ≡ row_code (row_above p row) (row_of p row)
+    pub painted : touches_row stamps row ≡ true → row_of line 0 ≡ row_of (covered ink p stamps) row
 
 -- the reader stands behind so many rows of its page, and the last of them is at hand
-pub record IsGoingOut (reader : ReadSoFar) (from : ℕ) (line : Image) (white : List ℕ) (ink : Ink) (stamps : List Stamp) (height row : ℕ) : Type 0 where
-  pub page : Image
-  pub own : HasBits reader.width height reader.bits page
-  pub reads : (p : Image) → HasBits reader.width height reader.bits p → ReadsPage p row reader
-  pub down : row ≤ height
-  pub before : from ≤ reader.at
-  pub wide : line.width ≡ reader.width
-  pub high : line.height ≡ 1
-  pub blank : white ≡ reader.width ∷ []
-  pub last : 0 < row →
-      (p : Image) → HasBits reader.width height reader.bits p →
-      HasGoneOut p reader from line ink stamps (row - 1)
+pub record IsGoingOut
+    (reader : ReadSoFar) (from : ℕ) (line : Image) (white : List ℕ) (ink : Ink) (stamps : List Stamp)
+    (height row : ℕ)
+    : Type 0
+  where
+    pub page : Image
+    pub own : HasBits reader.width height reader.bits page
+    pub reads : (p : Image) → HasBits reader.width height reader.bits p → ReadsPage p row reader
+    pub down : row ≤ height
+    pub before : from ≤ reader.at
+    pub wide : line.width ≡ reader.width
+    pub high : line.height ≡ 1
+    pub blank : white ≡ reader.width ∷ []
+    pub last : 0 < row →
+        (p : Image) → HasBits reader.width height reader.bits p →
+        HasGoneOut p reader from line ink stamps (row - 1)

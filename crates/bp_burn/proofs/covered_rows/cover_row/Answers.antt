@@ -1,4 +1,4 @@
-use Rattle.std.proofs.Common.{◌≡◌, ◌<◌, ◌≤◌, false, true, ap, refl, sym, ◌∙◌, arith}
+use Rattle.std.proofs.Common.{◌≡◌, ◌<◌, false, true, ap, refl, sym, ◌∙◌, arith}
 use Rattle.bp_rows.specs.Image.{Image, row_of}
 use Rattle.bp_burn.proofs.RowLemmas.{same_row}
 use Rattle.bp_burn.proofs.covered_rows.cover_row.Goals as goal

@@ -1,8 +1,6 @@
 use Rattle.std.proofs.Common.{◌≡◌, ◌<◌, ◌+◌, ℕ, List, Bool, take, sym, ap, ◌∙◌, subst, arith}
-use Rattle.std.specs.Prelude.{IsTrue}
 use Rattle.std.proofs.lemmas.List.{take_all}
-use Rattle.bp_rows.specs.Image.{Image, row_of}
-use Rattle.bp_rows.specs.Limits.{sides_are_imported}
+use Rattle.bp_rows.specs.Image.{row_of}
 use Rattle.bp_t6.specs.SoFar.{HasAdded, last_line, row_above}
 use Rattle.bp_t6.specs.Written.{white_line}
 use Rattle.bp_burn.specs.Covered.{covered, covered_pixel}

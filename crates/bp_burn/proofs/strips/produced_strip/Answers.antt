@@ -2,12 +2,11 @@ use Rattle.std.proofs.Common.{◌≡◌, ℕ, sym, ap, ◌∙◌, subst}
 use Rattle.std.specs.Prelude.{IfOk, IsTrue}
 use Rattle.bp_codes.specs.declared.span.Fill.TheVariants.{High}
 use Rattle.bp_codes.specs.Bits.{bits_of}
-use Rattle.bp_rows.specs.Image.{Image}
 use Rattle.bp_rows.specs.Limits.{sides_are_imported}
 use Rattle.bp_t6.specs.Written.{strip_of}
 use Rattle.bp_burn.specs.Band.{produced_of}
 use Rattle.bp_burn.specs.RowsOut.{AreOf, HasPage, RowsOut}
-use Rattle.bp_burn.specs.Strips.{HasStrip, IsPageStrip}
+use Rattle.bp_burn.specs.Strips.{IsPageStrip}
 use Rattle.bp_burn.proofs.MakingLemmas.{imported_width}
 use Rattle.bp_burn.proofs.OutLemmas.{bits_of_strip}
 use Rattle.bp_burn.proofs.strips.produced_strip.Goals as goal

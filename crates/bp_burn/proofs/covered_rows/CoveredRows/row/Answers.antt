@@ -1,7 +1,7 @@
-use Rattle.std.proofs.Common.{◌≡◌, ◌<◌, ◌≤◌, ◌+◌, ◌-◌, ℕ, List, Bool, false, true, length, sym, ap, ◌∙◌, subst, arith}
+use Rattle.std.proofs.Common.{◌≡◌, ◌<◌, ◌-◌, ℕ, List, Bool, false, true, sym, ap, ◌∙◌, subst, arith}
 use Rattle.bp_core.specs.declared.stamps.Stamp.{Stamp}
 use Rattle.bp_rows.specs.Changes.{Shows}
-use Rattle.bp_rows.specs.Image.{Image, row_of}
+use Rattle.bp_rows.specs.Image.{row_of}
 use Rattle.bp_t6.specs.SoFar.{row_above}
 use Rattle.bp_t6.specs.Written.{row_code}
 use Rattle.bp_burn.specs.Covered.{covered}

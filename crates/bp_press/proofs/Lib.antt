@@ -22,6 +22,7 @@ pub mod PressLemmas
 pub mod PressedLemmas
 pub mod ReadLemmas
 pub mod SameLemmas
+pub mod ShownExamples
 pub mod ShownLemmas
 pub mod SpanLemmas
 pub mod ThreadLemmas

@@ -102,6 +102,10 @@ length-before f m = omega (arith, length-append (files_from f m 0 f.items) (data
 length-list : (f : Production) (m : Matter) (list : List VolumeFile) → IsListed f m list (files_before f (placed_items f m)) → length list ≡ length (rows_before f m)
 length-list f m list h = sym (length-map list (row_of f m)) ∙ ap length h.files
 
+-- there are some
+pub some_listed : (f : Production) (m : Matter) (list : List VolumeFile) → IsListed f m list (files_before f (placed_items f m)) → 0 < length list
+some_listed f m list h = omega (arith, length-list f m list h, length-before f m)
+
 -- the files can be counted in 32 bits
 pub few_files : (f : Production) (m : Matter) (list : List VolumeFile) → CanBePressed f m → IsListed f m list (files_before f (placed_items f m)) → length list + 1 < 2 ^ 32
 few_files f m list fit h = omega (arith, fit.files, length-list f m list h, length-before f m)

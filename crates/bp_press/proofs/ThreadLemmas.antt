@@ -32,6 +32,8 @@ use Rattle.bp_press.specs.contracts.batches.MadeFile as made_file
 use Rattle.bp_press.specs.contracts.covered.Covered as covered
 use Rattle.bp_press.specs.contracts.covered.CoveredJobs as covered_jobs
 use Rattle.bp_press.specs.contracts.jobs.Job as job
+use Rattle.bp_press.specs.contracts.made_files.CodedBatch as coded_batch
+use Rattle.bp_press.specs.contracts.made_files.Maker as maker
 use Rattle.bp_press.specs.contracts.volume_files.VolumeFile as volume_file
 
 pub bytes_send : IsSend bytes.the_row
@@ -136,3 +138,15 @@ volume_file_sync lft = search (item_sync, small, sendable, crosses) depth 40 fit
 
 pub made_file_send : IsSend made_file.the_row
 made_file_send = search (bytes_send, text_send, sendable, crosses) depth 40 fits 20000
+
+list_send : (T : RattleType) → IsSend T → IsSend (list.the_row T)
+list_send T t = search (sendable, crosses) depth 40 fits 20000
+
+job_send : IsSend job.the_row
+job_send = search (text_send, list_send, sendable, crosses) depth 40 fits 20000
+
+pub coded_send : IsSend coded_batch.the_row
+coded_send = search (job_send, bytes_send, list_send, sendable, crosses) depth 40 fits 20000
+
+pub maker_sync : (lft : NamedLft) (P R G : RattleType) → IsSync P → IsSync R → IsSync G → IsSync (maker.the_row lft P R G)
+maker_sync lft P R G p r g = search (production_sync, volume_file_sync, sendable, crosses) depth 40 fits 20000

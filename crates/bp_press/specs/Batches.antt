@@ -1,5 +1,6 @@
 -- The files of a volume that are made together: their images by jobs, the others beside them.
 use Rattle.std.specs.Prelude.{◌≡◌, Bool, true, false, ℕ, ◌+◌, ◌<◌, ◌≤◌, ◌^◌, All, IsTrue, List, [], ◌∷◌, ◌++◌, length, map, slice_range}
+use Rattle.std.specs.List.{flat_map}
 use Rattle.sha2.specs.Sha256.{sha256}
 use Rattle.bp_core.specs.declared.review.Basis.{Basis}
 use Rattle.bp_bates.specs.Prefixes.{is_good_prefix}
@@ -17,6 +18,7 @@ use Rattle.bp_press.specs.declared.batches.MadeFile.{MadeFile}
 use Rattle.bp_press.specs.VolumeFiles.{row_of}
 use Rattle.bp_press.specs.declared.jobs.Job.{Job}
 use Rattle.bp_press.specs.declared.jobs.Job.TheVariants as jobs
+use Rattle.bp_press.specs.declared.made_files.CodedBatch.{CodedBatch}
 use Rattle.bp_press.specs.declared.made_files.MadeBatch.{MadeBatch}
 use Rattle.bp_press.specs.declared.volume_files.VolumeFile.{VolumeFile}
 use Rattle.bp_press.specs.declared.volume_files.VolumeFile.TheVariants.{Dat, Log, Opt, Page, Sheet, Text}
@@ -100,6 +102,14 @@ pub record HasImages (f : Production) (m : Matter) (entry : VolumeFile) (jobs : 
 -- by FIPS 180-4
 abbrev pub made_by : Production → Matter → VolumeFile → MadeFile
 made_by f m entry = made_of (row_of f m entry)
+
+-- the jobs of some entries of a list, from a place on, with the strips of their images
+pub record IsCodedBatch (f : Production) (m : Matter) (list : List VolumeFile) (from : ℕ)
+    (coded : CodedBatch) : Type 0 where
+  pub onward : from < coded.batch.end
+  pub within : coded.batch.end ≤ length list
+  pub jobs : coded.batch.jobs ≡ flat_map (jobs_by f) (slice_range list from coded.batch.end)
+  pub strips : coded.strips ≡ map (strip_by m) coded.batch.jobs
 
 -- the files of some entries of a list, from a place on
 pub record MakesBatch (f : Production) (m : Matter) (list : List VolumeFile) (from : ℕ)

@@ -1,14 +1,17 @@
 // The files of a batch: the strips of its images are made by jobs on threads, and then the files, each
-// with its digest, on threads too.
+// with its digest, on threads too. The strips of the next batch are made while files are added.
 ghost use Rattle.std.specs.Prelude.{◌≡◌, ◌≤◌, ◌<◌, All, IfOk, Ok, drop, length, map, slice_index_or, slice_range, take};
+ghost use denote.Param.Send.{IsSync};
 ghost use Rattle.std.specs.List.{filter, flat_map};
-ghost use Rattle.bp_press.specs.Batches.{MakesBatch, is_image, jobs_by, made_by};
+ghost use Rattle.bp_press.specs.Batches.{IsCodedBatch, IsDigested, MakesBatch, is_image, jobs_by, made_by, row_made};
 ghost use Rattle.bp_press.specs.Jobs.{IsCodable, strip_by};
 ghost use Rattle.bp_press.specs.Shown.{IsOwnJob};
 ghost use Rattle.bp_press.specs.VolumeFiles.{CanBeMade};
+ghost use Rattle.bp_press.specs.Writing.{Adds};
 ghost use Rattle.bp_press.specs.declared.volume_files.VolumeFile.{VolumeFile as Entry};
 
-use crate::batches::{MadeFile, MadeList, is_image, next_batch};
+use crate::adding::add_files;
+use crate::batches::{Batch, MadeFile, MadeList, is_image, next_batch};
 use crate::file_rows::made_file;
 use crate::gate::Gate;
 use crate::jobs::{Job, JobList, StripList};
@@ -17,14 +20,26 @@ use crate::strips::covered_strips;
 use crate::volume_files::VolumeFile;
 use bp_core::{Bytes, ListOf, OutOfMemory};
 use bp_matter::Production;
+use bp_outside::{Folder, FolderRefusal};
 use std::alloc::Global;
-use std::thread::{Threads, map_indices};
+use std::thread::{Threads, join_mut, map_indices};
 
-// What makes images side by side: threads, and the gate that each of their jobs enters.
+// What makes the files of a volume: threads, the gate that each of their jobs enters, and what the
+// files are made of.
 #[derive(Drop)]
-pub(crate) struct Workers<'w, R, G> {
+pub(crate) struct Maker<'w, P, R, G> {
     pub(crate) rt: &'w R,
     pub(crate) gate: &'w G,
+    pub(crate) shown: &'w P,
+    pub(crate) production: &'w Production,
+    pub(crate) list: &'w [VolumeFile<'w>],
+}
+
+// The jobs of the images of a batch, and their strips.
+#[derive(Drop)]
+pub(crate) struct CodedBatch {
+    pub(crate) batch: Batch,
+    pub(crate) strips: StripList,
 }
 
 // The files of a batch, and the place of the list where it ends.
@@ -36,21 +51,21 @@ pub(crate) struct MadeBatch {
 
 // The strips of these jobs, which may be none.
 fn strips_or_none<P: Shows + Sync, R: Threads + Sync, G: Gate + Sync>(
-    workers: &Workers<'_, R, G>,
+    maker: &Maker<'_, P, R, G>,
     alloc: Global,
-    shown: &P,
     jobs: &JobList,
 ) -> Result<StripList, OutOfMemory>
     requires few { length jobs.now ≤ 16 }
-    requires own { All (IsOwnJob (P.production shown.now)) jobs.now }
-    requires codable { All (IsCodable (P.matter shown.now)) jobs.now }
-    ensures { IfOk result (λ strips. strips ≡ map (strip_by (P.matter shown.now)) jobs.now) }
+    requires own { All (IsOwnJob (P.production maker.now.shown.now)) jobs.now }
+    requires codable { All (IsCodable (P.matter maker.now.shown.now)) jobs.now }
+    ensures { IfOk result (λ strips.
+        strips ≡ map (strip_by (P.matter maker.now.shown.now)) jobs.now) }
 {
     if jobs.is_empty() {
         return Ok(ListOf::new(alloc));
     }
-    let images = shown.images(jobs.as_slice());
-    covered_strips(workers.rt, alloc, &images, workers.gate)
+    let images = maker.shown.images(jobs.as_slice());
+    covered_strips(maker.rt, alloc, &images, maker.gate)
 }
 
 // How many of the files before a place are images.
@@ -155,33 +170,85 @@ fn all_files(
     Ok(ListOf::from_vec(files))
 }
 
-// The files of the list from a place on that are made together.
-pub(crate) fn made_batch<P: Shows + Sync, R: Threads + Sync, G: Gate + Sync>(
-    workers: &Workers<'_, R, G>,
+// The jobs of the files of the list from a place on that are made together, and their strips.
+pub(crate) fn coded_batch<P: Shows + Sync, R: Threads + Sync, G: Gate + Sync>(
+    maker: &Maker<'_, P, R, G>,
     alloc: Global,
-    shown: &P,
-    production: &Production,
-    list: &[VolumeFile],
     from: usize,
-) -> Result<MadeBatch, OutOfMemory>
-    requires same { P.production shown.now ≡ production.now }
-    requires some { from < length list.now }
-    requires made { All (CanBeMade production.now (P.matter shown.now)) list.now }
-    ensures { IfOk result (MakesBatch production.now (P.matter shown.now) list.now from) }
+) -> Result<CodedBatch, OutOfMemory>
+    requires same { P.production maker.now.shown.now ≡ maker.now.production.now }
+    requires some { from < length maker.now.list.now }
+    requires made { let m = P.matter maker.now.shown.now in
+        All (CanBeMade maker.now.production.now m) maker.now.list.now }
+    ensures { let m = P.matter maker.now.shown.now in
+        IfOk result (IsCodedBatch maker.now.production.now m maker.now.list.now from) }
 {
-    let batch = next_batch(alloc, production, list, from)?;
-    let strips = strips_or_none(workers, alloc, shown, &batch.jobs)?;
+    let batch = next_batch(alloc, maker.production, maker.list, from)?;
+    let strips = strips_or_none(maker, alloc, &batch.jobs)?;
+    Ok(CodedBatch { batch, strips })
+}
+
+// The files of a batch whose strips were made, which begins at this place of the list.
+pub(crate) fn made_batch<P: Shows + Sync, R: Threads + Sync, G: Gate + Sync>(
+    maker: &Maker<'_, P, R, G>,
+    alloc: Global,
+    from: usize,
+    coded: CodedBatch,
+) -> Result<MadeBatch, OutOfMemory>
+    requires same { P.production maker.now.shown.now ≡ maker.now.production.now }
+    requires made { let m = P.matter maker.now.shown.now in
+        All (CanBeMade maker.now.production.now m) maker.now.list.now }
+    requires coded { let m = P.matter maker.now.shown.now in
+        IsCodedBatch maker.now.production.now m maker.now.list.now from coded }
+    ensures made { let m = P.matter maker.now.shown.now in
+        IfOk result (MakesBatch maker.now.production.now m maker.now.list.now from) }
+    ensures end { IfOk result (λ made. made.end ≡ coded.batch.end) }
+{
+    let end = coded.batch.end;
     let files = made_files(
-        workers.rt,
+        maker.rt,
         alloc,
-        shown,
-        production,
-        &list[from..batch.end],
-        batch.jobs.as_slice(),
-        strips.as_slice(),
+        maker.shown,
+        maker.production,
+        &maker.list[from..end],
+        coded.batch.jobs.as_slice(),
+        coded.strips.as_slice(),
     )?;
-    Ok(MadeBatch {
-        files,
-        end: batch.end,
-    })
+    Ok(MadeBatch { files, end })
+}
+
+// Adds the files of a batch in order, while the strips of the next one are made.
+pub(crate) fn add_beside<P: Shows + Sync, R: Threads + Sync, F: Folder, G: Gate + Sync>(
+    maker: &Maker<'_, P, R, G>,
+    alloc: Global,
+    made: &MadeBatch,
+    folder: &mut F,
+    manifest: &mut Vec<u8>,
+) -> (Result<CodedBatch, OutOfMemory>, Result<(), FolderRefusal>)
+    requires same { P.production maker.now.shown.now ≡ maker.now.production.now }
+    requires some { made.now.end < length maker.now.list.now }
+    requires made { let m = P.matter maker.now.shown.now in
+        All (CanBeMade maker.now.production.now m) maker.now.list.now }
+    requires digested { All IsDigested made.now.files }
+    ensures coded { let m = P.matter maker.now.shown.now in
+        IfOk result.0 (IsCodedBatch maker.now.production.now m maker.now.list.now made.now.end) }
+    ensures added { Adds (map row_made made.now.files) (F.shows folder.old) manifest.old.items result.1
+        (F.shows folder.new) manifest.new.items }
+{
+    let from = made.end;
+    let files = made.files.as_slice();
+    let mut code = || -> Result<CodedBatch, OutOfMemory>
+        requires { IsSync R.row × IsSync P.row × IsSync G.row
+            × (P.production maker.now.shown.now ≡ maker.now.production.now)
+            × (from < length maker.now.list.now)
+            × All (CanBeMade maker.now.production.now (P.matter maker.now.shown.now)) maker.now.list.now }
+        ensures { IfOk result (IsCodedBatch maker.entry.now.production.now
+            (P.matter maker.entry.now.shown.now) maker.entry.now.list.now from) }
+    { coded_batch(maker, alloc, from) };
+    let mut add = || -> Result<(), FolderRefusal>
+        requires { All IsDigested files.now }
+        ensures { Adds (map row_made files.entry.now) (F.shows folder.entry.now)
+            manifest.entry.now.items result (F.shows folder.exit.now) manifest.exit.now.items }
+    { add_files(alloc, files, folder, manifest) };
+    join_mut(maker.rt, &mut code, &mut add)
 }

@@ -16,7 +16,7 @@ ghost use Rattle.bp_press.specs.Writing.{Adds, AddsAll, AddsPart, LeavesCut, wit
 use crate::adding::add_files;
 use crate::covered::Covered;
 use crate::gate::Gate;
-use crate::made_files::{Workers, made_batch};
+use crate::made_files::{Maker, add_beside, coded_batch, made_batch};
 use crate::manifest::digest_of;
 use crate::names::manifest_path;
 use crate::shown::Shows;
@@ -64,29 +64,33 @@ fn file_count(list: &[VolumeFile]) -> u32
     list.len() as u32 + 1
 }
 
-// Adds these files of the volume in order, each with its line of the manifest.
+// Adds the listed files of the volume in order, each with its line of the manifest.
 fn add_listed<P: Shows + Sync, R: Threads + Sync, F: Folder, G: Gate + Sync>(
-    workers: &Workers<'_, R, G>,
+    maker: &Maker<'_, P, R, G>,
     alloc: Global,
-    shown: &P,
-    production: &Production,
-    list: &[VolumeFile],
     folder: &mut F,
     manifest: &mut Vec<u8>,
 ) -> Result<(), FolderRefusal>
-    requires same { P.production shown.now ≡ production.now }
-    requires made { All (CanBeMade production.now (P.matter shown.now)) list.now }
-    ensures { let rows = map (row_of production.now (P.matter shown.now)) list.now in
+    requires same { P.production maker.now.shown.now ≡ maker.now.production.now }
+    requires some { 0 < length maker.now.list.now }
+    requires made { let m = P.matter maker.now.shown.now in
+        All (CanBeMade maker.now.production.now m) maker.now.list.now }
+    ensures { let m = P.matter maker.now.shown.now in
+        let rows = map (row_of maker.now.production.now m) maker.now.list.now in
         Adds rows (F.shows folder.old) manifest.old.items result
         (F.shows folder.new) manifest.new.items }
 {
     let mut from = 0;
-    while from < list.len() {
-        let batch = made_batch(workers, alloc, shown, production, list, from)?;
-        add_files(alloc, batch.files.as_slice(), folder, manifest)?;
-        from = batch.end;
+    let mut coded = coded_batch(maker, alloc, from)?;
+    while coded.batch.end < maker.list.len() {
+        let made = made_batch(maker, alloc, from, coded)?;
+        let (next, added) = add_beside(maker, alloc, &made, folder, manifest);
+        added?;
+        from = made.end;
+        coded = next?;
     }
-    Ok(())
+    let made = made_batch(maker, alloc, from, coded)?;
+    add_files(alloc, made.files.as_slice(), folder, manifest)
 }
 
 #[tactic(auto, using(crate::proofs::WritingLemmas::puts_ok, crate::proofs::WritingLemmas::puts_cut, crate::proofs::WritingLemmas::cut_none))]
@@ -153,16 +157,14 @@ fn write_volume<P: Shows + Sync, R: Threads + Sync, F: Folder, G: Gate + Sync>(
 {
     let list = list_files(alloc, shown, production)?;
     let mut manifest = Vec::new(alloc);
-    let workers = Workers { rt, gate };
-    add_listed(
-        &workers,
-        alloc,
+    let maker = Maker {
+        rt,
+        gate,
         shown,
         production,
-        list.as_slice(),
-        folder,
-        &mut manifest,
-    )?;
+        list: list.as_slice(),
+    };
+    add_listed(&maker, alloc, folder, &mut manifest)?;
     add_manifest(alloc, &production.request, folder, manifest.as_slice())?;
     Ok(Pressed {
         files: file_count(list.as_slice()),

@@ -1,38 +1,18 @@
-use Rattle.std.proofs.Common.{All, ap, map, subst, sym, ◌∙◌}
-use Rattle.std.proofs.lemmas.List.Elements.{All-same}
-use Rattle.std.specs.Prelude.{slice_range}
-use Rattle.bp_matter.specs.declared.rows.Production.{Production}
-use Rattle.bp_press.specs.Jobs.{IsCodable, strip_by}
-use Rattle.bp_press.specs.Shown.{IsOwnJob}
-use Rattle.bp_press.proofs.BatchLemmas.{codable, have_jobs, own_all, piece_made}
+use Rattle.std.proofs.Common.{ap, map, sym, ◌∙◌}
+use Rattle.bp_press.specs.Jobs.{strip_by}
+use Rattle.bp_press.proofs.BatchLemmas.{piece_made}
 use Rattle.bp_press.proofs.made_files.made_batch.Goals as goal
 
-pub next_batch-requires-clause-jobs : goal.next_batch-requires-clause-jobs
-next_batch-requires-clause-jobs g c = have_jobs c.args.production.now (g.P.Shows.matter c.args.shown.now) c.args.list.now c.requires.made
-
-pub strips_or_none-requires-clause-codable : goal.strips_or_none-requires-clause-codable
-strips_or_none-requires-clause-codable g c κs within =
-    let f = c.args.production.now in
-    let m = (g.P.Shows.matter c.args.shown.now) in
-    let piece = slice_range c.args.list.now c.args.from c.in_ok-batch.batch.end in
-    All-same (IsCodable m) c.in_ok-batch.batch.jobs _ c.in_ok-batch.ensures.jobs (codable f m piece (piece_made f m c.args.list.now c.args.from c.in_ok-batch.batch.end c.requires.made))
-
-pub strips_or_none-requires-clause-own : goal.strips_or_none-requires-clause-own
-strips_or_none-requires-clause-own g c κs within =
-    let f = c.args.production.now in
-    let m = (g.P.Shows.matter c.args.shown.now) in
-    let piece = slice_range c.args.list.now c.args.from c.in_ok-batch.batch.end in
-    subst (λ (own : Production). All (IsOwnJob own) c.in_ok-batch.batch.jobs) (sym c.requires.same)
-    (All-same (IsOwnJob f) c.in_ok-batch.batch.jobs _ c.in_ok-batch.ensures.jobs (own_all f m piece (piece_made f m c.args.list.now c.args.from c.in_ok-batch.batch.end c.requires.made)))
-
 pub made_files-requires-clause-made : goal.made_files-requires-clause-made
-made_files-requires-clause-made g c κs within = piece_made c.args.production.now (g.P.Shows.matter c.args.shown.now) c.args.list.now c.args.from c.in_ok-batch.batch.end c.requires.made
+made_files-requires-clause-made g c κs within =
+    piece_made c.args.maker.now.production.now (g.P.Shows.matter c.args.maker.now.shown.now) c.args.maker.now.list.now c.args.from c.args.coded.batch.end c.requires.made
 
 pub made_files-requires-clause-jobs : goal.made_files-requires-clause-jobs
-made_files-requires-clause-jobs g c κs within = c.as_slice.ensures ∙ c.in_ok-batch.ensures.jobs
+made_files-requires-clause-jobs g c κs within = c.as_slice.ensures ∙ c.requires.coded.jobs
 
 pub made_files-requires-clause-strips : goal.made_files-requires-clause-strips
-made_files-requires-clause-strips g c κs within = c.as_slice-2.ensures ∙ c.in_ok-strips.ensures ∙ ap (map (strip_by (g.P.Shows.matter c.args.shown.now))) (sym c.as_slice.ensures)
+made_files-requires-clause-strips g c κs within =
+    c.as_slice-2.ensures ∙ c.requires.coded.strips ∙ ap (map (strip_by (g.P.Shows.matter c.args.maker.now.shown.now))) (sym c.as_slice.ensures)
 
-pub returns : goal.returns
-returns g c = record { onward = c.in_ok-batch.ensures.onward; within = c.in_ok-batch.ensures.within; files = c.in_ok-files.ensures }
+pub returns-clause-made : goal.returns-clause-made
+returns-clause-made g c = record { onward = c.requires.coded.onward; within = c.requires.coded.within; files = c.in_ok-files.ensures }

@@ -1,8 +1,11 @@
 use Rattle.std.proofs.Common.{rules, ap, sym, ◌+◌, ◌∙◌, length, refl}
 use Rattle.bp_outside.specs.declared.refusals.FolderRefusal.TheVariants.{OutOfMemory}
 use Rattle.bp_press.proofs.ItemLemmas.{on_err}
-use Rattle.bp_press.proofs.PressLemmas.{few_files, files_cut, gathered, lent_listed, manifest_cut, nothing_pressed, told-is, volume_end}
+use Rattle.bp_press.proofs.PressLemmas.{few_files, files_cut, gathered, lent_listed, manifest_cut, nothing_pressed, some_listed, told-is, volume_end}
 use Rattle.bp_press.proofs.pressing.write_volume.Goals as goal
+
+pub add_listed-requires-clause-some : goal.add_listed-requires-clause-some
+add_listed-requires-clause-some g c κs within = some_listed c.args.production.now (g.P.Shows.matter c.args.shown.now) _ (lent_listed c.args.production.now (g.P.Shows.matter c.args.shown.now) _ _ _ c.as_slice.ensures.value c.in_ok-list.ensures)
 
 pub add_listed-requires-clause-made : goal.add_listed-requires-clause-made
 add_listed-requires-clause-made g c κs within = (lent_listed c.args.production.now (g.P.Shows.matter c.args.shown.now) _ _ _ c.as_slice.ensures.value c.in_ok-list.ensures).made

@@ -14,10 +14,11 @@ row_at kind k1 k2 body line = record {
   body = bytes (column line body);
 }
 
--- the kept row that a line of the table is, and the one that a line of the answer is
+-- the kept row that a line of the table is
 abbrev pub kept_row : Line → Row
 kept_row = row_at 1 2 3 4
 
+-- the kept row that a line of the answer is
 abbrev pub shown_row : Line → Row
 shown_row = row_at 0 1 2 3
 

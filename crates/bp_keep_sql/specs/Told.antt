@@ -31,6 +31,7 @@ IsNumbered numbered s = IsTrue numbered → HasCleanDisk s → IsTrue s.is_open
 
 -- ---- told rows ascend
 
+-- the rows that the lines of the table are ascend
 pub kept-ascend : (lines : List Line) → ascends row_key 0 (kept_rows lines) ≡ true
 kept-ascend [] = refl
 kept-ascend (line ∷ lines) =
@@ -41,6 +42,7 @@ if_both : (P : List Row → Type 0) (b : Bool) (x y : Option (List Row)) → IfS
 if_both P true x y p q = p
 if_both P false x y p q = q
 
+-- told rows ascend
 pub told-ascend : (numbered : Bool) (s : State)
     → IfSome (rows_told numbered s) (λ rows. IsTrue (ascends row_key 0 rows))
 told-ascend numbered s =

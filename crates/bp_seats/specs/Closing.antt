@@ -20,6 +20,7 @@ pub record PeerTold (log : List Made) (faults : ℕ) (p : Peer) : Type 0 where
   pub own : calls_by p.number log ≡ p.mine
   pub below : p.left ≤ faults
 
+-- the same of a view, and of each that it met
 pub record Told (log : List Made) (faults : ℕ) (v : View) : Type 0 where
   pub began : Begins v.seen log
   pub own : calls_by v.number log ≡ v.mine

@@ -58,9 +58,11 @@ pub data ServesNone (before : KeeperView) (why : MatterRefusal) (after : KeeperV
 
 -- ---- posts
 
+-- the seat of a post
 abbrev pub post_seat : {D : Type 0} → PostOf BookView D → SeatView
 post_seat post = post.seat
 
+-- the door of a post
 abbrev pub post_door : {D : Type 0} → PostOf BookView D → D
 post_door post = post.door
 

@@ -194,6 +194,7 @@ fresh desk number given = record {
   };
 }
 
+-- the seat of this number, which has given none
 abbrev pub fresh_with : Desked → ℕ → SeatView
 fresh_with desk number = fresh desk number 0
 
@@ -241,9 +242,11 @@ pub record Met (v : View) (note : List Made) (w : View) : Type 0 where
 
 -- ---- the end
 
+-- the number of a seat
 abbrev pub seat_number : SeatView → ℕ
 seat_number seat = seat.view.number
 
+-- what a seat knows
 abbrev pub seat_view : SeatView → View
 seat_view seat = seat.view
 

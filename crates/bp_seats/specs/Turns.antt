@@ -39,6 +39,7 @@ abbrev pub total : (View → ℕ) → List View → ℕ
 total f [] = 0
 total f (v ∷ views) = f v + total f views
 
+-- how much the keeper's count rose by in the turns of a view
 abbrev pub raised_by : View → ℕ
 raised_by v = v.raised
 
@@ -47,6 +48,7 @@ abbrev pub times : ℕ → List ℕ → ℕ
 times k [] = 0
 times k (n ∷ numbers) = (if n == k then 1 else 0) + times k numbers
 
+-- the number of one that was taken in
 abbrev pub peer_number : Peer → ℕ
 peer_number p = p.number
 

@@ -18,6 +18,7 @@ use Rattle.bp_core.specs.declared.review.Treatment.TheVariants as treatments
 use Rattle.bp_web.specs.declared.members.TheConstants.{DIGEST_BYTES}
 
 infixl 10 ◌>>=◌
+-- what is there goes on
 abbrev pub ◌>>=◌ : {A B : Type 0} → Option A → (A → Option B) → Option B
 o >>= f = option_and_then f o
 

@@ -20,6 +20,7 @@ use Rattle.bp_web.specs.declared.routes.Route.{Route}
 -- ---- steps of which the first that refuses is the answer
 
 infixl 10 ◌>>=◌
+-- what is well goes on, and a refusal is the answer
 abbrev pub ◌>>=◌ : {A B : Type 0} → Result A WebRefusal → (A → Result B WebRefusal)
     → Result B WebRefusal
 Ok value >>= next = next value

@@ -1,0 +1,53 @@
+#!/bin/sh
+# A trial end to end beside its coding: `demo 1 PAGES` by the built program, the least of all rounds on the clock, and the coding in it. Each
+# drawn page is coded once, to be kept, and each image of the volume is read from a strip and coded: so as many strips are read and coded by
+# `bp_bench strips`, on one thread, of eight images of the volume in turn; the time of that on all processors is a share of it. At most 1.5 times
+# is wanted. What the system takes to make as many files of those sizes, by a plain loop in C, is told beside.
+# Words: how many pages, 2,000 where none is given; rounds, 3; a folder for what is written, a new one where none is given.
+# Needs rt on PATH, python3, gcc.
+set -eu
+here=$(CDPATH='' cd -- "$(dirname -- "$0")" && pwd)
+program=$here/../crates/bp_main/out/bp_main
+bench=$here/../crates/bp_bench/out/bp_bench
+pages=${1:-2000}
+rounds=${2:-3}
+scratch=${3:-$(mktemp -d)}
+mkdir -p "$scratch"
+trap 'rm -rf "$scratch"' EXIT
+
+(cd "$here/../crates/bp_main" && rt run -- version) > "$scratch/build.log" 2>&1 || { cat "$scratch/build.log"; exit 1; }
+(cd "$here/../crates/bp_bench" && rt run -- codes white index 1) > "$scratch/build.log" 2>&1 || { cat "$scratch/build.log"; exit 1; }
+
+cat > "$scratch/once.sh" << END
+#!/bin/sh
+mkdir "$scratch/day"
+cd "$scratch/day"
+exec "$program" demo 1 $pages
+END
+chmod +x "$scratch/once.sh"
+# processor seconds, seconds on the clock, MB
+set -- $(python3 "$here/cost.py" "$rounds" 1 "$scratch/day" -- "$scratch/once.sh")
+spent=$1 wall=$2 memory=$3
+
+find "$scratch/day/out" -name '*.TIF' | sort > "$scratch/images"
+images=$(wc -l < "$scratch/images")
+coded=$((pages + images))
+strips=0
+for at in 1 2 3 4 5 6 7 8; do
+    image=$(sed -n "$(((images - 1) * at / 8 + 1))p" "$scratch/images")
+    # a hundred strips of it, once and five times
+    set -- $(python3 "$here/cost.py" "$rounds" 4 - "$bench" strips "$image" 100 1 -- "$bench" strips "$image" 100 5)
+    strips=$(awk -v sum="$strips" -v more="$1" 'BEGIN { print sum + more / 100 / 8 }')
+done
+
+cc -O2 -o "$scratch/files" "$here/make_files.c"
+find "$scratch/day/out" -type f -printf '%s\n' > "$scratch/sizes"
+made=$("$scratch/files" "$scratch/made" < "$scratch/sizes")
+
+awk -v n="$pages" -v images="$images" -v files="$(wc -l < "$scratch/sizes")" -v spent="$spent" -v wall="$wall" -v memory="$memory" -v coded="$coded" \
+    -v strip="$strips" -v p="$(nproc)" -v made="$made" 'BEGIN {
+    coding = coded * strip / p
+    printf "demo 1 %d: %.2f s on the clock, %.2f s of the processor, %.0f MB; %d images, %d files\n", n, wall, spent, memory, images, files
+    printf "its coding: %d strips at %.3f ms, %.2f s on %d processors: %.2f times that (at most 1.5 is wanted)\n", coded, 1000 * strip, coding, p,
+        wall / coding
+    printf "as many files of those sizes by a plain loop: %.2f s\n", made }'

@@ -67,10 +67,9 @@ loop-coded-preserved g c =
     let end = c.in_ok-made.made.end in
     let was : c.add_beside-next.result.1 ≡ Ok c.in_ok-added.field-0 = c.in_ok-added.was in
     let put = all_of _ _ _ c.add_beside-next.result.1 _ _ c.in_ok-added.field-0 was c.add_beside-next.ensures.added in
-    let coded : c.add_beside-next.result.0 ≡ Ok c.in_ok-coded-2.coded = c.in_ok-coded-2.was in
-    (
+    let coded : c.add_beside-next.result.0 ≡ Ok c.in_ok-coded-2.coded = c.in_ok-coded-2.was in (
       entries_piece (row_of f m) list c.loop-coded.from end _ _ _ _ _ _ _ (omega (arith, c.in_ok-made.ensures.made.onward))
-      (rows_made f m _ (slice_range list c.loop-coded.from end) c.in_ok-made.ensures.made.files) c.loop-coded.invariant.0 put.0 put.1,
+          (rows_made f m _ (slice_range list c.loop-coded.from end) c.in_ok-made.ensures.made.files) c.loop-coded.invariant.0 put.0 put.1,
       subst (λ answer. IfOk answer (IsCodedBatch f m list end)) coded c.add_beside-next.ensures.coded,
     )
 

@@ -5,7 +5,7 @@ use Rattle.std.proofs.Math.Seq.{take-suc}
 use Rattle.std.proofs.lemmas.Bool.{cases_Bool}
 use Rattle.std.proofs.lemmas.List.{at_drop_more, drop-map, drop_at, get_or-drop, length-drop, length-map, take-append-drop}
 use Rattle.std.proofs.lemmas.List.Concat.{flat_map-append}
-use Rattle.std.proofs.lemmas.List.Elements.{All-append, All-cons, All-drop, All-head, All-map, All-nil, All-same, All-tail, All-take, All-weaker}
+use Rattle.std.proofs.lemmas.List.Elements.{All-append, All-cons, All-drop, All-head, All-nil, All-same, All-tail, All-take, All-weaker}
 use Rattle.bp_core.specs.declared.review.Basis.{Basis}
 use Rattle.bp_core.specs.declared.refusals.OutOfMemory.{OutOfMemory}
 use Rattle.bp_rows.specs.Image.{Image, white_image}
@@ -21,12 +21,11 @@ use Rattle.bp_matter.specs.declared.rows.Item.{Item}
 use Rattle.bp_matter.specs.declared.rows.PageRow.{PageRow}
 use Rattle.bp_matter.specs.declared.rows.Production.{Production}
 use Rattle.bp_matter.specs.declared.rows.Request.{Request}
-use Rattle.bp_press.specs.Batches.{HasImages, HasJob, IsDigested, is_image, jobs_by, made_by, page_job, row_made, sheet_job}
+use Rattle.bp_press.specs.Batches.{HasImages, HasJob, is_image, jobs_by, page_job, sheet_job}
 use Rattle.bp_press.specs.Contents.{image_in, produced_page, slip_sheet, stamps_on}
 use Rattle.bp_press.specs.Jobs.{IsCodable, page_of, strip_by}
 use Rattle.bp_press.specs.Shown.{IsOwnJob}
-use Rattle.bp_press.specs.VolumeFiles.{CanBeMade, bytes_in, row_of}
-use Rattle.bp_press.specs.declared.batches.MadeFile.{MadeFile}
+use Rattle.bp_press.specs.VolumeFiles.{CanBeMade, bytes_in}
 use Rattle.bp_press.specs.declared.jobs.Job.{Job}
 use Rattle.bp_press.specs.declared.jobs.Job.TheVariants as jobs
 use Rattle.bp_press.specs.declared.volume_files.VolumeFile.{VolumeFile}
@@ -240,18 +239,6 @@ own_codable f m entry jobs fit are = All-same (IsCodable m) jobs (jobs_by f entr
 
 pub own_own : (f : Production) (m : Matter) (entry : VolumeFile) (jobs : List Job) → CanBeMade f m entry → jobs ≡ jobs_by f entry → All (IsOwnJob f) jobs
 own_own f m entry jobs fit are = All-same (IsOwnJob f) jobs (jobs_by f entry) are (own_one f m entry fit)
-
--- ---- files that are made
-
-pub digested : (f : Production) (m : Matter) (files : List MadeFile) (entries : List VolumeFile) → files ≡ map (made_by f m) entries → All IsDigested files
-digested f m files entries is = All-same IsDigested files (map (made_by f m) entries) is (All-map IsDigested (made_by f m) entries (λ k d l. refl))
-
-rows_of_made : (f : Production) (m : Matter) (entries : List VolumeFile) → map row_made (map (made_by f m) entries) ≡ map (row_of f m) entries
-rows_of_made f m [] = refl
-rows_of_made f m (entry ∷ entries) = ap (λ rows. row_of f m entry ∷ rows) (rows_of_made f m entries)
-
-pub rows_made : (f : Production) (m : Matter) (files : List MadeFile) (entries : List VolumeFile) → files ≡ map (made_by f m) entries → map row_made files ≡ map (row_of f m) entries
-rows_made f m files entries is = ap (map row_made) is ∙ rows_of_made f m entries
 
 -- ---- how many jobs there are
 

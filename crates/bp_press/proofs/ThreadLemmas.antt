@@ -28,7 +28,6 @@ use Rattle.bp_matter.specs.contracts.rows.BatchRow as batch_row
 use Rattle.bp_matter.specs.contracts.rows.PageWords as page_words
 use Rattle.bp_matter.specs.contracts.calls.Call as call
 use Rattle.bp_matter.specs.contracts.tables.Tables as tables
-use Rattle.bp_press.specs.contracts.batches.MadeFile as made_file
 use Rattle.bp_press.specs.contracts.covered.Covered as covered
 use Rattle.bp_press.specs.contracts.covered.CoveredJobs as covered_jobs
 use Rattle.bp_press.specs.contracts.jobs.Job as job
@@ -135,9 +134,6 @@ covered_sync lft = search (tables_sync, production_sync, small, sendable, crosse
 
 pub volume_file_sync : (lft : NamedLft) → IsSync (volume_file.the_row lft)
 volume_file_sync lft = search (item_sync, small, sendable, crosses) depth 40 fits 20000
-
-pub made_file_send : IsSend made_file.the_row
-made_file_send = search (bytes_send, text_send, sendable, crosses) depth 40 fits 20000
 
 list_send : (T : RattleType) → IsSend T → IsSend (list.the_row T)
 list_send T t = search (sendable, crosses) depth 40 fits 20000

@@ -19,7 +19,6 @@ use Rattle.bp_press.specs.VolumeFiles.{row_of}
 use Rattle.bp_press.specs.declared.jobs.Job.{Job}
 use Rattle.bp_press.specs.declared.jobs.Job.TheVariants as jobs
 use Rattle.bp_press.specs.declared.made_files.CodedBatch.{CodedBatch}
-use Rattle.bp_press.specs.declared.made_files.MadeBatch.{MadeBatch}
 use Rattle.bp_press.specs.declared.volume_files.VolumeFile.{VolumeFile}
 use Rattle.bp_press.specs.declared.volume_files.VolumeFile.TheVariants.{Dat, Log, Opt, Page, Sheet, Text}
 
@@ -75,10 +74,6 @@ HasJob f Log = Unit {0}
 
 -- ---- what is made
 
--- the file
-abbrev pub row_made : MadeFile → FileRow
-row_made made = made.row
-
 -- the SHA-256 (FIPS 180-4) of a file that was made is that of its bytes
 -- by FIPS 180-4
 abbrev pub IsDigested : MadeFile → Type 0
@@ -110,10 +105,3 @@ pub record IsCodedBatch (f : Production) (m : Matter) (list : List VolumeFile) (
   pub within : coded.batch.end ≤ length list
   pub jobs : coded.batch.jobs ≡ flat_map (jobs_by f) (slice_range list from coded.batch.end)
   pub strips : coded.strips ≡ map (strip_by m) coded.batch.jobs
-
--- the files of some entries of a list, from a place on
-pub record MakesBatch (f : Production) (m : Matter) (list : List VolumeFile) (from : ℕ)
-    (batch : MadeBatch) : Type 0 where
-  pub onward : from < batch.end
-  pub within : batch.end ≤ length list
-  pub files : batch.files ≡ map (made_by f m) (slice_range list from batch.end)

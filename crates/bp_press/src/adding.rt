@@ -1,6 +1,6 @@
 // Files added to a folder, each with its line of the manifest.
-ghost use Rattle.std.specs.Prelude.{◌∷◌, [], All, map};
-ghost use Rattle.bp_press.specs.Batches.{IsDigested, row_made};
+ghost use Rattle.std.specs.Prelude.{◌∷◌, []};
+ghost use Rattle.bp_press.specs.Batches.{IsDigested};
 ghost use Rattle.bp_press.specs.Writing.{Adds};
 
 use crate::batches::MadeFile;
@@ -26,21 +26,4 @@ pub(crate) fn add_file<F: Folder>(
         file.row.path.as_str(),
         file.row.bytes.as_slice(),
     )
-}
-
-// Adds these files in order.
-pub(crate) fn add_files<F: Folder>(
-    alloc: Global,
-    files: &[MadeFile],
-    folder: &mut F,
-    manifest: &mut Vec<u8>,
-) -> Result<(), FolderRefusal>
-    requires { All IsDigested files.now }
-    ensures { Adds (map row_made files.now) (F.shows folder.old) manifest.old.items result
-        (F.shows folder.new) manifest.new.items }
-{
-    for file in files {
-        add_file(alloc, file, folder, manifest)?;
-    }
-    Ok(())
 }

@@ -24,8 +24,6 @@ pub(crate) struct MadeFile {
     pub(crate) digest: [u8; 32],
 }
 
-pub(crate) type MadeList = ListOf<MadeFile>;
-
 // The jobs of a batch, and the place of the list where it ends.
 #[derive(Drop)]
 pub(crate) struct Batch {

@@ -1,17 +1,17 @@
-// The files of a batch: the strips of its images are made by jobs on threads, and then the files, each
-// with its digest, on threads too. The strips of the next batch are made while files are added.
+// The files of a batch: the strips of its images are made by jobs on threads. While its files are made
+// of these, one after another, each with its digest, and added, the strips of the next batch are made.
 ghost use Rattle.std.specs.Prelude.{◌≡◌, ◌≤◌, ◌<◌, All, IfOk, Ok, drop, length, map, slice_index_or, slice_range, take};
 ghost use denote.Param.Send.{IsSync};
 ghost use Rattle.std.specs.List.{filter, flat_map};
-ghost use Rattle.bp_press.specs.Batches.{IsCodedBatch, IsDigested, MakesBatch, is_image, jobs_by, made_by, row_made};
+ghost use Rattle.bp_press.specs.Batches.{IsCodedBatch, is_image, jobs_by, made_by};
 ghost use Rattle.bp_press.specs.Jobs.{IsCodable, strip_by};
 ghost use Rattle.bp_press.specs.Shown.{IsOwnJob};
-ghost use Rattle.bp_press.specs.VolumeFiles.{CanBeMade};
+ghost use Rattle.bp_press.specs.VolumeFiles.{CanBeMade, row_of};
 ghost use Rattle.bp_press.specs.Writing.{Adds};
 ghost use Rattle.bp_press.specs.declared.volume_files.VolumeFile.{VolumeFile as Entry};
 
-use crate::adding::add_files;
-use crate::batches::{Batch, MadeFile, MadeList, is_image, next_batch};
+use crate::adding::add_file;
+use crate::batches::{Batch, MadeFile, is_image, next_batch};
 use crate::file_rows::made_file;
 use crate::gate::Gate;
 use crate::jobs::{Job, JobList, StripList};
@@ -22,7 +22,7 @@ use bp_core::{Bytes, ListOf, OutOfMemory};
 use bp_matter::Production;
 use bp_outside::{Folder, FolderRefusal};
 use std::alloc::Global;
-use std::thread::{Threads, join_mut, map_indices};
+use std::thread::{Threads, join_mut};
 
 // What makes the files of a volume: threads, the gate that each of their jobs enters, and what the
 // files are made of.
@@ -40,13 +40,6 @@ pub(crate) struct Maker<'w, P, R, G> {
 pub(crate) struct CodedBatch {
     pub(crate) batch: Batch,
     pub(crate) strips: StripList,
-}
-
-// The files of a batch, and the place of the list where it ends.
-#[derive(Drop)]
-pub(crate) struct MadeBatch {
-    pub(crate) files: MadeList,
-    pub(crate) end: usize,
 }
 
 // The strips of these jobs, which may be none.
@@ -121,55 +114,6 @@ fn file_at<P: Shows>(
     )
 }
 
-// The files of a batch whose images have these strips.
-fn made_files<P: Shows + Sync, R: Threads + Sync>(
-    rt: &R,
-    alloc: Global,
-    shown: &P,
-    production: &Production,
-    batch: &[VolumeFile],
-    jobs: &[Job],
-    strips: &[Bytes],
-) -> Result<MadeList, OutOfMemory>
-    requires same { P.production shown.now ≡ production.now }
-    requires made { All (CanBeMade production.now (P.matter shown.now)) batch.now }
-    requires jobs { jobs.now ≡ flat_map (jobs_by production.now) batch.now }
-    requires strips { strips.now ≡ map (strip_by (P.matter shown.now)) jobs.now }
-    ensures { IfOk result (λ files.
-        files ≡ map (made_by production.now (P.matter shown.now)) batch.now) }
-{
-    let made = map_indices(
-        rt,
-        alloc,
-        batch.len(),
-        &|place: usize| -> Result<MadeFile, OutOfMemory>
-            requires place { place < length batch.now }
-            requires same { P.production shown.now ≡ production.now }
-            requires made { All (CanBeMade production.now (P.matter shown.now)) batch.now }
-            requires jobs { jobs.now ≡ flat_map (jobs_by production.now) batch.now }
-            requires strips { strips.now ≡ map (strip_by (P.matter shown.now)) jobs.now }
-            ensures { (d : Entry) → IfOk result (λ file.
-                file ≡ made_by production.entry.now (P.matter shown.entry.now)
-                (slice_index_or batch.entry.now place d)) }
-        { file_at(alloc, shown, production, batch, jobs, strips, place) },
-    )?;
-    all_files(alloc, made)
-}
-
-// The files that were made, or want of memory where one of them wasn't.
-fn all_files(
-    alloc: Global,
-    made: Vec<Result<MadeFile, OutOfMemory>>,
-) -> Result<MadeList, OutOfMemory>
-    ensures { IfOk result (λ files. map Ok files ≡ made.items) }
-{
-    let mut files = Vec::new(alloc);
-    for file in made {
-        files.push(file?)?;
-    }
-    Ok(ListOf::from_vec(files))
-}
-
 // The jobs of the files of the list from a place on that are made together, and their strips.
 pub(crate) fn coded_batch<P: Shows + Sync, R: Threads + Sync, G: Gate + Sync>(
     maker: &Maker<'_, P, R, G>,
@@ -188,67 +132,88 @@ pub(crate) fn coded_batch<P: Shows + Sync, R: Threads + Sync, G: Gate + Sync>(
     Ok(CodedBatch { batch, strips })
 }
 
-// The files of a batch whose strips were made, which begins at this place of the list.
-pub(crate) fn made_batch<P: Shows + Sync, R: Threads + Sync, G: Gate + Sync>(
+// Makes the files of a batch whose strips were made, which begins at this place of the list, and adds
+// them in order, each with its line of the manifest.
+pub(crate) fn add_batch<P: Shows, R, F: Folder, G>(
     maker: &Maker<'_, P, R, G>,
     alloc: Global,
     from: usize,
-    coded: CodedBatch,
-) -> Result<MadeBatch, OutOfMemory>
+    coded: &CodedBatch,
+    folder: &mut F,
+    manifest: &mut Vec<u8>,
+) -> Result<(), FolderRefusal>
     requires same { P.production maker.now.shown.now ≡ maker.now.production.now }
     requires made { let m = P.matter maker.now.shown.now in
         All (CanBeMade maker.now.production.now m) maker.now.list.now }
     requires coded { let m = P.matter maker.now.shown.now in
-        IsCodedBatch maker.now.production.now m maker.now.list.now from coded }
-    ensures made { let m = P.matter maker.now.shown.now in
-        IfOk result (MakesBatch maker.now.production.now m maker.now.list.now from) }
-    ensures end { IfOk result (λ made. made.end ≡ coded.batch.end) }
+        IsCodedBatch maker.now.production.now m maker.now.list.now from coded.now }
+    ensures { let row = row_of maker.now.production.now (P.matter maker.now.shown.now) in
+        let rows = map row (slice_range maker.now.list.now from coded.now.batch.end) in
+        Adds rows (F.shows folder.old) manifest.old.items result
+        (F.shows folder.new) manifest.new.items }
 {
-    let end = coded.batch.end;
-    let files = made_files(
-        maker.rt,
-        alloc,
-        maker.shown,
-        maker.production,
-        &maker.list[from..end],
-        coded.batch.jobs.as_slice(),
-        coded.strips.as_slice(),
-    )?;
-    Ok(MadeBatch { files, end })
+    let batch = &maker.list[from..coded.batch.end];
+    let jobs = coded.batch.jobs.as_slice();
+    let strips = coded.strips.as_slice();
+    let mut place = 0;
+    while place < batch.len() {
+        let file = file_at(
+            alloc,
+            maker.shown,
+            maker.production,
+            batch,
+            jobs,
+            strips,
+            place,
+        )?;
+        add_file(alloc, &file, folder, manifest)?;
+        place += 1;
+    }
+    Ok(())
 }
 
 // Adds the files of a batch in order, while the strips of the next one are made.
 pub(crate) fn add_beside<P: Shows + Sync, R: Threads + Sync, F: Folder, G: Gate + Sync>(
     maker: &Maker<'_, P, R, G>,
     alloc: Global,
-    made: &MadeBatch,
+    from: usize,
+    coded: &CodedBatch,
     folder: &mut F,
     manifest: &mut Vec<u8>,
 ) -> (Result<CodedBatch, OutOfMemory>, Result<(), FolderRefusal>)
     requires same { P.production maker.now.shown.now ≡ maker.now.production.now }
-    requires some { made.now.end < length maker.now.list.now }
+    requires some { coded.now.batch.end < length maker.now.list.now }
     requires made { let m = P.matter maker.now.shown.now in
         All (CanBeMade maker.now.production.now m) maker.now.list.now }
-    requires digested { All IsDigested made.now.files }
+    requires coded { let m = P.matter maker.now.shown.now in
+        IsCodedBatch maker.now.production.now m maker.now.list.now from coded.now }
     ensures coded { let m = P.matter maker.now.shown.now in
-        IfOk result.0 (IsCodedBatch maker.now.production.now m maker.now.list.now made.now.end) }
-    ensures added { Adds (map row_made made.now.files) (F.shows folder.old) manifest.old.items result.1
+        let end = coded.now.batch.end in
+        IfOk result.0 (IsCodedBatch maker.now.production.now m maker.now.list.now end) }
+    ensures added { let row = row_of maker.now.production.now (P.matter maker.now.shown.now) in
+        let rows = map row (slice_range maker.now.list.now from coded.now.batch.end) in
+        Adds rows (F.shows folder.old) manifest.old.items result.1
         (F.shows folder.new) manifest.new.items }
 {
-    let from = made.end;
-    let files = made.files.as_slice();
+    let end = coded.batch.end;
     let mut code = || -> Result<CodedBatch, OutOfMemory>
         requires { IsSync R.row × IsSync P.row × IsSync G.row
             × (P.production maker.now.shown.now ≡ maker.now.production.now)
-            × (from < length maker.now.list.now)
+            × (end < length maker.now.list.now)
             × All (CanBeMade maker.now.production.now (P.matter maker.now.shown.now)) maker.now.list.now }
         ensures { IfOk result (IsCodedBatch maker.entry.now.production.now
-            (P.matter maker.entry.now.shown.now) maker.entry.now.list.now from) }
-    { coded_batch(maker, alloc, from) };
+            (P.matter maker.entry.now.shown.now) maker.entry.now.list.now end) }
+    { coded_batch(maker, alloc, end) };
     let mut add = || -> Result<(), FolderRefusal>
-        requires { All IsDigested files.now }
-        ensures { Adds (map row_made files.entry.now) (F.shows folder.entry.now)
+        requires { (P.production maker.now.shown.now ≡ maker.now.production.now)
+            × All (CanBeMade maker.now.production.now (P.matter maker.now.shown.now)) maker.now.list.now
+            × IsCodedBatch maker.now.production.now (P.matter maker.now.shown.now) maker.now.list.now
+            from coded.now }
+        ensures { let m = P.matter maker.entry.now.shown.now in
+            let list = maker.entry.now.list.now in
+            let piece = slice_range list from coded.entry.now.batch.end in
+            Adds (map (row_of maker.entry.now.production.now m) piece) (F.shows folder.entry.now)
             manifest.entry.now.items result (F.shows folder.exit.now) manifest.exit.now.items }
-    { add_files(alloc, files, folder, manifest) };
+    { add_batch(maker, alloc, from, coded, folder, manifest) };
     join_mut(maker.rt, &mut code, &mut add)
 }

@@ -13,10 +13,9 @@ ghost use Rattle.bp_press.specs.Volume.{volume_of};
 ghost use Rattle.bp_press.specs.VolumeFiles.{CanBeMade, row_of};
 ghost use Rattle.bp_press.specs.Writing.{Adds, AddsAll, AddsPart, LeavesCut, with_files};
 
-use crate::adding::add_files;
 use crate::covered::Covered;
 use crate::gate::Gate;
-use crate::made_files::{Maker, add_beside, coded_batch, made_batch};
+use crate::made_files::{Maker, add_batch, add_beside, coded_batch};
 use crate::manifest::digest_of;
 use crate::names::manifest_path;
 use crate::shown::Shows;
@@ -83,14 +82,12 @@ fn add_listed<P: Shows + Sync, R: Threads + Sync, F: Folder, G: Gate + Sync>(
     let mut from = 0;
     let mut coded = coded_batch(maker, alloc, from)?;
     while coded.batch.end < maker.list.len() {
-        let made = made_batch(maker, alloc, from, coded)?;
-        let (next, added) = add_beside(maker, alloc, &made, folder, manifest);
+        let (next, added) = add_beside(maker, alloc, from, &coded, folder, manifest);
         added?;
-        from = made.end;
+        from = coded.batch.end;
         coded = next?;
     }
-    let made = made_batch(maker, alloc, from, coded)?;
-    add_files(alloc, made.files.as_slice(), folder, manifest)
+    add_batch(maker, alloc, from, &coded, folder, manifest)
 }
 
 #[tactic(auto, using(crate::proofs::WritingLemmas::puts_ok, crate::proofs::WritingLemmas::puts_cut, crate::proofs::WritingLemmas::cut_none))]

@@ -4,18 +4,19 @@
 # `bp_bench strips`, on one thread, of eight images of the volume in turn; the time of that on all processors is a share of it. At most 1.5 times
 # is wanted. What the system takes to make as many files of those sizes, by a plain loop in C, is told beside.
 # Words: how many pages, 2,000 where none is given; rounds, 3; a folder for what is written, a new one where none is given.
-# Needs rt on PATH, python3, gcc.
+# Needs the built program, rt on PATH, python3, gcc.
 set -eu
 here=$(CDPATH='' cd -- "$(dirname -- "$0")" && pwd)
 program=$here/../crates/bp_main/out/bp_main
 bench=$here/../crates/bp_bench/out/bp_bench
 pages=${1:-2000}
 rounds=${2:-3}
+[ ! -w /dev/shm ] || export TMPDIR="${TMPDIR:-/dev/shm}"
 scratch=${3:-$(mktemp -d)}
 mkdir -p "$scratch"
 trap 'rm -rf "$scratch"' EXIT
 
-(cd "$here/../crates/bp_main" && rt run -- version) > "$scratch/build.log" 2>&1 || { cat "$scratch/build.log"; exit 1; }
+[ -x "$program" ] || { echo "demo.sh: the program isn't built: ./tivrenan build" >&2; exit 1; }
 (cd "$here/../crates/bp_bench" && rt run -- codes white index 1) > "$scratch/build.log" 2>&1 || { cat "$scratch/build.log"; exit 1; }
 
 cat > "$scratch/once.sh" << END

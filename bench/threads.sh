@@ -1,8 +1,10 @@
 #!/bin/sh
 # The press of letter pages by sixteen images at a time, as press.sh makes them: on one processor (taskset) and on all that there
-# are, beside the script with public tools (press_peer.sh) in as many processes (xargs -P); the memory beside the tables; two
-# volumes at once, each into a folder of its own; and the growth up to 20,000 pages. A time is on the clock, that of a run with
-# several volumes less that of a run with one, the least of all rounds; it tells little where other work runs beside.
+# are, beside as many processes that share nothing, each on a processor of its own, which tells what this machine gives at most; beside
+# the script with public tools (press_peer.sh) in as many processes (xargs -P); the memory beside the tables; two volumes at once, each
+# into a folder of its own; and the growth up to 20,000 pages. A time is on the clock, that of a run with several volumes less that of a
+# run with one, the least of all rounds; it tells little where other work runs beside. It works in TMPDIR, or else in a file system in
+# memory: ext4 looks long for places of new files where many were removed seconds before, as this does each time.
 # Words: how many pages, 2,000 where none is given; how often each is run, 3 where none is given.
 # Needs rt on PATH, python3, taskset (Debian: util-linux), and of Debian netpbm.
 set -eu
@@ -19,6 +21,7 @@ stop() { echo "threads.sh: $1" >&2; exit 1; }
 for tool in taskset tifftopnm python3; do
     command -v "$tool" > /dev/null || stop "needs $tool"
 done
+[ ! -w /dev/shm ] || export TMPDIR="${TMPDIR:-/dev/shm}"
 scratch=$(mktemp -d)
 trap 'rm -rf "$scratch"' EXIT
 (cd "$here/../crates/bp_bench" && rt run -- codes white index 1) > "$scratch/build.log" 2>&1 || { cat "$scratch/build.log"; exit 1; }
@@ -37,6 +40,17 @@ awk -v n="$pages" -v p="$processors" -v time="$1" -v one="$2" -v all="$5" -v spe
     printf "%d letter pages: %.2f s on one processor (%.2f ms of it a page, at most 4), %.2f s on %d: ", n, one, 1000 * time / n, all, p
     printf "%.2f times as fast, %.2f of a linear speed-up (at least 0.85); %.2f ms of processor time a page\n",
         one / all, one / all / p, 1000 * spent / n }'
+
+cat > "$scratch/apart.sh" << END
+#!/bin/sh
+for at in \$(seq 0 $((processors - 1))); do taskset -c \$at "$bench" press "$letter" $((pages / processors)) $words \$1 - > /dev/null & done
+wait
+END
+chmod +x "$scratch/apart.sh"
+set -- $(python3 "$here/cost.py" "$rounds" 2 - "$scratch/apart.sh" 1 -- "$scratch/apart.sh" 3)
+awk -v one="$one" -v all="$all" -v apart="$2" -v p="$processors" 'BEGIN {
+    printf "as many pages by %d processes, each on a processor, into memory: %.2f s, %.2f times as fast as one; press %.2f of that\n",
+        p, apart, one / apart, apart / all }'
 
 cat > "$scratch/peers.sh" << END
 #!/bin/sh

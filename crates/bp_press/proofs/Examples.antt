@@ -134,13 +134,13 @@ word left text = record {
   text = text;
 }
 
-abbrev scan : ℕ → ℕ → Image → PageRow
+abbrev pub scan : ℕ → ℕ → Image → PageRow
 scan n page image = record { doc = record { 0 = n }; page = record { 0 = page }; image = image }
 
 abbrev worded_page : ℕ → ℕ → List Word → PageWords
 worded_page n page words = record { doc = record { 0 = n }; page = record { 0 = page }; words = words }
 
-abbrev small : Image
+abbrev pub small : Image
 small = white_image 8 1 (record { num = 200; den = 1 }) (record { num = 200; den = 1 }) Inch
 
 abbrev two : Image → List Word → List ℕ → List ℕ → Matter
@@ -217,7 +217,7 @@ values_differ = (refl, refl)
 counts_differ : (page_count smith 2 ∷ page_count jones 2 ∷ []) ≡ (1 ∷ 3 ∷ [])
 counts_differ = refl
 
-abbrev asked : Request
+abbrev pub asked : Request
 asked = record {
   id = codes "R";
   volume = codes "V1";
@@ -281,7 +281,7 @@ seven_in_manifest = refl
 
 -- ---- the two matters differ, and nothing shows it
 
-abbrev redacted : Item
+abbrev pub redacted : Item
 redacted = record {
   doc = record { 0 = 1 };
   parent = record { 0 = 1 };
@@ -293,7 +293,7 @@ redacted = record {
   span = record { first = 1; last = 1 };
 }
 
-abbrev withheld : Item
+abbrev pub withheld : Item
 withheld = record {
   doc = record { 0 = 2 };
   parent = record { 0 = 2 };
@@ -369,7 +369,7 @@ row_seven ink =
     let f : Production = record frozen { ink = ink; items = large_box ∷ [] } in
     map (pixel (produced_page f page_shown large_box 1) 7) (range_with_len 0 64)
 
-abbrev runs : Bool → List ℕ → List Bool
+abbrev pub runs : Bool → List ℕ → List Bool
 runs colour [] = []
 runs colour (n ∷ ns) = replicate n colour ++ runs (not colour) ns
 

@@ -1,5 +1,5 @@
 -- Rows and lines as they are gathered item by item: those so far, with those to come, are all.
-use Rattle.std.proofs.Common.{◌≡◌, ℕ, suc, ◌+◌, ◌-◌, ◌<◌, List, [], ◌∷◌, ◌++◌, length, map, flat_map, All, Option, Some, None, refl, sym, ap, ◌∙◌, subst, arith, append-nil, append_assoc}
+use Rattle.std.proofs.Common.{◌≡◌, ℕ, suc, ◌+◌, ◌-◌, ◌^◌, ◌<◌, List, [], ◌∷◌, ◌++◌, length, map, flat_map, All, Option, Some, None, refl, sym, ap, ◌∙◌, subst, arith, append-nil, append_assoc}
 use Rattle.std.specs.List.{Contains, range_with_len}
 use Rattle.std.proofs.lemmas.List.Elements.{All-contains_itself}
 use Rattle.bp_load.specs.declared.opt.OptLine.{OptLine}
@@ -26,6 +26,13 @@ line_step line page count before after all x l is grown so_far =
     let many : count - page ≡ suc (count - (page + 1)) = omega arith in
     onto before after (x ∷ []) (map line (range_with_len (page + 1) (count - (page + 1)))) all grown
     (ap (λ y. before ++ y ∷ map line (range_with_len (page + 1) (count - (page + 1)))) is ∙ sym (ap (λ n. before ++ map line (range_with_len page n)) many) ∙ so_far)
+
+-- the first of items that can be placed, and its place
+pub first_placed : (f : Production) (m : Matter) (place : ℕ) (rest others : List Item) (i : Item) → rest ≡ i ∷ others → CanAllBePlaced f m place rest
+    → CanBePlaced f.request m i × (place + 2 ^ 32 < 2 ^ 64)
+first_placed f m place rest others i is fit =
+    let here = subst (λ (items : List Item). CanAllBePlaced f m place items) is fit in
+    (here.0, here.1.0)
 
 -- an item has as many labels as images
 pub labels_counted : (f : Production) (m : Matter) (i : Item) (count : ℕ) → CanBePlaced f.request m i → count ≡ length (part_of f m i).content.images → AreLabels f.request i.span.first count
@@ -101,6 +108,10 @@ pub record AreRowsAfter (f : Production) (m : Matter) (documents place : ℕ) (r
   pub listed : All (CanBeListed f) rest
   pub families : All (IsInFamily documents) rest
   pub own : All (Contains f.items) rest
+
+-- one row more
+pub row_added : (rows more : List (List (List ℕ))) (x row : List (List ℕ)) → x ≡ row → more ≡ rows ++ x ∷ [] → more ≡ rows ++ row ∷ []
+row_added rows more x row is grown = grown ∙ ap (λ y. rows ++ y ∷ []) is
 
 pub rows_init : (f : Production) (m : Matter) (documents : ℕ) (rest : List Item) (rows : List (List (List ℕ))) → rest ≡ f.items → rows ≡ [] → CanAllBePlaced f m 0 f.items → All (CanBeListed f) f.items
     → All (IsInFamily documents) f.items → AreRowsAfter f m documents 0 rest rows

@@ -1,4 +1,5 @@
 pub mod AddLemmas
+pub mod BatchExamples
 pub mod BatchLemmas
 pub mod CharacterLemmas
 pub mod ContentLemmas
@@ -16,6 +17,7 @@ pub mod ListLemmas
 pub mod LoadLemmas
 pub mod LoadRowLemmas
 pub mod NameLemmas
+pub mod NeedExamples
 pub mod PageLemmas
 pub mod PlacedLemmas
 pub mod PressLemmas
@@ -27,5 +29,7 @@ pub mod ShownLemmas
 pub mod SpanLemmas
 pub mod ThreadLemmas
 pub mod TwelveExamples
+pub mod VolumeExamples
 pub mod WordLemmas
+pub mod WritingExamples
 pub mod WritingLemmas

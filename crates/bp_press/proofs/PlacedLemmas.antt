@@ -9,7 +9,7 @@ use Rattle.std.proofs.Math.Nat.{one-le-pow, pow-le-pow_right}
 use Rattle.bp_core.specs.declared.review.Basis.{Basis}
 use Rattle.bp_bates.specs.Spans.{largest_of}
 use Rattle.bp_burn.specs.Drawn.{has_glyph}
-use Rattle.bp_bates.specs.Prefixes.{is_allowed}
+use Rattle.bp_bates.specs.Prefixes.{is_allowed, is_good_prefix}
 use Rattle.bp_bates.proofs.PrefixLemmas.{IsGood-from_test}
 use Rattle.bp_matter.specs.Matter.{Matter}
 use Rattle.bp_matter.specs.Texts.{is_designation_character}
@@ -74,6 +74,14 @@ numbers_small f numbers =
     let one : 1 ≤ 10 ^ width = one-le-pow width 10 (omega arith) in
     let ten : 10 ^ width ≤ 10 ^ 10 = pow-le-pow_right {n = 10} (omega arith) good.narrow in
     omega (arith, numbers.most, one, ten)
+
+-- a number that has a label isn't the last of 64 bits
+pub label_small : (prefix : List ℕ) (width number : ℕ) → is_good_prefix prefix width ≡ true → number ≤ largest_of width → number + 1 < 2 ^ 64
+label_small prefix width number good most =
+    let fits = IsGood-from_test prefix width good in
+    let one : 1 ≤ 10 ^ width = one-le-pow width 10 (omega arith) in
+    let ten : 10 ^ width ≤ 10 ^ 10 = pow-le-pow_right {n = 10} (omega arith) fits.narrow in
+    omega (arith, most, one, ten)
 
 can_be_placed : (m : Matter) → IsValid m → (f : Production) (numbers : KeptNumbers f) (i : Item) → SpanLies 1 numbers.next i → ItemStands m i → AreSound m i → CanBePlaced f.request m i
 can_be_placed m valid f numbers i lies stands sound =

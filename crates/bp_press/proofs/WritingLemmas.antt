@@ -45,6 +45,9 @@ pub puts_cut : (folder : FolderView) (path bytes : List ℕ) (result : Result (U
 puts_cut folder path bytes (Ok u) after e = tt
 puts_cut folder path bytes (Err r) after h = record { part = record { before = []; next = file path bytes; rest = []; files_are = refl; part = h } }
 
+-- what one file that is put tells
+pub ruleset one_put = (puts_ok, puts_cut, cut_none)
+
 -- ---- the files to come
 
 pub come_all : (before : FolderView) (all : List FileRow) → ToCome before all before all

@@ -64,7 +64,6 @@ withheld_content q i basis = record {
 -- ---- of an item that isn't
 
 -- a page of a document; one that isn't there has no pixels
--- by FRCP 26(b)(5)(A)
 abbrev pub image_in : Matter → ℕ → ℕ → Image
 image_in m doc page =
     unwrap_or (of_row (λ row. row.image) (page_with doc page m))
@@ -97,7 +96,6 @@ abbrev pub held_text : HeldRow → List ℕ
 held_text held = codes "WITHHELD - " ++ basis_code held.basis
 
 -- a value that isn't held stands for itself
--- by FRCP 26(b)(5)(A)
 abbrev pub value_unless : Option HeldRow → Option (List ℕ) → List ℕ
 value_unless (Some held) value = held_text held
 value_unless None value = unwrap_or value []
@@ -114,7 +112,6 @@ abbrev pub value_shown : Matter → Item → List ℕ → List ℕ
 value_shown m i name = value_by m i (field_number m name)
 
 -- the numbers of the pages of a document
--- by FRCP 26(b)(5)(A)
 abbrev pub pages_of : Matter → ℕ → List ℕ
 pages_of m doc = range_with_len 1 (page_count m doc)
 

@@ -9,7 +9,6 @@ use Rattle.bp_press.specs.declared.pressing.PressRefusal.{PressRefusal}
 use Rattle.bp_press.specs.declared.pressing.PressRefusal.TheVariants.{FolderFault, OutOfMemory}
 
 -- the bytes of the last of some files
--- by FIPS 180-4
 abbrev pub last_bytes : List FileRow → List ℕ
 last_bytes [] = []
 last_bytes (row ∷ []) = row.bytes

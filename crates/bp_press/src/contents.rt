@@ -1,8 +1,7 @@
 // What a volume shows of an item beside its images: its text, and its values of the chosen fields.
-ghost use Rattle.std.specs.Prelude.{◌≡◌, ◌≤◌, ◌+◌, ◌++◌, ◌-◌, IfOk, None, OnOk, [], encode_utf8_all, length};
+ghost use Rattle.std.specs.Prelude.{◌≡◌, ◌≤◌, ◌+◌, ◌-◌, IfOk, None, [], encode_utf8_all, length};
 ghost use Rattle.std.specs.List.{Contains, flat_map};
 ghost use Rattle.std.specs.Option.{option_copied};
-ghost use Rattle.std.specs.Str.{chars};
 ghost use Rattle.bp_core.specs.Review.{basis_code};
 ghost use Rattle.bp_text.specs.PageText.{page_text_of};
 ghost use Rattle.bp_press.specs.Contents.{ground_of, held_text, kept_text, pages_of, part_of, value_shown, withheld_text};

@@ -1,6 +1,7 @@
-// The wall of the press: what a volume shows of the tables, lent. Nothing here is given an allocator or
-// can refuse, so nothing that sees a covered pixel, a covered word, a held value or anything of a withheld
-// document can tell of it by want of memory. What takes memory sees the tables by these calls alone.
+// The wall of the press: what a volume shows of the tables, lent. Nothing here is given an allocator
+// or can refuse, so nothing that sees a covered pixel, a covered word, a held value or anything of a
+// withheld document can tell of it by want of memory. What takes memory sees the tables by these calls
+// alone.
 ghost use Rattle.std.specs.Prelude.{◌≡◌, ◌<◌, All, IsTrue, Some, length, slice_index_or, unwrap_or, []};
 ghost use Rattle.std.specs.List.{list_any};
 ghost use Rattle.std.specs.Option.{option_copied};
@@ -11,7 +12,7 @@ ghost use Rattle.bp_freeze.specs.Agree.{held_for, rects_on, value_in};
 ghost use Rattle.bp_matter.specs.Images.{in_frame};
 ghost use Rattle.bp_press.specs.Contents.{value_by};
 ghost use Rattle.bp_press.specs.Jobs.{IsCodable, page_of, sheet_frame};
-ghost use Rattle.bp_press.specs.Shown.{CanBeCoded, CanBeCovered, Lends, covers, image_lent, rows_lent, shown_words, value_lent, words_left};
+ghost use Rattle.bp_press.specs.Shown.{CanBeCoded, Lends, covers, image_lent, rows_lent, shown_words, value_lent, words_left};
 ghost use Rattle.bp_press.specs.declared.jobs.Job.{Job as AnyJob};
 
 use crate::jobs::Job;

@@ -1,5 +1,5 @@
 // The first and the last label number of each family of a production.
-ghost use Rattle.std.specs.Prelude.{◌≡◌, ◌≤◌, ◌<◌, ◌+◌, ◌==◌, ◌^◌, ℕ, All, IfOk, length, slice_index, vec_len};
+ghost use Rattle.std.specs.Prelude.{◌≡◌, ◌≤◌, ◌<◌, ◌+◌, ◌==◌, ◌^◌, ℕ, All, IfOk, slice_index, vec_len};
 ghost use Rattle.std.specs.List.{filter};
 ghost use Rattle.bp_matter.specs.declared.rows.Item.{Item};
 ghost use Rattle.bp_freeze.specs.Selecting.{first_number, last_number};

@@ -25,6 +25,7 @@ pub mod paths;
 mod pressing;
 mod shown;
 mod strips;
+mod threads;
 mod volume_files;
 
 pub use finding::file_of;
@@ -33,3 +34,4 @@ pub use jobs::{Job, JobList, StripList};
 pub use laws::{images_are_read, same_product, same_volume, volume_stays};
 pub use pressing::{PressRefusal, Pressed, add_volume, press};
 pub use strips::strips_of;
+pub use threads::job_is_shared;

@@ -1,14 +1,12 @@
 // The load files of a volume: the DAT with a line an item, and the OPT with a line an image.
-ghost use Rattle.std.specs.Prelude.{◌≡◌, ◌≤◌, ◌<◌, ◌+◌, ◌-◌, ◌++◌, ◌∷◌, ◌^◌, [], All, IfOk, IsTrue, OnOk, length, map};
+ghost use Rattle.std.specs.Prelude.{◌≡◌, ◌<◌, ◌+◌, ◌-◌, ◌++◌, ◌∷◌, [], All, IfOk, IsTrue, OnOk, length, map};
 ghost use Rattle.std.specs.Char.{is_ascii};
-ghost use Rattle.std.specs.List.{Contains, flat_map, list_all};
-ghost use Rattle.bp_bates.specs.Prefixes.{is_good_prefix};
+ghost use Rattle.std.specs.List.{flat_map, list_all};
 ghost use Rattle.bp_freeze.specs.Selecting.{first_number, last_number};
 ghost use Rattle.bp_matter.specs.Texts.{columns};
-ghost use Rattle.bp_press.specs.Contents.{part_of};
 ghost use Rattle.bp_press.specs.LoadFiles.{dat_bytes, dat_row, family_of, opt_bytes, opt_lines};
-ghost use Rattle.bp_press.specs.Needs.{AreFamilyNumbers, CanBeListed, CanBePressed, IsInFamily};
-ghost use Rattle.bp_press.specs.Pressing.{CanAllBePlaced, placed_at};
+ghost use Rattle.bp_press.specs.Needs.{AreFamilyNumbers, CanBePressed, IsInFamily};
+ghost use Rattle.bp_press.specs.Pressing.{CanAllBePlaced};
 ghost use Rattle.bp_press.specs.Volume.{placed_items};
 
 use crate::families::{first_numbers, last_numbers, last_parent};
@@ -17,34 +15,11 @@ use crate::shown::Shows;
 use crate::volume_files::image_count;
 use bp_bates::Span;
 use bp_core::{Bytes, ListOf, OutOfMemory, Text, TextList};
-use bp_load::{Dat, OptLine, OptList, TextTable, write_dat, write_opt};
+use bp_load::{Dat, OptList, TextTable, write_dat, write_opt};
 use bp_matter::{Item, Production, Request};
 use std::alloc::Global;
 
 // ---- the OPT
-
-// Adds the lines of the next item, and tells how many images it has.
-fn add_item_lines<P: Shows>(
-    alloc: Global,
-    shown: &P,
-    production: &Production,
-    item: &Item,
-    others: &[Item],
-    place: u64,
-    lines: &mut Vec<OptLine>,
-) -> Result<u32, OutOfMemory>
-    requires there { Contains (P.production shown.now).items item.now }
-    requires placed { CanAllBePlaced production.now (P.matter shown.now) place (item.now ∷ others.now) }
-    ensures lines { let p = placed_at production.now (P.matter shown.now) item.now place in
-        OnOk result (lines.new.items ≡ lines.old.items ++ opt_lines production.now.request p) }
-    ensures count { IfOk result (λ count.
-        count ≡ length (part_of production.now (P.matter shown.now) item.now).content.images) }
-{
-    let _others = others;
-    let count = image_count(shown, production, item);
-    add_opt_lines(alloc, shown, production, item, place, count, lines)?;
-    Ok(count)
-}
 
 // The lines of all items.
 fn opt_list<P: Shows>(
@@ -62,7 +37,7 @@ fn opt_list<P: Shows>(
     let mut rest = production.items.as_slice();
     let mut place = 0;
     while let Some((item, others)) = rest.split_first() {
-        let count = add_item_lines(alloc, shown, production, item, others, place, &mut lines)?;
+        let count = add_opt_lines(alloc, shown, production, item, place, &mut lines)?;
         place += u64::from(count);
         rest = others;
     }
@@ -139,35 +114,6 @@ fn family_of(production: &Production, item: &Item, firsts: &[u64], lasts: &[u64]
     }
 }
 
-// Adds the row of the next item, and tells how many images it has.
-fn add_item_row<P: Shows>(
-    alloc: Global,
-    shown: &P,
-    production: &Production,
-    item: &Item,
-    others: &[Item],
-    place: u64,
-    family: Span,
-    rows: &mut Vec<TextList>,
-) -> Result<u32, OutOfMemory>
-    requires same { P.production shown.now ≡ production.now }
-    requires there { Contains (P.production shown.now).items item.now }
-    requires placed { let items = item.now ∷ others.now in
-        CanAllBePlaced production.now (P.matter shown.now) place items }
-    requires listed { CanBeListed production.now item.now }
-    requires first { family.first ≡ first_number (family_of production.now item.now) }
-    requires last { family.last ≡ last_number (family_of production.now item.now) }
-    ensures rows { let f = production.now in
-        let p = placed_at f (P.matter shown.now) item.now place in
-        OnOk result (rows.new.items ≡ rows.old.items ++ dat_row f p ∷ []) }
-    ensures count { let part = part_of production.now (P.matter shown.now) item.now in
-        IfOk result (λ count. count ≡ length part.content.images) }
-{
-    let _others = others;
-    rows.push(dat_row(alloc, shown, production, item, place, family)?)?;
-    Ok(image_count(shown, production, item))
-}
-
 // The rows of all items, with the first and the last number of each family.
 fn dat_rows<P: Shows>(
     alloc: Global,
@@ -189,10 +135,8 @@ fn dat_rows<P: Shows>(
     let mut place = 0;
     while let Some((item, others)) = rest.split_first() {
         let family = family_of(production, item, firsts, lasts);
-        let count = add_item_row(
-            alloc, shown, production, item, others, place, family, &mut rows,
-        )?;
-        place += u64::from(count);
+        rows.push(dat_row(alloc, shown, production, item, place, family)?)?;
+        place += u64::from(image_count(shown, production, item));
         rest = others;
     }
     Ok(ListOf::from_vec(rows))

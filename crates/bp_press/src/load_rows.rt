@@ -1,20 +1,22 @@
 // The lines of the load files.
-ghost use Rattle.std.specs.Prelude.{◌≡◌, ◌≤◌, ◌<◌, ◌+◌, ◌-◌, ◌++◌, ◌∷◌, ◌^◌, ◌==◌, IfOk, IsTrue, OnOk, [], if◌then◌else◌, length};
+ghost use Rattle.std.specs.Prelude.{◌≡◌, ◌<◌, ◌+◌, ◌-◌, ◌++◌, ◌∷◌, ◌^◌, ◌==◌, IfOk, IsTrue, OnOk, [], if◌then◌else◌, length};
 ghost use Rattle.std.specs.Fmt.{decimal};
 ghost use Rattle.std.specs.List.{Contains};
 ghost use Rattle.bp_bates.specs.Prefixes.{is_good_prefix};
 ghost use Rattle.bp_core.specs.Characters.{reverse_solidus};
 ghost use Rattle.bp_freeze.specs.Log.{label_in};
 ghost use Rattle.bp_freeze.specs.Selecting.{first_number, last_number};
-ghost use Rattle.bp_press.specs.Contents.{ground_of, label_count, part_of, value_in_column};
-ghost use Rattle.bp_press.specs.LoadFiles.{dat_row, family_of, opt_line, opt_lines, optional_code, own_values};
+ghost use Rattle.bp_press.specs.Contents.{Content, ground_of, label_count, part_of, value_in_column};
+ghost use Rattle.bp_press.specs.Files.{Placed};
+ghost use Rattle.bp_press.specs.LoadFiles.{dat_row, family_of, opt_line, opt_lines, optional_code};
 ghost use Rattle.bp_press.specs.Paths.{text_path};
 ghost use Rattle.bp_press.specs.Needs.{CanBeListed, IsLabelled};
-ghost use Rattle.bp_press.specs.Pressing.{AreLabels, placed_at};
+ghost use Rattle.bp_press.specs.Pressing.{AreLabels, CanBePlaced, placed_at};
 
 use crate::contents::{code_text, empty_text, ground_of, value_shown};
 use crate::names::{image_path, label_text, text_path};
 use crate::shown::Shows;
+use crate::volume_files::image_count;
 use bp_bates::{Prefix, Span};
 use bp_core::{Basis, ListOf, OutOfMemory, Text, TextList};
 use bp_load::OptLine;
@@ -39,36 +41,28 @@ fn count_text(alloc: Global, count: u32, page: u32) -> Result<Text, OutOfMemory>
     }
 }
 
-// The line of an image of an item that has so many, counted from 0.
-pub(crate) fn opt_line<P: Shows>(
+// The line of an image of an item that has so many, counted from 0, whatever the images are.
+fn opt_line(
     alloc: Global,
-    shown: &P,
-    production: &Production,
+    request: &Request,
     item: &Item,
     place: u64,
     count: u32,
     page: u32,
 ) -> Result<OptLine, OutOfMemory>
     requires places { place + 2 ^ 32 < 2 ^ 64 }
-    requires count { count ≡
-        length (part_of production.now (P.matter shown.now) item.now).content.images }
     requires page { page < count }
-    requires labels { AreLabels production.now.request item.now.span.first count }
-    ensures { let p = placed_at production.now (P.matter shown.now) item.now place in
-        IfOk result (λ line. line ≡ opt_line production.now.request p page) }
+    requires labels { AreLabels request.now item.now.span.first count }
+    ensures { (content : Content) → count ≡ length content.images
+        → let p : Placed = record { place = place; item = item.now; content = content } in
+        IfOk result (λ line. line ≡ opt_line request.now p page) }
 {
-    let _shown = shown;
     let number = item.span.first + u64::from(page);
+    let place = place + u64::from(page);
     Ok(OptLine {
-        image: label_text(alloc, &production.request.prefix, number)?,
-        volume: production.request.volume.clone()?,
-        path: image_path(
-            alloc,
-            '\\',
-            &production.request,
-            place + u64::from(page),
-            number,
-        )?,
+        image: label_text(alloc, &request.prefix, number)?,
+        volume: request.volume.clone()?,
+        path: image_path(alloc, '\\', request, place, number)?,
         doc_break: page == 0,
         folder_break: false,
         box_break: false,
@@ -76,29 +70,31 @@ pub(crate) fn opt_line<P: Shows>(
     })
 }
 
-// Adds the lines of the images of an item that has so many.
+// Adds the lines of the images of an item, and tells how many images it has.
 pub(crate) fn add_opt_lines<P: Shows>(
     alloc: Global,
     shown: &P,
     production: &Production,
     item: &Item,
     place: u64,
-    count: u32,
     lines: &mut Vec<OptLine>,
-) -> Result<(), OutOfMemory>
+) -> Result<u32, OutOfMemory>
+    requires there { Contains (P.production shown.now).items item.now }
+    requires placed { CanBePlaced production.now.request (P.matter shown.now) item.now }
     requires places { place + 2 ^ 32 < 2 ^ 64 }
-    requires count { count ≡
-        length (part_of production.now (P.matter shown.now) item.now).content.images }
-    requires labels { AreLabels production.now.request item.now.span.first count }
-    ensures { let p = placed_at production.now (P.matter shown.now) item.now place in
+    ensures lines { let p = placed_at production.now (P.matter shown.now) item.now place in
         OnOk result (lines.new.items ≡ lines.old.items ++ opt_lines production.now.request p) }
+    ensures count { let part = part_of production.now (P.matter shown.now) item.now in
+        IfOk result (λ count. count ≡ length part.content.images) }
 {
+    let request = &production.request;
+    let count = image_count(shown, production, item);
     let mut page = 0;
     while page < count {
-        lines.push(opt_line(alloc, shown, production, item, place, count, page)?)?;
+        lines.push(opt_line(alloc, request, item, place, count, page)?)?;
         page += 1;
     }
-    Ok(())
+    Ok(count)
 }
 
 // Adds the label of a number to a row.

@@ -1,6 +1,6 @@
 // The files of a batch: the strips of its images are made by jobs on threads. While its files are made
 // of these, one after another, each with its digest, and added, the strips of the next batch are made.
-ghost use Rattle.std.specs.Prelude.{◌≡◌, ◌≤◌, ◌<◌, All, IfOk, Ok, drop, length, map, slice_index_or, slice_range, take};
+ghost use Rattle.std.specs.Prelude.{◌≡◌, ◌≤◌, ◌<◌, All, IfOk, drop, length, map, slice_index_or, slice_range, take};
 ghost use denote.Param.Send.{IsSync};
 ghost use Rattle.std.specs.List.{filter, flat_map};
 ghost use Rattle.bp_press.specs.Batches.{IsCodedBatch, is_image, jobs_by, made_by};
@@ -85,32 +85,34 @@ fn strips_from(strips: &[Bytes], first: usize) -> &[Bytes]
     &strips[first..]
 }
 
-// The file at a place of a batch whose images have these strips.
-fn file_at<P: Shows>(
+// The file at a place of the files of a batch whose strips were made.
+fn file_at<P: Shows, R, G>(
+    maker: &Maker<'_, P, R, G>,
     alloc: Global,
-    shown: &P,
-    production: &Production,
-    batch: &[VolumeFile],
-    jobs: &[Job],
-    strips: &[Bytes],
+    files: &[VolumeFile],
+    coded: &CodedBatch,
     place: usize,
 ) -> Result<MadeFile, OutOfMemory>
-    requires same { P.production shown.now ≡ production.now }
-    requires place { place < length batch.now }
-    requires made { All (CanBeMade production.now (P.matter shown.now)) batch.now }
-    requires jobs { jobs.now ≡ flat_map (jobs_by production.now) batch.now }
-    requires strips { strips.now ≡ map (strip_by (P.matter shown.now)) jobs.now }
-    ensures { (d : Entry) → IfOk result (λ file.
-        file ≡ made_by production.now (P.matter shown.now) (slice_index_or batch.now place d)) }
+    requires same { P.production maker.now.shown.now ≡ maker.now.production.now }
+    requires place { place < length files.now }
+    requires made { let m = P.matter maker.now.shown.now in
+        All (CanBeMade maker.now.production.now m) files.now }
+    requires jobs { let jobs = coded.now.batch.jobs in
+        jobs ≡ flat_map (jobs_by maker.now.production.now) files.now }
+    requires strips { let m = P.matter maker.now.shown.now in
+        coded.now.strips ≡ map (strip_by m) coded.now.batch.jobs }
+    ensures { (d : Entry) → let m = P.matter maker.now.shown.now in
+        IfOk result (λ file.
+        file ≡ made_by maker.now.production.now m (slice_index_or files.now place d)) }
 {
-    let first = images_before(batch, place);
+    let first = images_before(files, place);
     made_file(
         alloc,
-        shown,
-        production,
-        &batch[place],
-        jobs_from(jobs, first),
-        strips_from(strips, first),
+        maker.shown,
+        maker.production,
+        &files[place],
+        jobs_from(coded.batch.jobs.as_slice(), first),
+        strips_from(coded.strips.as_slice(), first),
     )
 }
 
@@ -152,20 +154,10 @@ pub(crate) fn add_batch<P: Shows, R, F: Folder, G>(
         Adds rows (F.shows folder.old) manifest.old.items result
         (F.shows folder.new) manifest.new.items }
 {
-    let batch = &maker.list[from..coded.batch.end];
-    let jobs = coded.batch.jobs.as_slice();
-    let strips = coded.strips.as_slice();
+    let files = &maker.list[from..coded.batch.end];
     let mut place = 0;
-    while place < batch.len() {
-        let file = file_at(
-            alloc,
-            maker.shown,
-            maker.production,
-            batch,
-            jobs,
-            strips,
-            place,
-        )?;
+    while place < files.len() {
+        let file = file_at(maker, alloc, files, coded, place)?;
         add_file(alloc, &file, folder, manifest)?;
         place += 1;
     }
@@ -200,15 +192,17 @@ pub(crate) fn add_beside<P: Shows + Sync, R: Threads + Sync, F: Folder, G: Gate 
         requires { IsSync R.row × IsSync P.row × IsSync G.row
             × (P.production maker.now.shown.now ≡ maker.now.production.now)
             × (end < length maker.now.list.now)
-            × All (CanBeMade maker.now.production.now (P.matter maker.now.shown.now)) maker.now.list.now }
+            × All (CanBeMade maker.now.production.now (P.matter maker.now.shown.now))
+            maker.now.list.now }
         ensures { IfOk result (IsCodedBatch maker.entry.now.production.now
             (P.matter maker.entry.now.shown.now) maker.entry.now.list.now end) }
     { coded_batch(maker, alloc, end) };
     let mut add = || -> Result<(), FolderRefusal>
         requires { (P.production maker.now.shown.now ≡ maker.now.production.now)
-            × All (CanBeMade maker.now.production.now (P.matter maker.now.shown.now)) maker.now.list.now
-            × IsCodedBatch maker.now.production.now (P.matter maker.now.shown.now) maker.now.list.now
-            from coded.now }
+            × All (CanBeMade maker.now.production.now (P.matter maker.now.shown.now))
+            maker.now.list.now
+            × IsCodedBatch maker.now.production.now (P.matter maker.now.shown.now)
+            maker.now.list.now from coded.now }
         ensures { let m = P.matter maker.entry.now.shown.now in
             let list = maker.entry.now.list.now in
             let piece = slice_range list from coded.entry.now.batch.end in

@@ -3,7 +3,6 @@ ghost use Rattle.std.specs.Prelude.{◌≡◌, ◌≤◌, ◌<◌, ◌+◌, ◌+
 ghost use Rattle.std.specs.List.{join_with_byte};
 ghost use Rattle.std.specs.Str.{chars};
 ghost use Rattle.std.specs.String.{string_bytes};
-ghost use Rattle.bp_core.specs.Characters.{solidus};
 ghost use Rattle.bp_bates.specs.Labels.{padded};
 ghost use Rattle.bp_bates.specs.Prefixes.{is_good_prefix};
 ghost use Rattle.bp_bates.specs.Spans.{largest_of};
@@ -18,6 +17,13 @@ use std::alloc::Global;
 
 // The longest label.
 const LABEL: usize = 22;
+
+// The last step of a path: a label, and how the name ends.
+#[derive(Clone, Copy)]
+struct LastStep<'n> {
+    label: &'n Text,
+    ending: &'n str,
+}
 
 // The label of a number.
 pub(crate) fn label_text(alloc: Global, prefix: &Prefix, number: u64) -> Result<Text, OutOfMemory>
@@ -77,15 +83,11 @@ pub(crate) fn image_path(
 {
     let folder = folder_text(alloc, place)?;
     let label = label_text(alloc, &request.prefix, number)?;
-    path_of(
-        alloc,
-        separator,
-        &request.volume,
-        "IMAGES",
-        &folder,
-        &label,
-        ".TIF",
-    )
+    let last = LastStep {
+        label: &label,
+        ending: ".TIF",
+    };
+    path_of(alloc, separator, &request.volume, "IMAGES", &folder, last)
 }
 
 // The path of the text of an item whose first image is this one.
@@ -103,29 +105,24 @@ pub(crate) fn text_path(
 {
     let folder = folder_text(alloc, place)?;
     let label = label_text(alloc, &request.prefix, number)?;
-    path_of(
-        alloc,
-        separator,
-        &request.volume,
-        "TEXT",
-        &folder,
-        &label,
-        ".TXT",
-    )
+    let last = LastStep {
+        label: &label,
+        ending: ".TXT",
+    };
+    path_of(alloc, separator, &request.volume, "TEXT", &folder, last)
 }
 
-// Four steps, the last one a name and its ending.
+// Four steps.
 fn path_of(
     alloc: Global,
     separator: char,
     volume: &Text,
     kind: &str,
     folder: &Text,
-    name: &Text,
-    ending: &str,
+    last: LastStep<'_>,
 ) -> Result<Text, OutOfMemory>
-    ensures { let last = name.now ++ chars ending.now in
-        let steps = volume.now ∷ chars kind.now ∷ folder.now ∷ last ∷ [] in
+    ensures { let name = last.entry.label.now ++ chars last.entry.ending.now in
+        let steps = volume.now ∷ chars kind.now ∷ folder.now ∷ name ∷ [] in
         IfOk result (λ path. path ≡ join_with_byte separator steps) }
 {
     let mut path = String::new(alloc);
@@ -135,8 +132,8 @@ fn path_of(
     add_character(&mut path, separator)?;
     add(&mut path, folder.as_str())?;
     add_character(&mut path, separator)?;
-    add(&mut path, name.as_str())?;
-    add(&mut path, ending)?;
+    add(&mut path, last.label.as_str())?;
+    add(&mut path, last.ending)?;
     Ok(Text::from_string(path))
 }
 

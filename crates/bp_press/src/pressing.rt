@@ -90,8 +90,8 @@ fn add_listed<P: Shows + Sync, R: Threads + Sync, F: Folder, G: Gate + Sync>(
     add_batch(maker, alloc, from, &coded, folder, manifest)
 }
 
-#[tactic(auto, using(crate::proofs::WritingLemmas::puts_ok, crate::proofs::WritingLemmas::puts_cut, crate::proofs::WritingLemmas::cut_none))]
 // Adds the manifest of these bytes.
+#[tactic(auto, using(crate::proofs::WritingLemmas::one_put))]
 fn add_manifest<F: Folder>(
     alloc: Global,
     request: &Request,
@@ -178,8 +178,8 @@ fn write_volume<P: Shows + Sync, R: Threads + Sync, F: Folder, G: Gate + Sync>(
 /// matter that keeps the production and agrees on it gives the same bytes. Each image is read, as
 /// TIFF 6.0 says, as the burned page or the slip sheet that it was made of, and as no other page.
 ///
-/// Sixteen images are made at a time, each by a job of its own (`strips_of`) that enters the gate. It
-/// returns if the threads that it joins do.
+/// Sixteen images are made at a time, each by a job of its own that enters the gate, as those of
+/// `strips_of`. It returns if the threads that it joins do.
 ///
 ///     let pressed = press(&rt, alloc, &tables, &production, &mut folder, &OpenGate)?;
 pub fn press<R: Threads + Sync, F: Folder, G: Gate + Sync>(

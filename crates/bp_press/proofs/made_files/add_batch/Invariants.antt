@@ -5,8 +5,8 @@ use Rattle.bp_press.proofs.made_files.add_batch.Given as goal
 
 abbrev pub invariant-loop-place : goal.invariant-loop-place
 invariant-loop-place g l =
-    AreEntriesFrom (row_of l.maker.production.now (g.P.Shows.matter l.maker.shown.now)) l.batch l.place
+    AreEntriesFrom (row_of l.maker.production.now (g.P.Shows.matter l.maker.shown.now)) l.files l.place
     (g.F.Folder.shows l.initial.folder) (g.F.Folder.shows l.folder) l.initial.manifest.items l.manifest.items
 
 abbrev pub decreases-loop-place : goal.decreases-loop-place
-decreases-loop-place g l = length l.batch - l.place
+decreases-loop-place g l = length l.files - l.place

@@ -14,4 +14,4 @@ returns c =
     let six = step _ _ _ _ _ c.in_ok-add_character-3.ensures five refl in
     let seven = step _ _ _ _ _ c.in_ok-add-4.ensures six c.as_str-3.ensures.characters in
     let eight = step _ _ _ _ _ c.in_ok-add-5.ensures seven refl in
-    c.from_string.ensures ∙ eight ∙ four_steps c.args.volume.now (chars c.args.kind.now) c.args.folder.now c.args.name.now (chars c.args.ending.now) c.args.separator
+    c.from_string.ensures ∙ eight ∙ four_steps c.args.volume.now (chars c.args.kind.now) c.args.folder.now c.args.last.label.now (chars c.args.last.ending.now) c.args.separator

@@ -27,6 +27,7 @@ mod reading;
 mod rows;
 mod tables;
 pub mod texts;
+mod threads;
 pub mod treatments;
 mod writing;
 
@@ -50,3 +51,4 @@ pub use rows::{
     Production, ProductionList, ProductionRow, Request, StaffList, StaffRow, State,
 };
 pub use tables::Tables;
+pub use threads::tables_are_shared;

@@ -16,17 +16,25 @@ use Rattle.bp_cli.specs.Words.{number_of, is_bad_word}
 use Rattle.bp_core.specs.declared.rectangle.Rect.{Rect}
 use Rattle.bp_cli.specs.Burn.{BurnLine, PathAnswers, burn_page, burn_read, burn_gives, paths_of}
 use Rattle.hex.proofs.OnLiterals.{hex_on_literals}
+use Rattle.hex.specs.Hex.{encode_with}
+use Rattle.std.proofs.Math.Utf8.{encode}
 use Rattle.bp_core.specs.declared.kept.Row.{Row}
 use Rattle.bp_matter.specs.Batches.{BatchShown}
 use Rattle.bp_matter.specs.Fields.{word}
+use Rattle.bp_core.specs.declared.stamps.Ink.TheVariants.{Lettered}
 use Rattle.bp_matter.specs.Matter.{Matter}
+use Rattle.bp_matter.specs.declared.rows.Production.{Production}
+use Rattle.bp_matter.specs.declared.rows.Request.{Request}
 use Rattle.bp_rules.specs.Beginning.{begun}
 use Rattle.bp_rules.specs.Importing.{import_of}
 use Rattle.bp_cli.specs.Import.{import_gives}
 use Rattle.bp_cli.specs.Kept.{MatterAnswers}
 use Rattle.bp_cli.specs.Init.{digest_of, init_gives}
 use Rattle.bp_cli.specs.Check.{check_gives}
-use Rattle.bp_cli.specs.Commands.{burn, init, import, check, command_of}
+use Rattle.bp_cli.specs.Claw.{ClawAsked, claw_gives, replacement_line}
+use Rattle.bp_cli.specs.Commands.{burn, init, import, produce, press, log, check, claw, demo, command_of}
+use Rattle.bp_cli.specs.Demo.{DemoAsked, demo_gives}
+use Rattle.bp_cli.specs.Press.{log_gives, press_gives}
 use Rattle.bp_cli.specs.Endings.{done, refused, status_of, text_of}
 use Rattle.bp_cli.specs.Runs.{all_statuses}
 use Rattle.bp_cli.specs.declared.burn.TheConstants.{FILE_LIMIT}
@@ -35,7 +43,7 @@ use Rattle.bp_cli.specs.declared.produce.TheConstants.{MAX_WIDTH_WORD, REQUEST_W
 use Rattle.bp_cli.specs.declared.serve.TheConstants.{MAX_CONNECTIONS, MAX_DESKS, SERVE_WORDS}
 use Rattle.bp_cli.specs.declared.statuses.TheConstants.{DONE, WORDS_REFUSED, RULE_BROKEN, SOURCE_FAULT, FOLDER_FAULT, KEEPER_FAULT, OUT_OF_MEMORY, OUT_FAULT}
 use Rattle.bp_cli.specs.declared.words.TheConstants.{MAX_DIGITS}
-use Rattle.bp_cli.specs.Produce.{width_of}
+use Rattle.bp_cli.specs.Produce.{produce_gives, volume_line, width_of}
 use Rattle.bp_cli.specs.Deliver.{deliver_of, delivered_line, opening_of}
 use Rattle.bp_cli.specs.NamedFiles.{file_read}
 use Rattle.bp_cli.specs.declared.claw.TheConstants.{CLAW_WORDS}
@@ -324,6 +332,125 @@ greatest_width = refl
 
 widths : (width_of (codes "255") ≡ Some 255) × (width_of (codes "256") ≡ None)
 widths = (refl, refl)
+
+-- ---- produce
+
+-- eight digits behind ABC, documents 1 to 12
+abbrev asked_first : List (List ℕ) → Request
+asked_first fields = record {
+  id = codes "R-1";
+  volume = codes "VOL001";
+  prefix = record { text = codes "ABC"; width = 8 };
+  from = record { 0 = 1 };
+  to = record { 0 = 12 };
+  fields = fields;
+}
+
+-- a production of it, of 23 labels
+abbrev produced : Production
+produced = record { ink = Lettered; request = asked_first []; items = []; span = record { first = 1; last = 23 } }
+
+-- with a field, and with none
+one_field : command_of (codes "produce" ∷ codes "R-1" ∷ codes "VOL001" ∷ codes "ABC" ∷ codes "8" ∷ codes "1" ∷ codes "12" ∷ codes "AUTHOR" ∷ [])
+    ≡ Some (produce (asked_first (codes "AUTHOR" ∷ [])))
+unfolding chars
+one_field = refl
+
+without_fields : command_of (codes "produce" ∷ codes "R-1" ∷ codes "VOL001" ∷ codes "ABC" ∷ codes "8" ∷ codes "1" ∷ codes "12" ∷ [])
+    ≡ Some (produce (asked_first []))
+unfolding chars
+without_fields = refl
+
+no_last_document : command_of (codes "produce" ∷ codes "R-1" ∷ codes "VOL001" ∷ codes "ABC" ∷ codes "8" ∷ codes "1" ∷ []) ≡ None
+no_last_document = refl
+
+too_wide : command_of (codes "produce" ∷ codes "R-1" ∷ codes "VOL001" ∷ codes "ABC" ∷ codes "256" ∷ codes "1" ∷ codes "12" ∷ []) ≡ None
+too_wide = refl
+
+-- what is printed of its volume
+volume_told : volume_line produced (record { files = 37; manifest = 0 ∷ 171 ∷ [] })
+    ≡ codes "production R-1 labels ABC00000001 to ABC00000023 files 37 manifest 00ab\n"
+unfolding digits encode encode_with
+volume_told = refl
+
+-- a rule of the rows comes first
+produce_rows_first : produce_gives (asked_first []) (Err (bare_rule kinds.NoMatter)) ≡ refused (bare_rule kinds.NoMatter)
+produce_rows_first = refl
+
+-- ---- press and log
+
+press_line : command_of (codes "press" ∷ codes "R-1" ∷ []) ≡ Some (press (codes "R-1"))
+unfolding chars
+press_line = refl
+
+log_line : command_of (codes "log" ∷ codes "R-1" ∷ []) ≡ Some (log (codes "R-1"))
+unfolding chars
+log_line = refl
+
+press_alone : command_of (codes "press" ∷ []) ≡ None
+press_alone = refl
+
+press_two : command_of (codes "press" ∷ codes "R-1" ∷ codes "R-2" ∷ []) ≡ None
+press_two = refl
+
+-- a new matter keeps no production
+none_to_press : press_gives (codes "R-1") (Ok (begun abc_bytes)) ≡ refused (bare_rule kinds.NoProduction)
+none_to_press = refl
+
+none_to_log : log_gives (codes "R-1") (Ok (begun abc_bytes)) ≡ refused (bare_rule kinds.NoProduction)
+none_to_log = refl
+
+-- ---- claw
+
+-- its documents that a notice names
+abbrev claimed : ClawAsked
+claimed = record { id = codes "R-1"; volume = codes "VOL002"; notice = codes "n.csv" }
+
+claw_line : command_of (codes "claw" ∷ codes "R-1" ∷ codes "VOL002" ∷ codes "n.csv" ∷ []) ≡ Some (claw claimed)
+unfolding chars
+claw_line = refl
+
+claw_short : command_of (codes "claw" ∷ codes "R-1" ∷ codes "VOL002" ∷ []) ≡ None
+claw_short = refl
+
+-- the rules of the rows come before those of the file, and these before the production
+claw_rows_first : claw_gives claimed (Err (bare_rule kinds.NoMatter)) (Err (bare_rule kinds.FileAbsent)) ≡ refused (bare_rule kinds.NoMatter)
+claw_rows_first = refl
+
+claw_file_first : claw_gives claimed (Ok (begun abc_bytes)) (Err (bare_rule kinds.FileAbsent)) ≡ refused (bare_rule kinds.FileAbsent)
+claw_file_first = refl
+
+none_to_claw : claw_gives claimed (Ok (begun abc_bytes)) (Ok []) ≡ refused (bare_rule kinds.NoProduction)
+none_to_claw = refl
+
+replacement_told : replacement_line (codes "VOL002") produced (record { files = 37; manifest = 0 ∷ 171 ∷ [] })
+    ≡ codes "replacement VOL002 labels ABC00000001 to ABC00000023 files 37 manifest 00ab\n"
+unfolding digits encode encode_with
+replacement_told = refl
+
+-- ---- demo
+
+demo_line : command_of (codes "demo" ∷ codes "7" ∷ codes "1" ∷ []) ≡ Some (demo (record { seed = 7; pages = 1 }))
+demo_line = refl
+
+demo_most : command_of (codes "demo" ∷ codes "0" ∷ codes "2000" ∷ []) ≡ Some (demo (record { seed = 0; pages = 2000 }))
+demo_most = refl
+
+demo_nothing : command_of (codes "demo" ∷ codes "7" ∷ codes "0" ∷ []) ≡ None
+demo_nothing = refl
+
+demo_more : command_of (codes "demo" ∷ codes "7" ∷ codes "2001" ∷ []) ≡ None
+demo_more = refl
+
+demo_alone : command_of (codes "demo" ∷ codes "7" ∷ []) ≡ None
+demo_alone = refl
+
+demo_three : command_of (codes "demo" ∷ codes "7" ∷ codes "1" ∷ codes "1" ∷ []) ≡ None
+demo_three = refl
+
+-- where a row is kept nothing is drawn
+matter_stays : (asked : DemoAsked) → demo_gives asked (lead_row ∷ []) ≡ refused (bare_rule kinds.MatterThere)
+matter_stays asked = refl
 
 -- ---- serve
 

@@ -52,8 +52,7 @@ command_seen (commands.Check asked) = check (check_seen asked)
 command_seen (commands.Claw asked) = claw (claw_seen asked)
 command_seen (commands.Demo asked) = demo asked
 
--- by the first word
--- the command of words: its name, then its operands
+-- the command of words, of which the first is its name and the others are its operands
 abbrev pub named_command : List (List ℕ) → Option CommandLine
 named_command [] = None
 named_command (name ∷ operands) =

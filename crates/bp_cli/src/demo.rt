@@ -96,7 +96,7 @@ pub fn demo_volume<R: Threads + Sync, K: Keeper, F: Folder>(
     if there {
         return Err(Stop::Broken(Rule::bare(RuleKind::MatterThere)));
     }
-    let drawn = drawn_demo(alloc, asked)?;
+    let drawn = drawn_demo(rt, alloc, asked)?;
     drawn.tables.know_valid();
     keep_first(alloc, &drawn.tables, keeper)?;
     put_volume(rt, alloc, &drawn.tables, &drawn.production, folder)
@@ -118,11 +118,11 @@ pub struct Drawn {
 }
 
 // Draws the matter, and freezes all its documents.
-fn drawn_demo(alloc: Global, asked: DemoLine) -> Result<Drawn, Refusal>
+fn drawn_demo<R: Threads + Sync>(rt: &R, alloc: Global, asked: DemoLine) -> Result<Drawn, Refusal>
     ensures { DrawsDemo asked result }
 {
     let DemoLine { seed, pages } = asked;
-    let mut tables = demo_tables(alloc, u64::from(seed), pages)?;
+    let mut tables = demo_tables(rt, alloc, u64::from(seed), pages)?;
     let request = demo_request(alloc, tables.documents())?;
     let production = freeze_here(alloc, &mut tables, request)?;
     Ok(Drawn { tables, production })

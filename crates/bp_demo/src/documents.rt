@@ -4,11 +4,11 @@ ghost use Rattle.bp_demo.specs.Documents.{begin_document, document, documents, f
 ghost use Rattle.bp_demo.specs.Draws.{next};
 ghost use Rattle.bp_demo.specs.Pages.{behind_page};
 
+use crate::drawn::{DrawnDoc, DrawnPage};
 use crate::draws::Draws;
-use crate::pages::{drawn_words, inked_page};
+use crate::pages::drawn_words;
 use crate::plain_texts::decimal_text;
-use bp_core::{ListOf, OutOfMemory};
-use bp_matter::{BatchDoc, BatchPage, KeptPage};
+use bp_core::OutOfMemory;
 use std::alloc::Global;
 use std::marker::Model;
 
@@ -19,9 +19,9 @@ pub const MOST_PAGES: u32 = 2_000;
 // so far, and what draws on.
 #[derive(Drop)]
 struct Drawing {
-    done: Vec<BatchDoc>,
+    done: Vec<DrawnDoc>,
     parent: u32,
-    pages: Vec<BatchPage>,
+    pages: Vec<DrawnPage>,
     draws: Draws,
 }
 
@@ -43,7 +43,7 @@ pub fn drawn_documents(
     alloc: Global,
     seed: u64,
     pages: u32,
-) -> Result<(Vec<BatchDoc>, Draws), OutOfMemory>
+) -> Result<(Vec<DrawnDoc>, Draws), OutOfMemory>
     requires some { 1 ≤ pages }
     requires few { pages ≤ MOST_PAGES }
     ensures docs { IfOk result (λ x. x.0.items ≡ documents (pages_drawn seed (pages - 1))) }
@@ -105,7 +105,7 @@ impl Drawing {
     }
 
     // All documents, and what draws on.
-    fn finish(self, alloc: Global) -> Result<(Vec<BatchDoc>, Draws), OutOfMemory>
+    fn finish(self, alloc: Global) -> Result<(Vec<DrawnDoc>, Draws), OutOfMemory>
         requires { length self.done < MOST_PAGES }
         ensures docs { IfOk result (λ x. x.0.items ≡ documents self) }
         ensures state { IfOk result (λ x. x.1.state ≡ self.state) }
@@ -122,16 +122,13 @@ impl Drawing {
     }
 }
 
-// Draws a page, with its words.
-fn drawn_page(alloc: Global, draws: &mut Draws) -> Result<BatchPage, OutOfMemory>
+// Draws a page by its words. It is coded later.
+fn drawn_page(alloc: Global, draws: &mut Draws) -> Result<DrawnPage, OutOfMemory>
     ensures page { IfOk result (λ page. page ≡ page_from draws.old.state) }
     ensures state { OnOk result (draws.new.state ≡ behind_page draws.old.state) }
 {
     let words = drawn_words(alloc, draws)?;
-    let page = inked_page(alloc, &words)?;
-    let page = KeptPage::of(alloc, &page)?;
-    let words = ListOf::from_vec(words);
-    Ok(BatchPage { page, words })
+    Ok(DrawnPage::of(words))
 }
 
 // Whether a new document joins the family before it says which of these is its parent.
@@ -146,15 +143,10 @@ fn document(
     alloc: Global,
     number: u32,
     parent: u32,
-    pages: Vec<BatchPage>,
-) -> Result<BatchDoc, OutOfMemory>
+    pages: Vec<DrawnPage>,
+) -> Result<DrawnDoc, OutOfMemory>
     ensures { IfOk result (λ doc. doc ≡ document number parent pages.items) }
 {
     let id = decimal_text(alloc, number)?;
-    Ok(BatchDoc {
-        id,
-        parent,
-        values: ListOf::new(alloc),
-        pages: ListOf::from_vec(pages),
-    })
+    Ok(DrawnDoc::of(id, parent, pages))
 }

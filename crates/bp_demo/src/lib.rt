@@ -10,6 +10,7 @@ mod asked;
 mod batch;
 mod calls;
 mod documents;
+mod drawn;
 mod draws;
 mod pages;
 mod plain_texts;

@@ -12,16 +12,23 @@ use bp_core::{OutOfMemory, Refusal};
 use bp_matter::{Batch, Tables};
 use bp_rules::{Change, Decided, Imported, apply, begin, decide, decide_import, make_room};
 use std::alloc::Global;
+use std::thread::Threads;
 
-/// The tables of the matter of this seed and so many pages, 1 to 2,000. No keeper has its rows.
+/// The tables of the matter of this seed and so many pages, 1 to 2,000. No keeper has its rows. It
+/// returns if the threads that it joins do.
 ///
-///     let tables = demo_tables(alloc, 7, 200)?;
-pub fn demo_tables(alloc: Global, seed: u64, pages: u32) -> Result<Tables, OutOfMemory>
+///     let tables = demo_tables(rt, alloc, 7, 200)?;
+pub fn demo_tables<R: Threads + Sync>(
+    rt: &R,
+    alloc: Global,
+    seed: u64,
+    pages: u32,
+) -> Result<Tables, OutOfMemory>
     requires some { 1 ≤ pages }
     requires few { pages ≤ MOST_PAGES }
     ensures { IfOk result (λ tables. tables.matter ≡ demo_matter seed pages) }
 {
-    let asked = demo_asked(alloc, seed, pages)?;
+    let asked = demo_asked(rt, alloc, seed, pages)?;
     let mut tables = begin(alloc, digest_of(b"lead"))?;
     make_all(alloc, &mut tables, &asked)?;
     Ok(tables)

@@ -19,6 +19,7 @@ mod lines;
 mod looked_up;
 mod presses;
 mod seen;
+mod strips;
 mod told;
 
 pub use commands::carry_out;

@@ -6,7 +6,7 @@
 //     long WORD..              the line of these words, and how many bytes what is told has
 use crate::day::Day;
 use crate::told::{constant, unread};
-use crate::{asked, batches, commands, keeping, looked_up, presses};
+use crate::{asked, batches, commands, keeping, looked_up, presses, strips};
 use anyhow::Result;
 use bp_script::{Tally, Words};
 use std::alloc::Global;
@@ -65,6 +65,9 @@ fn of_verb<R: Threads + Sync>(
         return Some(told);
     }
     if let Some(told) = day.given.told(verb, words) {
+        return Some(told);
+    }
+    if let Some(told) = strips::told(rt, day, verb, words) {
         return Some(told);
     }
     if let Some(told) = presses::told(rt, day, verb, words) {

@@ -53,6 +53,11 @@ impl Shelf {
         }
     }
 
+    /// What stands in the file of this path, of those that were pressed.
+    pub fn file_at(&self, path: &Text) -> &[u8] {
+        file_at(self.folder.files(), path)
+    }
+
     /// This folder is the one that was pressed into.
     pub fn lay(&mut self, folder: MemFolder) {
         self.folder = folder;

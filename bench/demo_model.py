@@ -1,5 +1,5 @@
 #!/usr/bin/env python3
-"""A plain model of `demo SEED PAGES` (docs/FORMATS.md, "The generator of `demo`"): its own numbers, coder and digests.
+"""A plain model of `demo SEED PAGES` (docs/FORMATS.md, bp_demo): its own numbers, coder and digests.
 
     demo_model.py SEED PAGES            the line that `demo` prints
     demo_model.py SEED PAGES manifest   the manifest of its volume

@@ -1,5 +1,5 @@
 #!/bin/sh
-# Proves and builds the program bp_bench, which makes library calls that no command makes yet, and prints where it stands.
+# Proves and builds the program bp_bench, which makes library calls without a database, and prints where it stands.
 # Needs rt on PATH.
 set -eu
 here=$(CDPATH='' cd -- "$(dirname -- "$0")" && pwd)

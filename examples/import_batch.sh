@@ -1,7 +1,7 @@
 #!/bin/sh
 # Takes the batch CVI_001 into a new matter with a keeper in memory, by the calls that the command `import` makes
-# (`read_batch` and `step_import`), from its files as they stand here: the program keeps no rows from one command to the
-# next yet. Then reads it by the rules of an import once more, by check_batch.py. Both are to find 31 pages.
+# (`read_batch` and `step_import`), from its files as they stand here. Then reads it by the rules of an import once more, by
+# check_batch.py. Both are to find 31 pages.
 # Needs rt on PATH, python3, and Debian's libtiff-tools and netpbm.
 set -eu
 here=$(CDPATH='' cd -- "$(dirname -- "$0")" && pwd)

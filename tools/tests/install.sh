@@ -74,9 +74,38 @@ status_of env FAIL=bp_text "$copy/tivrenan" init x
 check 'a crate that is not proved ends the build' is "$status" 69
 check 'it says which, and where' holds 'bp_text could not be proved; what rt said is in .*/bp_text.log' "$room/said"
 pause=7.$$ # a number that no other trial sleeps
-status_of env PAUSE=$pause timeout -s TERM 3 "$copy/tivrenan" build
-check 'a signal ends the build' is "$status" 124
-check 'and leaves nothing that runs' is "$(grep -lxz "$pause" /proc/[0-9]*/cmdline 2> /dev/null || :)" ''
+# seconds: status of a build whose processes are ended by ten signals, so long one after another: one comes while another is answered
+ended_build() {
+    : > "$room/events"
+    env PAUSE=$pause setsid "$copy/tivrenan" build > "$room/said" 2>&1 &
+    launcher=$!
+    for _ in $(seq 100); do [ -s "$room/events" ] || sleep 0.1; done
+    python3 "$room/signals.py" "$launcher" "$1"
+    status=0
+    wait "$launcher" || status=$?
+}
+cat > "$room/signals.py" << 'END'
+import os, signal, sys, time
+for _ in range(10):
+    try:
+        os.killpg(int(sys.argv[1]), signal.SIGTERM)
+    except ProcessLookupError:
+        break
+    until = time.monotonic() + float(sys.argv[2])
+    while time.monotonic() < until:
+        pass
+END
+sleeps() { grep -lxz "$pause" /proc/[0-9]*/cmdline 2> /dev/null; }
+# what was ended may take a moment to go
+nothing_sleeps() {
+    for _ in 1 2 3 4 5; do sleeps > "$room/left" && sleep 0.2 || return 0; done
+    cat "$room/left" && return 1
+}
+for apart in 0.00002 0.0001 0.0003 0.001; do
+    ended_build "$apart"
+    check "signals end the build, $apart s apart" is "$status" 143
+    check "and leave nothing that runs, $apart s apart" nothing_sleeps
+done
 : > "$room/events"
 status_of "$copy/tivrenan" init x
 check 'the program is built and run' is "$status" 0

@@ -21,7 +21,7 @@ const MEANINGS = {
   RangeEmpty: 'From is 1 or more and at most To, and To is at most the number of documents.',
   SplitFamily: 'A family reaches outside the range: document {a} is of it. Widen the range to have all of it, or none.',
   Unsettled: 'Document {a} isn’t settled: it has to be called Produce, or confirmed by a second person, and so has each other '
-    + 'one of its family.',
+    + 'one of the range that isn’t produced yet.',
   NothingResponsive: 'Nothing is left to produce: each family of the range is produced already, or has no responsive '
     + 'document.',
   RequestDiffers: 'This ID belongs to a production with other words. Take another ID.',

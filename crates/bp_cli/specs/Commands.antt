@@ -88,8 +88,8 @@ abbrev pub uses_by : Option CommandLine → Uses
 uses_by None = record { files = false; rows = false; commits = false; ahead = false }
 uses_by (Some c) = uses_of c
 
--- a command reads from the source once at most, `import` and `check` as often as files are named,
--- and those that use no files never
+-- `burn` and `claw` read from the source once at most; those that use no files, and a line that names
+-- no command, never; of `import` and `check` nothing is said
 abbrev pub ReadsAsOften : Option CommandLine → ℕ → ℕ → Type 0
 ReadsAsOften None before now = now ≡ before
 ReadsAsOften (Some (burn b)) before now = AtMostOnce before now

@@ -1,6 +1,8 @@
 pub mod TextLemmas
 pub mod WordLemmas
 pub mod PageLemmas
+pub mod LineLemmas
+pub mod KeptLemmas
 pub mod PileLemmas
 pub mod BatchLemmas
 pub mod CallLemmas

@@ -26,7 +26,7 @@ use Rattle.bp_demo.proofs.TextLemmas.{word_text_fits, word_text_short}
 below_mod : (y n : ℕ) → 0 < n → y % n < n
 below_mod y n some = omega arith
 
-drawn_below : (x n : ℕ) → 0 < n → drawn x n < n
+pub drawn_below : (x n : ℕ) → 0 < n → drawn x n < n
 drawn_below x n some = below_mod (x / 2 ^ 33) n some
 
 abbrev box : ℕ → ℕ → ℕ → Rect

@@ -1,5 +1,5 @@
 -- A page that is drawn: white, but for forty words, one on a line, each of which is a black rectangle.
-use Rattle.std.specs.Prelude.{ℕ, ◌+◌, ◌*◌, List, ◌++◌, codes, map}
+use Rattle.std.specs.Prelude.{ℕ, ◌≡◌, ◌<◌, ◌≤◌, ◌+◌, ◌*◌, List, ◌++◌, codes, length, map, slice_index_or}
 use Rattle.std.specs.Fmt.{decimal}
 use Rattle.std.specs.List.{range_with_len}
 use Rattle.bp_rows.specs.Burned.{burned}
@@ -43,3 +43,30 @@ unfoldable pub page_image : List Word → Image
 page_image words =
     burned (white_image PAGE_WIDTH PAGE_HEIGHT demo_dots demo_dots Inch)
     (map (λ word. word.rect) words)
+
+-- a word stands where word i of a page does, i counted from 0: on its line, and inside the page
+pub record StandsAt (i : ℕ) (word : Word) : Type 0 where
+  pub top : word.rect.top ≡ 50 + 25 * i
+  pub height : word.rect.height ≡ 12
+  pub some : 0 < word.rect.width
+  pub right : word.rect.left + word.rect.width ≤ PAGE_WIDTH
+
+-- each word stands where its place in the list says
+abbrev pub AreLines : List Word → Type 0
+AreLines words = (i : ℕ) (d : Word) → i < length words → StandsAt i (slice_index_or words i d)
+
+-- a row passes the words at that place of a page, counted from 0
+pub record Passes (row i : ℕ) : Type 0 where
+  pub from : 50 + 25 * i ≤ row
+  pub to : row < 50 + 25 * i + 12
+
+-- a row passes none of the words
+abbrev pub PassesNone : List Word → ℕ → Type 0
+PassesNone words row = (i : ℕ) → i < length words → Passes row i → ⊥
+
+-- a row passes this one of the words
+pub record PassesWord (words : List Word) (row : ℕ) (word : Word) : Type 0 where
+  pub place : ℕ
+  pub there : place < length words
+  pub is : word ≡ slice_index_or words place word
+  pub passes : Passes row place

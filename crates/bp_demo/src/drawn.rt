@@ -1,8 +1,8 @@
 // Documents whose pages are drawn, and the coding of these on threads.
 ghost use Rattle.std.specs.Prelude.{◌≡◌, [], IfOk};
-ghost use Rattle.bp_demo.specs.Pages.{page_image};
+ghost use Rattle.bp_demo.specs.Pages.{AreLines, page_image};
 
-use crate::pages::inked_page;
+use crate::inked::inked_page;
 use bp_core::{ListOf, OutOfMemory, Text};
 use bp_matter::{BatchDoc, BatchPage, KeptPage};
 use bp_text::Word;
@@ -24,18 +24,20 @@ pub struct DrawnPage {
 impl Model for DrawnPage {
     ghost use Rattle.std.specs.Prelude.{◌≡◌, IfSome};
     ghost use Rattle.bp_matter.specs.declared.batches.BatchPage.{BatchPage};
-    ghost use Rattle.bp_demo.specs.Pages.{page_image};
+    ghost use Rattle.bp_demo.specs.Pages.{AreLines, page_image};
 
     ghost Value = { BatchPage };
 
     ghost view = { λ d. record { page = page_image d.words.items; words = d.words.items } };
 
-    ghost invariant = { λ d. IfSome d.kept (λ kept. kept ≡ page_image d.words.items) };
+    ghost invariant = { λ d.
+        AreLines d.words.items × IfSome d.kept (λ kept. kept ≡ page_image d.words.items) };
 }
 
 impl DrawnPage {
     // The page of these words, not coded yet.
     pub fn of(words: Vec<Word>) -> DrawnPage
+        requires { AreLines words.items }
         ensures { result ≡ record { page = page_image words.items; words = words.items } }
     {
         DrawnPage { words, kept: None }
@@ -45,7 +47,7 @@ impl DrawnPage {
     fn code(&mut self, alloc: Global)
         ensures { self.new ≡ self.old }
     {
-        if let Ok(kept) = kept_page(alloc, &self.words) {
+        if let Ok(kept) = inked_page(alloc, &self.words) {
             self.kept = Some(kept);
         }
     }
@@ -57,19 +59,11 @@ impl DrawnPage {
         let DrawnPage { words, kept } = self;
         let page = match kept {
             Some(page) => page,
-            None => kept_page(alloc, &words)?,
+            None => inked_page(alloc, &words)?,
         };
         let words = ListOf::from_vec(words);
         Ok(BatchPage { page, words })
     }
-}
-
-// The page on which these words are black, coded.
-fn kept_page(alloc: Global, words: &[Word]) -> Result<KeptPage, OutOfMemory>
-    ensures { IfOk result (λ kept. kept ≡ page_image words.now) }
-{
-    let page = inked_page(alloc, words)?;
-    KeptPage::of(alloc, &page)
 }
 
 // A document that is drawn.

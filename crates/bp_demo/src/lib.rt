@@ -12,6 +12,7 @@ mod calls;
 mod documents;
 mod drawn;
 mod draws;
+mod inked;
 mod pages;
 mod plain_texts;
 mod request;

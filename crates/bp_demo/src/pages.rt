@@ -1,16 +1,11 @@
-// A page that is drawn.
-ghost use Rattle.std.specs.Prelude.{◌≡◌, ◌<◌, IfOk, OnOk, IsTrue, map};
-ghost use Rattle.bp_rows.specs.Image.{white_image};
-ghost use Rattle.bp_rows.specs.Limits.{sides_are_allowed};
-ghost use Rattle.bp_rows.specs.declared.resolution.Unit.TheVariants.{Inch};
+// The words of a page that is drawn.
+ghost use Rattle.std.specs.Prelude.{◌≡◌, ◌<◌, IfOk, OnOk};
 ghost use Rattle.bp_demo.specs.Draws.{next};
-ghost use Rattle.bp_demo.specs.Pages.{behind_page, demo_dots, page_image, page_words, word_from};
+ghost use Rattle.bp_demo.specs.Pages.{AreLines, behind_page, page_words, word_from};
 
 use crate::draws::Draws;
 use crate::plain_texts::word_text;
-use bp_burn::burn_in_place;
-use bp_core::{OutOfMemory, Rect, Refusal};
-use bp_rows::{Page, Res, Unit};
+use bp_core::{OutOfMemory, Rect};
 use bp_text::Word;
 use std::alloc::Global;
 
@@ -26,9 +21,19 @@ pub const PAGE_DOTS: u32 = 100;
 /// How many words a drawn page has, each on a line of its own.
 pub const LINES: u32 = 40;
 
+/// The first row of the first word.
+pub const FIRST_ROW: u32 = 50;
+
+/// How many rows there are from the first row of a word to that of the next one.
+pub const LINE_ROWS: u32 = 25;
+
+/// How many rows a word has.
+pub const WORD_ROWS: u32 = 12;
+
 // Draws the words of a page.
 pub fn drawn_words(alloc: Global, draws: &mut Draws) -> Result<Vec<Word>, OutOfMemory>
     ensures words { IfOk result (λ words. words.items ≡ page_words draws.old.state) }
+    ensures lines { IfOk result (λ words. AreLines words.items) }
     ensures state { OnOk result (draws.new.state ≡ behind_page draws.old.state) }
 {
     let mut words = Vec::new(alloc);
@@ -49,9 +54,9 @@ fn drawn_word(alloc: Global, draws: &mut Draws, i: u32) -> Result<Word, OutOfMem
     let number = draws.draw(1_000);
     let rect = Rect {
         left,
-        top: 50 + 25 * i,
+        top: FIRST_ROW + LINE_ROWS * i,
         width,
-        height: 12,
+        height: WORD_ROWS,
     };
     let text = word_text(alloc, number)?;
     Ok(Word {
@@ -59,41 +64,4 @@ fn drawn_word(alloc: Global, draws: &mut Draws, i: u32) -> Result<Word, OutOfMem
         rect,
         text,
     })
-}
-
-// The page on which these words are black.
-pub fn inked_page(alloc: Global, words: &[Word]) -> Result<Page, OutOfMemory>
-    ensures { IfOk result (λ page. page ≡ page_image words.now) }
-{
-    let rects = rects_of(alloc, words)?;
-    let mut page = white_page(alloc, PAGE_WIDTH, PAGE_HEIGHT)?;
-    burn_in_place(&mut page, &rects);
-    Ok(page)
-}
-
-// The rectangles of words.
-fn rects_of(alloc: Global, words: &[Word]) -> Result<Vec<Rect>, OutOfMemory>
-    ensures { IfOk result (λ rects. rects.items ≡ map (λ word. word.rect) words.now) }
-{
-    let mut rects = Vec::new(alloc);
-    for word in words {
-        rects.push(word.rect)?;
-    }
-    Ok(rects)
-}
-
-// A white page of these sides.
-fn white_page(alloc: Global, width: u32, height: u32) -> Result<Page, OutOfMemory>
-    requires { IsTrue (sides_are_allowed width height) }
-    ensures { IfOk result (λ page. page ≡ white_image width height demo_dots demo_dots Inch) }
-{
-    let dots = Res {
-        num: PAGE_DOTS,
-        den: 1,
-    };
-    match Page::white(alloc, width, height, dots, dots, Unit::Inch) {
-        Ok(page) => Ok(page),
-        Err(Refusal::OutOfMemory) => Err(OutOfMemory),
-        Err(Refusal::Rule(_)) => unreachable!(),
-    }
 }

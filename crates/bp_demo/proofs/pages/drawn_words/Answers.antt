@@ -1,4 +1,6 @@
-use Rattle.std.proofs.Common.{◌≡◌, ◌∙◌, arith}
+use Rattle.std.proofs.Common.{◌≡◌, ◌∙◌, arith, subst, sym}
+use Rattle.bp_demo.specs.Pages.{AreLines}
+use Rattle.bp_demo.proofs.LineLemmas.{drawn_are_lines}
 use Rattle.bp_demo.proofs.WordLemmas.{after_none, after_word, words_more, words_whole}
 use Rattle.bp_demo.proofs.pages.drawn_words.Goals as goal
 
@@ -18,3 +20,9 @@ pub returns-clause-words : goal.returns-clause-words
 returns-clause-words c =
     let all : c.loop-i.i ≡ 40 = omega arith in
     words_whole c.loop-i.i c.args.draws.now.state c.loop-i.words.items all c.loop-i.invariant.0
+
+pub returns-clause-lines : goal.returns-clause-lines
+returns-clause-lines c =
+    let all : c.loop-i.i ≡ 40 = omega arith in
+    let x = c.args.draws.now.state in
+    subst AreLines (sym (words_whole c.loop-i.i x c.loop-i.words.items all c.loop-i.invariant.0)) (drawn_are_lines x)

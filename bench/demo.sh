@@ -12,6 +12,7 @@ program=$here/../crates/bp_main/out/bp_main
 bench=$here/../crates/bp_bench/out/bp_bench
 pages=${1:-2000}
 rounds=${2:-3}
+export GLIBC_TUNABLES="${GLIBC_TUNABLES-glibc.pthread.stack_cache_size=200000000}" # as the launcher sets it
 [ ! -w /dev/shm ] || export TMPDIR="${TMPDIR:-/dev/shm}"
 scratch=${3:-$(mktemp -d)}
 mkdir -p "$scratch"

@@ -2,11 +2,12 @@
 # The press of letter pages by sixteen images at a time, as press.sh makes them: on one processor (taskset) and on all that there
 # are, beside as many processes that share nothing, each on a processor of its own, which tells what this machine gives at most; beside
 # the script with public tools (press_peer.sh) in as many processes (xargs -P); the memory beside the tables; two volumes at once, each
-# into a folder of its own; and the growth up to 20,000 pages. A time is on the clock, that of a run with several volumes less that of a
+# into a folder of its own; and the growth up to 20,000 pages. How many times as fast a plain C program is (threads.c), whose jobs share and
+# touch nothing, by the same tree of threads, tells what such threads can give here. A time is on the clock, that of a run with several volumes less that of a
 # run with one, the least of all rounds; it tells little where other work runs beside. It works in TMPDIR, or else in a file system in
 # memory: ext4 looks long for places of new files where many were removed seconds before, as this does each time.
 # Words: how many pages, 2,000 where none is given; how often each is run, 3 where none is given.
-# Needs rt on PATH, python3, taskset (Debian: util-linux), and of Debian netpbm.
+# Needs rt on PATH, python3, gcc, taskset (Debian: util-linux), and of Debian netpbm.
 set -eu
 here=$(CDPATH='' cd -- "$(dirname -- "$0")" && pwd)
 bench=$here/../crates/bp_bench/out/bp_bench
@@ -21,6 +22,7 @@ stop() { echo "threads.sh: $1" >&2; exit 1; }
 for tool in taskset tifftopnm python3; do
     command -v "$tool" > /dev/null || stop "needs $tool"
 done
+export GLIBC_TUNABLES="${GLIBC_TUNABLES-glibc.pthread.stack_cache_size=200000000}" # as the launcher sets it
 [ ! -w /dev/shm ] || export TMPDIR="${TMPDIR:-/dev/shm}"
 scratch=$(mktemp -d)
 trap 'rm -rf "$scratch"' EXIT
@@ -28,18 +30,24 @@ trap 'rm -rf "$scratch"' EXIT
 out=$scratch/out
 tifftopnm -quiet "$letter" > "$scratch/letter.pbm"
 
-# processors, pages: processor and wall seconds of a volume, and MB
+# processors, pages, rounds: processor and wall seconds of a volume, and MB
 volume_on() {
-    python3 "$here/cost.py" "$rounds" 2 "$out" taskset -c "$1" "$bench" press "$letter" "$2" "$words" 1 "$out" -- \
+    python3 "$here/cost.py" "$3" 2 "$out" taskset -c "$1" "$bench" press "$letter" "$2" "$words" 1 "$out" -- \
         taskset -c "$1" "$bench" press "$letter" "$2" "$words" 3 "$out"
 }
 
-set -- $(volume_on 0 "$pages") $(volume_on "0-$((processors - 1))" "$pages")
+set -- $(volume_on 0 "$pages" "$rounds") $(volume_on "0-$((processors - 1))" "$pages" "$rounds")
 one=$2 all=$5
 awk -v n="$pages" -v p="$processors" -v time="$1" -v one="$2" -v all="$5" -v spent="$4" 'BEGIN {
     printf "%d letter pages: %.2f s on one processor (%.2f ms of it a page, at most 4), %.2f s on %d: ", n, one, 1000 * time / n, all, p
     printf "%.2f times as fast, %.2f of a linear speed-up (at least 0.85); %.2f ms of processor time a page\n",
         one / all, one / all / p, 1000 * spent / n }'
+
+cc -O2 -o "$scratch/threads" "$here/threads.c" -lpthread
+for round in $(seq "$rounds"); do "$scratch/threads" "$(awk -v one="$one" -v n="$pages" 'BEGIN { print 1000 * one / n }')" 30; done | sort -n > "$scratch/plain"
+awk -v one="$one" -v all="$all" '{ best = $1 } NR == 1 { least = $1 } END {
+    printf "as many threads of a plain C program for jobs of the same time: %.2f to %.2f times as fast as one; press %.2f of the best\n",
+        least, best, one / all / best }' "$scratch/plain"
 
 cat > "$scratch/apart.sh" << END
 #!/bin/sh
@@ -74,7 +82,9 @@ set -- $(python3 "$here/cost.py" "$rounds" 2 "$out" "$scratch/two.sh" 1 -- "$scr
 awk -v all="$all" -v two="$2" 'BEGIN { printf "two volumes at once: %.2f s, %.2f times one\n", two, two / all }'
 
 for count in 100 1000 5000 20000; do
-    set -- $(volume_on "0-$((processors - 1))" "$count") \
+    turns=$rounds
+    [ "$count" -lt 20000 ] || turns=1 # the tables of so many take longer to make than all volumes
+    set -- $(volume_on "0-$((processors - 1))" "$count" "$turns") \
         $(python3 "$here/cost.py" 1 1 "$out" "$bench" press "$letter" "$count" "$words" 0 "$out" -- \
             "$bench" press "$letter" "$count" "$words" 1 "$out")
     awk -v n="$count" -v wall="$2" -v time="$1" -v memory="$6" 'BEGIN {

@@ -83,7 +83,7 @@ awk -v all="$all" -v two="$2" 'BEGIN { printf "two volumes at once: %.2f s, %.2f
 
 for count in 100 1000 5000 20000; do
     turns=$rounds
-    [ "$count" -lt 20000 ] || turns=1 # the tables of so many take longer to make than all volumes
+    [ "$count" -lt 20000 ] || turns=1 # the tables of so many take longer to make than all volumes; today bp_bench refuses them
     set -- $(volume_on "0-$((processors - 1))" "$count" "$turns") \
         $(python3 "$here/cost.py" 1 1 "$out" "$bench" press "$letter" "$count" "$words" 0 "$out" -- \
             "$bench" press "$letter" "$count" "$words" 1 "$out")

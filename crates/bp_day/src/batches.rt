@@ -3,12 +3,12 @@
 //     files                                         there is no file
 //     file PATH TEXT.. / file_hex PATH HEX..        a file, in place of the one of that path
 //     file_more PATH TEXT..                         these texts behind what it has
-//     image PATH FORM DOTS WIDTH HEIGHT RECTANGLE   the file, `plain` or `g4`, of a white page of so many
-//                                                   dots to the inch with a black rectangle
+//     image PATH FORM DOTS WIDTH HEIGHT RECTANGLE   the file, `plain` or `g4`, of a white page of so
+//                                                   many dots to the inch with a black rectangle
 //     absent PATH                                   there is no such file
-//     batch NAME READ..      what is read: documents, pages, fields, and of each document its id, parent,
-//                            values, and the words of each page; or the rule. The reads of these
-//                            numbers, from 0, fail
+//     batch NAME READ..      what is read: documents, pages, fields, and of each document its id,
+//                            parent, values, and the words of each page; or the rule. The reads of
+//                            these numbers, from 0, fail
 //     digest NAME            the digest of what is read
 //     import NAME READ..     what is read comes in: documents and pages
 use crate::day::Day;

@@ -11,8 +11,8 @@ use bp_rules::{RunStep, begin};
 use std::alloc::Global;
 
 /// A matter with its keeper; the rows as they were marked; the rows and files that are given; what
-/// waits to be put, or to be asked in one run; the files that were pressed; and what the next command line
-/// meets outside.
+/// waits to be put, or to be asked in one run; the files that were pressed; and what the next command
+/// line meets outside.
 #[derive(Drop)]
 pub struct Day {
     pub(crate) alloc: Global,

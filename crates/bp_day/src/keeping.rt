@@ -1,8 +1,8 @@
 // The matter and its keeper.
 //
 //     begin BYTE               a new matter, whose lead has this key
-//     load                     the keeper has the rows that were given, if there are some, and the tables are
-//                              loaded anew
+//     load                     the keeper has the rows that were given, if there are some, and the
+//                              tables are loaded anew
 //     faults NUMBER..          the keeper's calls of these numbers, from 0 and from here on, fail
 //     fault_count              how many calls of the keeper failed since then
 //     mark / same              notes the rows of the tables / whether tables and keeper still have them

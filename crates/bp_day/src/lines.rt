@@ -1,8 +1,9 @@
 // Lines: which module does what each asks for.
 //
-//     repeat FROM TO WORD..    the line of these words for each number, and what is told of the last: `#` stands
-//                              for the number, `#4` for it in four digits, `#x4` and `#x5` for the hexadecimal
-//                              digits of four and five digits, and `#le` for its four bytes, the lowest first
+//     repeat FROM TO WORD..    the line of these words for each number, and what is told of the last:
+//                              `#` stands for the number, `#4` for it in four digits, `#x4` and `#x5`
+//                              for the hexadecimal digits of four and five digits, and `#le` for its
+//                              four bytes, the lowest first
 //     long WORD..              the line of these words, and how many bytes what is told has
 use crate::day::Day;
 use crate::told::{constant, unread};

@@ -2,18 +2,18 @@
 //
 //     press ID WRITE..       how many files are written, or the refusal; the folder's calls of these
 //                            numbers, from 0, fail
-//     meet ID                the same into a folder in memory, where the jobs of the first two images wait for
-//                            one another: how many of them saw the other's begin
+//     meet ID                the same into a folder in memory, where the jobs of the first two images
+//                            wait for one another: how many of them saw the other's begin
 //     manifest               the digest that was told of the manifest
 //     left                   how many files the folder has
 //     path NUMBER            the path of that file, from 1
 //     text PATH / hex PATH / length PATH      what stands in the file
 //     shelve                 the files are laid aside
-//     handed                 the files that were laid aside are files in memory too, each in place of the one
-//                            of its path
+//     handed                 the files that were laid aside are files in memory too, each in place of
+//                            the one of its path
 //     alike                  whether the files are those that were laid aside
-//     part                   how many files there are, and how many of them are whole, where they are a first
-//                            part of those
+//     part                   how many files there are, and how many of them are whole, where they are a
+//                            first part of those
 //     found ID               whether each file is the one that is found by its path
 //     find ID PATH           how many bytes the file has that is found by this path, or the rule
 ghost use Rattle.std.specs.Prelude.{IfSome};

@@ -1,8 +1,8 @@
 // Strips of images, made in one call.
 //
 //     strips DOC PAGE BOX BASIS LABEL DESIGNATION PATH BASIS LABEL DESIGNATION PATH
-//                            whether the strips of a page with this box and of a sheet are those with which the files
-//                            of these paths end that were pressed
+//                            whether the strips of a page with this box and of a sheet are those with
+//                            which the files of these paths end that were pressed
 ghost use Rattle.std.specs.Prelude.{IfOk, IfSome};
 ghost use Rattle.bp_matter.specs.Matter.{Matter};
 ghost use Rattle.bp_press.specs.Jobs.{IsCodable};

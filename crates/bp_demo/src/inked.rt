@@ -1,4 +1,5 @@
-// A page that is drawn, coded row by row without pixels: of a row only the places are needed where its colour changes.
+// A page that is drawn, coded row by row without pixels: of a row only the places are needed where its
+// colour changes.
 ghost use Rattle.std.specs.Prelude.{◌≡◌, ◌<◌, IfOk, MatchOption, OnOk};
 ghost use Rattle.bp_rows.specs.Changes.{Shows};
 ghost use Rattle.bp_rows.specs.Image.{row_of};
@@ -15,8 +16,8 @@ use bp_t6::laws::{strip_law, strip_size};
 use bp_text::Word;
 use std::alloc::Global;
 
-// The page on which these words are black, coded. To keep it, its strip is read and coded once more, which takes less than to
-// look for the changing elements among the pixels of a painted page.
+// The page on which these words are black, coded. To keep it, its strip is read and coded once more,
+// which takes less than to look for the changing elements among the pixels of a painted page.
 pub fn inked_page(alloc: Global, words: &[Word]) -> Result<KeptPage, OutOfMemory>
     requires { AreLines words.now }
     ensures { IfOk result (λ kept. kept ≡ page_image words.now) }
@@ -67,7 +68,8 @@ fn inked_strip(alloc: Global, words: &[Word]) -> Result<Bytes, OutOfMemory>
     writer.finish(alloc)
 }
 
-// The places where the colour of a row changes become these: both ends of the word in it, if there is one.
+// The places where the colour of a row changes become these: both ends of the word in it, if there is
+// one.
 fn put_places(places: &mut Vec<u32>, words: &[Word], row: u32) -> Result<(), OutOfMemory>
     requires lines { AreLines words.now }
     requires row { row < PAGE_HEIGHT }

@@ -29,8 +29,8 @@ tifftopnm -quiet "$letter" > "$scratch/letter.pbm"
 
 # job, pages, volumes, folder or -: processor and wall seconds of a volume, and MB
 volume_of() {
-    python3 "$here/cost.py" "$rounds" "$3" "$4" "$bench" "$1" "$letter" "$2" "$words" 1 "$4" -- \
-        "$bench" "$1" "$letter" "$2" "$words" $(($3 + 1)) "$4"
+    python3 "$here/cost.py" "$rounds" "$3" "$4" "$bench" "$1" "$letter" "$2" 1 "$words" 1 "$4" -- \
+        "$bench" "$1" "$letter" "$2" 1 "$words" $(($3 + 1)) "$4"
 }
 
 # a page file: its pixels above the band, without the letters in the corner of the box, which the script doesn't draw
@@ -38,7 +38,7 @@ pbmmake -black 39 27 > "$scratch/corner.pbm"
 above_band() { tifftopnm -quiet "$1" | pamcut -top 0 -height 3300 | pnmpaste "$scratch/corner.pbm" 320 1755; }
 
 # the two show the same
-"$bench" press "$letter" 2 "$words" 1 "$out" > /dev/null
+"$bench" press "$letter" 2 1 "$words" 1 "$out" > /dev/null
 "$here/press_peer.sh" "$scratch/letter.pbm" 2 "$scratch/peer"
 above_band "$out/0/VOL001/IMAGES/0001/ABC00000002.TIF" > "$scratch/mine.pbm"
 above_band "$scratch/peer/VOL001/IMAGES/0001/ABC00000002.TIF" > "$scratch/other.pbm"
@@ -63,8 +63,8 @@ awk -v n="$pages" -v press="$1" -v wall="$2" -v peer="$4" -v peer_wall="$5" 'BEG
 
 for count in 100 200 300 450; do
     set -- $(volume_of press "$count" 2 "$out") \
-        $(python3 "$here/cost.py" "$rounds" 1 "$out" "$bench" press "$letter" "$count" "$words" 0 "$out" -- \
-            "$bench" press "$letter" "$count" "$words" 1 "$out")
+        $(python3 "$here/cost.py" "$rounds" 1 "$out" "$bench" press "$letter" "$count" 1 "$words" 0 "$out" -- \
+            "$bench" press "$letter" "$count" 1 "$words" 1 "$out")
     awk -v n="$count" -v press="$1" -v wall="$2" -v memory="$6" 'BEGIN {
         page = 319 * 3300 / 1048576
         printf "%5d letter pages: press %.2f s of processor time, %.2f ms a page; %.2f s of wall time, %.2f ms a page; ",

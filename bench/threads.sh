@@ -2,10 +2,11 @@
 # The press of letter pages by sixteen images at a time, as press.sh makes them: on one processor (taskset) and on all that there
 # are, beside as many processes that share nothing, each on a processor of its own, which tells what this machine gives at most; beside
 # the script with public tools (press_peer.sh) in as many processes (xargs -P); the memory beside the tables; two volumes at once, each
-# into a folder of its own; and the growth up to 20,000 pages. How many times as fast a plain C program is (threads.c), whose jobs share and
-# touch nothing, by the same tree of threads, tells what such threads can give here. A time is on the clock, that of a run with several volumes less that of a
-# run with one, the least of all rounds; it tells little where other work runs beside. It works in TMPDIR, or else in a file system in
-# memory: ext4 looks long for places of new files where many were removed seconds before, as this does each time.
+# into a folder of its own; and the growth up to 20,000 pages, in documents of two, since a matter has at most 10,000 documents. How
+# many times as fast a plain C program is (threads.c), whose jobs share and touch nothing, by the same tree of threads, tells what such
+# threads can give here. A time is on the clock, that of a run with several volumes less that of a run with one, the least of all
+# rounds; it tells little where other work runs beside. It works in TMPDIR, or else in a file system in memory: ext4 looks long for
+# places of new files where many were removed seconds before, as this does each time.
 # Words: how many pages, 2,000 where none is given; how often each is run, 3 where none is given.
 # Needs rt on PATH, python3, gcc, taskset (Debian: util-linux), and of Debian netpbm.
 set -eu
@@ -30,13 +31,13 @@ trap 'rm -rf "$scratch"' EXIT
 out=$scratch/out
 tifftopnm -quiet "$letter" > "$scratch/letter.pbm"
 
-# processors, pages, rounds: processor and wall seconds of a volume, and MB
+# processors, documents, pages of each, rounds: processor and wall seconds of a volume, and MB
 volume_on() {
-    python3 "$here/cost.py" "$3" 2 "$out" taskset -c "$1" "$bench" press "$letter" "$2" "$words" 1 "$out" -- \
-        taskset -c "$1" "$bench" press "$letter" "$2" "$words" 3 "$out"
+    python3 "$here/cost.py" "$4" 2 "$out" taskset -c "$1" "$bench" press "$letter" "$2" "$3" "$words" 1 "$out" -- \
+        taskset -c "$1" "$bench" press "$letter" "$2" "$3" "$words" 3 "$out"
 }
 
-set -- $(volume_on 0 "$pages" "$rounds") $(volume_on "0-$((processors - 1))" "$pages" "$rounds")
+set -- $(volume_on 0 "$pages" 1 "$rounds") $(volume_on "0-$((processors - 1))" "$pages" 1 "$rounds")
 one=$2 all=$5
 awk -v n="$pages" -v p="$processors" -v time="$1" -v one="$2" -v all="$5" -v spent="$4" 'BEGIN {
     printf "%d letter pages: %.2f s on one processor (%.2f ms of it a page, at most 4), %.2f s on %d: ", n, one, 1000 * time / n, all, p
@@ -51,7 +52,7 @@ awk -v one="$one" -v all="$all" '{ best = $1 } NR == 1 { least = $1 } END {
 
 cat > "$scratch/apart.sh" << END
 #!/bin/sh
-for at in \$(seq 0 $((processors - 1))); do taskset -c \$at "$bench" press "$letter" $((pages / processors)) $words \$1 - > /dev/null & done
+for at in \$(seq 0 $((processors - 1))); do taskset -c \$at "$bench" press "$letter" $((pages / processors)) 1 $words \$1 - > /dev/null & done
 wait
 END
 chmod +x "$scratch/apart.sh"
@@ -73,21 +74,27 @@ awk -v n=$((100 / processors * processors)) -v wall="$2" -v all="$all" -v pages=
 # one volume, and two at once: all but the making of the tables
 cat > "$scratch/two.sh" << END
 #!/bin/sh
-"$bench" press "$letter" $pages $words \$1 "$out/a" > /dev/null & first=\$!
-"$bench" press "$letter" $pages $words \$1 "$out/b" > /dev/null
+"$bench" press "$letter" $pages 1 $words \$1 "$out/a" > /dev/null & first=\$!
+"$bench" press "$letter" $pages 1 $words \$1 "$out/b" > /dev/null
 wait \$first
 END
 chmod +x "$scratch/two.sh"
 set -- $(python3 "$here/cost.py" "$rounds" 2 "$out" "$scratch/two.sh" 1 -- "$scratch/two.sh" 3)
 awk -v all="$all" -v two="$2" 'BEGIN { printf "two volumes at once: %.2f s, %.2f times one\n", two, two / all }'
 
-for count in 100 1000 5000 20000; do
+# documents, pages of each
+growth() {
+    count=$(($1 * $2))
     turns=$rounds
-    [ "$count" -lt 20000 ] || turns=1 # the tables of so many take longer to make than all volumes; today bp_bench refuses them
-    set -- $(volume_on "0-$((processors - 1))" "$count" "$turns") \
-        $(python3 "$here/cost.py" 1 1 "$out" "$bench" press "$letter" "$count" "$words" 0 "$out" -- \
-            "$bench" press "$letter" "$count" "$words" 1 "$out")
+    [ "$count" -lt 20000 ] || turns=1 # the tables of so many take longer to make than all volumes
+    set -- $(volume_on "0-$((processors - 1))" "$1" "$2" "$turns") \
+        $(python3 "$here/cost.py" 1 1 "$out" "$bench" press "$letter" "$1" "$2" "$words" 0 "$out" -- \
+            "$bench" press "$letter" "$1" "$2" "$words" 1 "$out")
     awk -v n="$count" -v wall="$2" -v time="$1" -v memory="$6" 'BEGIN {
         printf "%6d letter pages: %.2f s, %.3f ms a page; %.2f ms of processor time a page; %.1f MB beside the tables\n",
             n, wall, 1000 * wall / n, 1000 * time / n, memory }'
-done
+}
+growth 100 1
+growth 1000 1
+growth 5000 1
+growth 10000 2

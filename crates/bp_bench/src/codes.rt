@@ -8,8 +8,8 @@ use std::alloc::{AllocError, Global};
 // How many codes the span has.
 const CODES: u32 = 20_000;
 
-/// Reads a span of 20,000 codes so many times, by the index or by a plain scan of the rows; the sum of the
-/// rows that were read.
+/// Reads a span of 20,000 codes so many times, by the index or by a plain scan of the rows; the sum of
+/// the rows that were read.
 pub fn run(alloc: Global, operands: &[String]) -> Result<u64> {
     let [colour, how, times] = operands else {
         bail!("codes white|black index|scan TIMES");

@@ -49,7 +49,8 @@ fn add_line(bytes: &mut Vec<u8>, row: u32) -> Result<(), AllocError> {
     bytes.extend_from_slice(b"\r\n")
 }
 
-// 4 to 20 letters between two quotes; one value in sixteen has a sign for a newline and an e with an accent.
+// 4 to 20 letters between two quotes; one value in sixteen has a sign for a newline and an e with an
+// accent.
 fn add_value(bytes: &mut Vec<u8>, row: u32, column: u32) -> Result<(), AllocError> {
     let place = row.wrapping_mul(7).wrapping_add(column);
     bytes.extend_from_slice(b"\xC3\xBE")?;

@@ -21,8 +21,8 @@
 //     bp_bench production_copies DOCS BOXES TIMES
 //     bp_bench freeze_steps DOCS BOXES TIMES
 //     bp_bench offices DOCS BOXES TIMES
-//     bp_bench press FILE PAGES WORDS TIMES OUT
-//     bp_bench press_parts FILE PAGES WORDS TIMES OUT
+//     bp_bench press FILE DOCS PAGES WORDS TIMES OUT
+//     bp_bench press_parts FILE DOCS PAGES WORDS TIMES OUT
 //     bp_bench receive FILE PAGES WORDS PATH TIMES
 //     bp_bench file_of FILE PAGES WORDS PATH TIMES
 #![tactic(auto)]

@@ -26,7 +26,7 @@ pub fn read<R: Files + Alloc>(rt: &R, alloc: Global, operands: &[String]) -> Res
     for _ in 0..times.parse::<u32>()? {
         match read_tables(alloc, &rows) {
             Ok(tables) => sum = sum.wrapping_add(u64::from(tables.documents())),
-            Err(_) => bail!("the rows aren't read"),
+            Err(refusal) => bail!("the rows aren't read: {refusal}"),
         }
     }
     Ok(sum)

@@ -56,8 +56,9 @@ pub fn confirmed(alloc: Global, image: &Page, shape: Shape, boxes: u32) -> Resul
 // A made matter, whose keeper has its rows.
 fn made(alloc: Global, image: &Page, shape: Shape) -> Result<Office> {
     let rows = rows_of(alloc, image, shape)?;
-    let Ok(tables) = read_tables(alloc, &rows) else {
-        bail!("the rows aren't read");
+    let tables = match read_tables(alloc, &rows) {
+        Ok(tables) => tables,
+        Err(refusal) => bail!("the rows aren't read: {refusal}"),
     };
     if !ascends(rows.as_slice()) {
         bail!("the rows don't ascend");

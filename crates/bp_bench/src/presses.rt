@@ -1,21 +1,21 @@
-// The press: `press FILE PAGES WORDS TIMES OUT` makes a matter of so many documents, each of the
-// page of a TIFF file with so many words and a box, freezes all of them, and presses the volume so
-// many times, each time below a folder of its own in OUT, or into a folder in memory where OUT is
-// `-`. `press_parts FILE PAGES WORDS TIMES OUT` makes the same matter and does the work on its
-// images alone, one part after another: each is burned and banded, coded as a page file, digested,
-// and written.
+// The press: `press FILE DOCS PAGES WORDS TIMES OUT` makes a matter of so many documents of so many
+// pages, each page that of a TIFF file with so many words, with a box on the first page of a document,
+// freezes all of them, and presses the volume so many times, each time below a folder of its own in
+// OUT, or into a folder in memory where OUT is `-`. `press_parts FILE DOCS PAGES WORDS TIMES OUT` makes
+// the same matter and does the work on its images alone, one part after another: each is burned and
+// banded, coded as a page file, digested, and written.
 use crate::made::{Shape, page_of};
 use crate::office::{ID, Office, confirmed, rect_on};
 use crate::volume::write_volume;
 use anyhow::{Result, bail};
 use bp_burn::{has_glyphs, produced};
-use bp_core::{Basis, Bytes, DocNo, Ink, ListOf, NumberList, Stamp, StampList, Text};
+use bp_core::{Basis, Bytes, Ink, ListOf, NumberList, PageNo, Rect, Stamp, StampList, Text};
 use bp_matter::PageRow;
 use bp_outside::{FileFolder, FileList, Folder, MemFolder, put_file};
 use bp_rows::{Page, import_sides};
 use bp_tiff::{Form, write_tiff};
 use sha2::{Digest, Sha256};
-use std::alloc::Global;
+use std::alloc::{AllocError, Global};
 use std::rt::Files;
 use std::thread::Threads;
 
@@ -33,12 +33,12 @@ fn task_of<'a, R: Files + Alloc>(
     alloc: Global,
     operands: &'a [String],
 ) -> Result<Task<'a>> {
-    let [file, pages, words, times, out] = operands else {
-        bail!("a job of a press has the words FILE PAGES WORDS TIMES OUT");
+    let [file, docs, pages, words, times, out] = operands else {
+        bail!("a job of a press has the words FILE DOCS PAGES WORDS TIMES OUT");
     };
     let shape = Shape {
-        docs: pages.parse::<u32>()?,
-        pages: 1,
+        docs: docs.parse::<u32>()?,
+        pages: pages.parse::<u32>()?,
         words: words.parse::<u32>()?,
     };
     let times = times.parse::<u32>()?;
@@ -112,42 +112,59 @@ fn parts_once<R: Files + Alloc>(rt: &R, task: &Task<'_>, turn: u32) -> Result<u6
     parts_to(task, &mut FileFolder::below(rt, below.as_str()))
 }
 
+// Each page by its number among all of them, as the press labels it.
 fn parts_to<F: Folder>(task: &Task<'_>, folder: &mut F) -> Result<u64> {
     let alloc = task.office.alloc;
-    let stamp = Stamp {
-        rect: rect_on(&task.image, 1),
-        basis: Basis::Ac,
-    };
-    let boxes: StampList = ListOf::from_vec(vec![in alloc; stamp]?);
+    let area = rect_on(&task.image, 1);
     let designation = task.office.text("CONFIDENTIAL")?;
-    let mut sum = 0u64;
+    let (mut sum, mut number) = (0u64, 0u32);
     for row in &task.office.tables.pages {
-        let file = file_of(alloc, row, &boxes, &designation)?;
-        sum = sum.wrapping_add(digest_and_put(alloc, row.doc, file.as_slice(), folder)?);
+        number = number.wrapping_add(1);
+        let boxes = boxes_of(alloc, row, area)?;
+        let file = file_of(alloc, row, number, &boxes, &designation)?;
+        sum = sum.wrapping_add(digest_and_put(alloc, number, file.as_slice(), folder)?);
     }
     Ok(sum)
+}
+
+// The boxes of a page: the one of its document, where it is the first.
+fn boxes_of(alloc: Global, row: &PageRow, area: Rect) -> Result<StampList, AllocError> {
+    let mut boxes = Vec::new(alloc);
+    if row.page == PageNo(1) {
+        boxes.push(Stamp {
+            rect: area,
+            basis: Basis::Ac,
+        })?;
+    }
+    Ok(ListOf::from_vec(boxes))
 }
 
 // Its length and a byte of its digest.
 fn digest_and_put<F: Folder>(
     alloc: Global,
-    doc: DocNo,
+    number: u32,
     file: &[u8],
     folder: &mut F,
 ) -> Result<u64> {
     let mut hasher = Sha256::new();
     hasher.update(file);
     let first = u64::from(hasher.finalize()[0]);
-    let path = format!(in alloc; "VOL001/IMAGES/0001/ABC{:08}.TIF", doc.0)?;
+    let path = format!(in alloc; "VOL001/IMAGES/0001/ABC{number:08}.TIF")?;
     if put_file(alloc, folder, path.as_str(), file).is_err() {
         bail!("a file isn't written");
     }
     Ok(first.wrapping_add(file.len() as u64))
 }
 
-// The page file of a page with these boxes, under its label and the designation.
-fn file_of(alloc: Global, row: &PageRow, boxes: &StampList, designation: &Text) -> Result<Bytes> {
-    let label = Text::from_string(format!(in alloc; "ABC{:08}", row.doc.0)?);
+// The page file of a page with these boxes, under the label of this number and the designation.
+fn file_of(
+    alloc: Global,
+    row: &PageRow,
+    number: u32,
+    boxes: &StampList,
+    designation: &Text,
+) -> Result<Bytes> {
+    let label = Text::from_string(format!(in alloc; "ABC{number:08}")?);
     let page = row.image.page(alloc)?;
     if !import_sides(page.width(), page.height()) {
         bail!("the page is too large");

@@ -1,6 +1,7 @@
-// The receiver's desk: `receive FILE PAGES WORDS PATH TIMES` makes the matter that `press` makes, and
-// serves so many requests for the file PATH of its volume at a door in memory, by one connection a
-// request. `file_of FILE PAGES WORDS PATH TIMES` makes the file alone so many times.
+// The receiver's desk: `receive FILE PAGES WORDS PATH TIMES` makes the matter that `press` makes of so
+// many documents of one page, and serves so many requests for the file PATH of its volume at a door in
+// memory, by one connection a request. `file_of FILE PAGES WORDS PATH TIMES` makes the file alone so
+// many times.
 use crate::made::{Shape, page_of};
 use crate::office::{ID, Office};
 use crate::presses::frozen;

@@ -1,5 +1,5 @@
-// Words: `words ROWS TIMES` reads a file of them, and `kept WORDS BOXES TIMES` keeps those of a page that no
-// box touches, and writes the text of the page.
+// Words: `words ROWS TIMES` reads a file of them, and `kept WORDS BOXES TIMES` keeps those of a page
+// that no box touches, and writes the text of the page.
 use crate::sums::with_text;
 use anyhow::{Result, bail};
 use bp_core::{ListOf, Rect, RectList, Text};

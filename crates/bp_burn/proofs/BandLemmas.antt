@@ -40,7 +40,7 @@ band_drawn p height width hidden label designation label_bytes designation_bytes
     (λ r c down across. swapped (is_drawn label (height + 5) p.width (16 + columns_of label) r c) (is_drawn designation (height + 5) 16 0 r c))
 
 -- grids of functions with the same values
-same_grid : (w h : ℕ) (f g : Figure) → ((r c : ℕ) → r < h → c < w → f r c ≡ g r c) → grid_of w h f ≡ grid_of w h g
+pub same_grid : (w h : ℕ) (f g : Figure) → ((r c : ℕ) → r < h → c < w → f r c ≡ g r c) → grid_of w h f ≡ grid_of w h g
 same_grid w h f g same =
     grid_by_cells w h (grid_of w h f) g (grid_of_is_grid w h f) (λ r c down across. cell-grid_of w h f r c down across ∙ same r c down across)
 

@@ -19,10 +19,10 @@ use Rattle.bp_burn.specs.Covered.{covered_pixel}
 use Rattle.bp_burn.specs.Drawn.{columns_of, has_glyphs, is_drawn}
 use Rattle.bp_burn.specs.Ink.{in_row, inked}
 use Rattle.bp_burn.specs.RowsOut.{RowsOut, HasBits, IsOneRow, IsOutRoom, above_out, last_out}
-use Rattle.bp_burn.specs.Strips.{touches_above, touches_row}
+use Rattle.bp_burn.specs.Strips.{slip_text_rows, touches_above, touches_row, white_rows}
 use Rattle.bp_burn.specs.declared.band.TheConstants.{BAND_ROWS, MARGIN, TEXT_TOP}
 use Rattle.bp_burn.specs.declared.drawing.TheConstants.{COLUMNS, PITCH, SCALE}
-use Rattle.bp_burn.specs.declared.letters.TheConstants.{LETTERED_HEIGHT, LETTERED_WIDTH, LETTERS_IN}
+use Rattle.bp_burn.specs.declared.letters.TheConstants.{LETTERED_HEIGHT, LETTERED_WIDTH, LETTERS_IN, TEXT_ROWS}
 use Rattle.bp_burn.specs.declared.paper.TheConstants.{SLIP_DOTS}
 use Rattle.bp_burn.specs.declared.slips.TheConstants.{SLIP_HEIGHT, SLIP_LEFT, SLIP_TOP, SLIP_WIDTH}
 
@@ -114,6 +114,18 @@ small_letter = refl
 
 withheld : slip_text Ac ≡ codes "DOCUMENT WITHHELD - AC"
 withheld = refl
+
+-- the rows of a sheet's text, and its first row: the D stands from column 200 on, the O after it from 218 on
+text_is_high : length (slip_text_rows Ac) ≡ 21
+text_is_high = refl
+
+text_begins : map (λ c. slice_index_or (slice_index_or (slip_text_rows Ac) 0 []) c true) (range_with_len 198 24) ≡ runs false (2 ∷ 12 ∷ 9 ∷ 1 ∷ [])
+unfolding glyph_rows
+text_begins = refl
+
+-- white rows
+whites : white_rows 3 2 ≡ (false ∷ false ∷ false ∷ []) ∷ (false ∷ false ∷ false ∷ []) ∷ []
+whites = refl
 
 -- ---- boxes covered on a white page of 64 by 40: its row 7, the first of the letters
 
@@ -211,8 +223,8 @@ band_is = (refl, refl, refl)
 drawing_is : (COLUMNS ≡ 5) × (SCALE ≡ 3) × (PITCH ≡ 18)
 drawing_is = (refl, refl, refl)
 
-letters_are : (LETTERED_WIDTH ≡ 39) × (LETTERED_HEIGHT ≡ 27) × (LETTERS_IN ≡ 3)
-letters_are = (refl, refl, refl)
+letters_are : (LETTERED_WIDTH ≡ 39) × (LETTERED_HEIGHT ≡ 27) × (LETTERS_IN ≡ 3) × (TEXT_ROWS ≡ 21)
+letters_are = (refl, refl, refl, refl)
 
 slip_is : (SLIP_WIDTH ≡ 1700) × (SLIP_HEIGHT ≡ 2200) × (SLIP_DOTS ≡ 200) × (SLIP_TOP ≡ 1000) × (SLIP_LEFT ≡ 200)
 slip_is = (refl, refl, refl, refl, refl)

@@ -11,6 +11,7 @@ mod LetterLemmas
 mod MakingLemmas
 mod OutLemmas
 mod RowLemmas
+mod SheetLemmas
 mod SlipLemmas
 mod StripLemmas
 mod TextLemmas

@@ -18,6 +18,7 @@ use Rattle.bp_burn.specs.Ink.{inked}
 use Rattle.bp_burn.specs.Strips.{band_rows, touches_above, touches_row}
 use Rattle.bp_burn.proofs.BandLemmas.{five}
 use Rattle.bp_burn.proofs.ChangeLemmas.{changed_is_grid}
+use Rattle.bp_burn.proofs.InkLemmas.{Figure}
 use Rattle.bp_burn.proofs.StripLemmas.{or_false, produced_rows, untouched_row}
 
 -- the width of a page that comes in
@@ -119,14 +120,17 @@ band_page w some wide = record {
   grid = white_is_grid w 32;
 }
 
+-- a figure drawn on white rows
+pub white_inked : (w h : ℕ) (f : Figure) → (inked (white_image w h slip_resolution slip_resolution Inch) f).rows ≡ grid_of w h f
+white_inked w h f =
+    let q = white_image w h slip_resolution slip_resolution Inch in
+    let g : Figure = λ r c. f r c || pixel q r c in
+    same_grids w h (grid_of w h g) (grid_of w h f) (grid_of_is_grid w h g) (grid_of_is_grid w h f)
+    (λ r c down across.
+    cell-grid_of w h g r c down across ∙ ap (λ b. f r c || b) (cell-white w h r c down across) ∙ or_false (f r c)
+    ∙ sym (cell-grid_of w h f r c down across))
+
 -- the band drawn on white rows
 pub band_is : (w : ℕ) (label designation : List ℕ)
     → (inked (white_image w 32 slip_resolution slip_resolution Inch) (band_texts w 0 label designation)).rows ≡ band_rows w label designation
-band_is w label designation =
-    let texts = band_texts w 0 label designation in
-    let q = white_image w 32 slip_resolution slip_resolution Inch in
-    let f : ℕ → ℕ → Bool = λ r c. texts r c || pixel q r c in
-    same_grids w 32 (grid_of w 32 f) (grid_of w 32 texts) (grid_of_is_grid w 32 f) (grid_of_is_grid w 32 texts)
-    (λ r c down across.
-    cell-grid_of w 32 f r c down across ∙ ap (λ b. texts r c || b) (cell-white w 32 r c down across) ∙ or_false (texts r c)
-    ∙ sym (cell-grid_of w 32 texts r c down across))
+band_is w label designation = white_inked w 32 (band_texts w 0 label designation)

@@ -12,7 +12,7 @@ use Rattle.bp_core.specs.declared.stamps.Stamp.{Stamp}
 use Rattle.bp_rows.specs.Burned.{covers}
 use Rattle.bp_rows.specs.Image.{Image, IsGrid, grid_of, pixel, row_of}
 use Rattle.bp_rows.proofs.GridLemmas.{cell-grid_of, grid_of_is_grid, same_grids}
-use Rattle.bp_burn.specs.Band.{band_texts, produced_of}
+use Rattle.bp_burn.specs.Band.{band_texts, banded, produced_of}
 use Rattle.bp_burn.specs.Covered.{covered, covered_pixel, last_with, rects_of}
 use Rattle.bp_burn.specs.Drawn.{columns_of, is_drawn, text_pixel}
 use Rattle.bp_burn.specs.Strips.{band_rows, has_row, touches_row}
@@ -82,7 +82,8 @@ shifted_texts w h label designation r c past =
     ap (λ b. b || is_drawn label (h + 5) w (16 + columns_of label) r c) (shifted_drawn designation h 16 0 r c past)
     ∙ ap (λ b. is_drawn designation (0 + 5) 16 0 (r - h) c || b) (shifted_drawn label h w (16 + columns_of label) r c past)
 
-not_below : (top r : ℕ) (b : Bool) → r < top → (nat_le top r && b) ≡ false
+-- a text has no pixel above its first row
+pub not_below : (top r : ℕ) (b : Bool) → r < top → (nat_le top r && b) ≡ false
 not_below top r b less = ap (λ a. a && b) (later top r less)
   where
     later : (top r : ℕ) → r < top → nat_le top r ≡ false
@@ -98,7 +99,7 @@ no_texts w h label designation r c above =
 white_below : (q : Image) (r c : ℕ) → IsGrid q.width q.height q.rows → q.height ≤ r → pixel q r c ≡ false
 white_below q r c grid past = ap (λ row. get_or row c false) (get_or_past q.rows r [] (omega (arith, grid.down)))
 
-joined_grid : (w h k : ℕ) (a b : List (List Bool)) → IsGrid w h a → IsGrid w k b → IsGrid w (h + k) (a ++ b)
+pub joined_grid : (w h k : ℕ) (a b : List (List Bool)) → IsGrid w h a → IsGrid w k b → IsGrid w (h + k) (a ++ b)
 joined_grid w h k a b first second = record {
   down = length-append a b ∙ ap (λ n. n + length b) first.down ∙ ap (λ n. h + n) second.down;
   across = λ r below.
@@ -112,17 +113,15 @@ pub or_false : (b : Bool) → (b || false) ≡ b
 or_false true = refl
 or_false false = refl
 
--- the rows of the page that goes out
-pub produced_rows : (ink : Ink) (p : Image) (stamps : List Stamp) (label designation : List ℕ)
-    → (produced_of ink p stamps label designation).rows ≡ (covered ink p stamps).rows ++ band_rows p.width label designation
-produced_rows ink p stamps label designation =
-    let q = covered ink p stamps in
-    let w = p.width in
-    let h = p.height in
+-- the rows of a page with its band
+pub banded_rows : (q : Image) (label designation : List ℕ) → IsGrid q.width q.height q.rows
+    → (banded q label designation).rows ≡ q.rows ++ band_rows q.width label designation
+banded_rows q label designation grid =
+    let w = q.width in
+    let h = q.height in
     let texts = band_texts w h label designation in
     let f : ℕ → ℕ → Bool = λ r c. texts r c || pixel q r c in
     let band = band_rows w label designation in
-    let grid = changed_is_grid p (covered_pixel ink stamps) in
     same_grids w (h + 32) (grid_of w (h + 32) f) (q.rows ++ band) (grid_of_is_grid w (h + 32) f)
     (joined_grid w h 32 q.rows band grid (grid_of_is_grid w 32 (band_texts w 0 label designation)))
     (λ r c down across.
@@ -138,3 +137,9 @@ produced_rows ink p stamps label designation =
           ∙ sym (ap (λ row. get_or row c false) (get_or-append_right q.rows band h r [] grid.down new)
           ∙ cell-grid_of w 32 (band_texts w 0 label designation) (r - h) c (omega arith) across)
     ])
+
+-- the rows of the page that goes out
+pub produced_rows : (ink : Ink) (p : Image) (stamps : List Stamp) (label designation : List ℕ)
+    → (produced_of ink p stamps label designation).rows ≡ (covered ink p stamps).rows ++ band_rows p.width label designation
+produced_rows ink p stamps label designation =
+    banded_rows (covered ink p stamps) label designation (changed_is_grid p (covered_pixel ink stamps))

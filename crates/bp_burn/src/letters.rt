@@ -21,7 +21,7 @@ const LETTERED_HEIGHT: u32 = 27;
 const LETTERS_IN: u32 = 3;
 
 // The rows of a text, in pixels.
-const TEXT_ROWS: u32 = 21;
+pub(crate) const TEXT_ROWS: u32 = 21;
 
 /// Whether a stamp shows its letters.
 pub fn shows_letters(ink: Ink, stamp: &Stamp) -> bool

@@ -18,9 +18,9 @@ pub const SLIP_WIDTH: u32 = 1700;
 pub const SLIP_HEIGHT: u32 = 2200;
 
 // Where its text begins, in pixels.
-const SLIP_TOP: u32 = 1000;
+pub(crate) const SLIP_TOP: u32 = 1000;
 
-const SLIP_LEFT: u32 = 200;
+pub(crate) const SLIP_LEFT: u32 = 200;
 
 /// The sheet that stands for a document withheld on this ground, with the band of a page that goes
 /// out.
@@ -41,8 +41,8 @@ pub fn slip_page(
     Ok(page)
 }
 
-// What a slip sheet says.
-fn slip_text(basis: Basis) -> &'static str
+/// What a slip sheet says.
+pub fn slip_text(basis: Basis) -> &'static str
     ensures { result.now ≡ slip_text basis }
 {
     match basis {

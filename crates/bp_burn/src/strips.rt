@@ -119,8 +119,8 @@ fn add_row(writer: &mut StripWriter, row: CoveredRow<'_>) -> Result<(), OutOfMem
     }
 }
 
-// Adds the rows of the band.
-fn add_band(
+/// Adds the rows of the band.
+pub fn add_band(
     alloc: Global,
     writer: &mut StripWriter,
     width: u32,
@@ -142,8 +142,8 @@ fn add_band(
     add_rows(writer, &band)
 }
 
-// Adds the rows of a page.
-fn add_rows(writer: &mut StripWriter, page: &Page) -> Result<(), OutOfMemory>
+/// Adds the rows of a page.
+pub fn add_rows(writer: &mut StripWriter, page: &Page) -> Result<(), OutOfMemory>
     requires { writer.old.width ≡ page.now.width }
     ensures width { writer.new.width ≡ writer.old.width }
     ensures added { (lines : List (List Bool)) → HasAdded writer.old lines

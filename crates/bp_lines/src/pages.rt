@@ -12,6 +12,8 @@
 //     page strip_produced INK LABEL DESIGNATION STAMP..    whether its strip of codes is the same where it
 //                                                      is made of the page's strip a row at a time
 //     page slip GROUND LABEL DESIGNATION
+//     page strip_slip GROUND LABEL DESIGNATION     whether its strip of codes is the same where only the
+//                                                      rows of its texts are drawn
 //     page file        the page of the file at hand
 //     page sides       width, height, resolutions across and down, and unit
 //     page rows        its strip
@@ -28,7 +30,7 @@ use crate::files::File;
 use crate::strips::is_told_by_rows;
 use crate::told::{constant, of_numbers, of_refusal, unread, yes_or_no};
 use anyhow::Result;
-use bp_burn::{burn, burn_row, has_glyphs, produced, produced_strip, slip_page};
+use bp_burn::{burn, burn_row, has_glyphs, produced, produced_strip, slip_page, slip_strip};
 use bp_codes::Fill;
 use bp_core::{Bytes, Ink, ListOf, RectList, Refusal, Stamp, StampList, Text};
 use bp_rows::{Page, Res, Runs, Unit, allowed_sides, bytes_of_strip, import_sides};
@@ -48,6 +50,7 @@ pub fn told(alloc: Global, page: &mut Page, file: &File, words: &mut Words) -> R
         "produced" => produce(alloc, page, words),
         "strip_produced" => produce_strip(alloc, page, words),
         "slip" => slip(alloc, page, words),
+        "strip_slip" => slip_strips_agree(alloc, words),
         "burn" => burn_boxes(alloc, page, words),
         "written" => written(alloc, page, file, words),
         "file" => put(alloc, page, read_tiff(alloc, file.as_slice())),
@@ -276,6 +279,20 @@ fn slip(alloc: Global, page: &mut Page, words: &mut Words) -> Result<String> {
     if words.is_read() && has_glyphs(&label) && has_glyphs(&designation) {
         *page = slip_page(alloc, basis, &label, &designation)?;
         constant(alloc, "")
+    } else {
+        unread(alloc)
+    }
+}
+
+fn slip_strips_agree(alloc: Global, words: &mut Words) -> Result<String> {
+    let basis = words.basis();
+    let label = words.text();
+    let designation = words.text();
+    if words.is_read() && has_glyphs(&label) && has_glyphs(&designation) {
+        let whole = slip_page(alloc, basis, &label, &designation)?;
+        let wanted = code_page(alloc, &whole)?;
+        let made = slip_strip(alloc, basis, &label, &designation)?;
+        yes_or_no(alloc, made == wanted)
     } else {
         unread(alloc)
     }

@@ -1,8 +1,6 @@
 // The strips of images, made on threads.
-ghost use Rattle.std.specs.Prelude.{◌≡◌, ◌<◌, ◌≤◌, All, IfOk, IsTrue, Ok, length, map, slice_index_or};
+ghost use Rattle.std.specs.Prelude.{◌≡◌, ◌<◌, ◌≤◌, All, IfOk, Ok, length, map, slice_index_or};
 ghost use Rattle.bp_t6.specs.Written.{strip_of};
-ghost use Rattle.bp_burn.specs.Band.{slip_of};
-ghost use Rattle.bp_burn.specs.Drawn.{has_glyphs};
 ghost use Rattle.bp_press.specs.Jobs.{IsCodable, strip_by};
 ghost use Rattle.bp_press.specs.Shown.{CanBeCoded, CanBeCovered, image_lent, page_lent};
 ghost use Rattle.bp_press.specs.declared.jobs.Job.{Job};
@@ -10,10 +8,9 @@ ghost use Rattle.bp_press.specs.declared.jobs.Job.{Job};
 use crate::covered::{CoveredImage, CoveredJobs, CoveredPage};
 use crate::gate::Gate;
 use crate::jobs::{JobList, StripList};
-use bp_burn::{OutRoom, slip_page, strip_of_rows};
-use bp_core::{Basis, Bytes, ListOf, OutOfMemory, Text};
+use bp_burn::{OutRoom, slip_strip, strip_of_rows};
+use bp_core::{Bytes, ListOf, OutOfMemory};
 use bp_matter::Tables;
-use bp_t6::code_page;
 use std::alloc::Global;
 use std::thread::{Threads, map_indices};
 
@@ -118,20 +115,4 @@ fn page_strip(alloc: Global, page: CoveredPage<'_>) -> Result<Bytes, OutOfMemory
     let frame = page.frame();
     let room = OutRoom::take(alloc, frame.width)?;
     strip_of_rows(alloc, page.rows(room), page.label, page.designation)
-}
-
-// The strip of a sheet.
-fn slip_strip(
-    alloc: Global,
-    basis: Basis,
-    label: &Text,
-    designation: &Text,
-) -> Result<Bytes, OutOfMemory>
-    requires label { IsTrue (has_glyphs label.now) }
-    requires designation { IsTrue (has_glyphs designation.now) }
-    ensures { IfOk result (λ strip. strip ≡
-        strip_of (slip_of basis label.now designation.now)) }
-{
-    let sheet = slip_page(alloc, basis, label, designation)?;
-    code_page(alloc, &sheet)
 }

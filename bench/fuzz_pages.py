@@ -519,6 +519,12 @@ def runs_told(line, width):
     return " ".join(str(to - at) for at, to in zip([0, *line], [*line, width]))
 
 
+def sheet_lines(ground, label, designation):
+    words = f"{ground} {said(label.encode())} {said(designation.encode())}"
+    strip = strip_of(slip(ground, label, designation))
+    return [(f"page strip_slip {words}", "yes"), (f"page slip {words}", ""), ("page codes", told_bytes(strip))]
+
+
 def page_lines(draw):
     """Pages written in both forms, burned, covered and banded."""
     while True:
@@ -534,6 +540,8 @@ def page_lines(draw):
                   for _ in range(draw.choice((0, 1, 1, 2, 4)))]
         ink = draw.choice(("black", "lettered"))
         label, designation = ("".join(draw.choice(TEXT) for _ in range(draw.choice((0, 1, 7, 22)))) for _ in range(2))
+        if draw.random() < 0.05:
+            lines = [*sheet_lines(draw.choice(("AC", "WP", "PI", "TS")), label, designation), *lines]
         words = " ".join(str(word) for stamp in stamps for word in stamp)
         words = f"{ink} {said(label.encode())} {said(designation.encode())} {words}".rstrip()
         if draw.random() < 0.5:

@@ -337,12 +337,12 @@ def names(room):
     long_prefix = "ABCDEFGHIJK-"
     for what, rule, words, first in (
         ("an id of 33 characters", 32, ("x" * 33, "V1", "A-", "4"), None), ("an id of 32 characters", 0, ("x" * 32, "V1", "A-", "4"), "A-0001"),
-        ("a volume with a name of 33", 32, ("R2", "V" * 33, "A-", "4"), None), ("a volume with a name of 32", 0, ("R2", "V" * 32, "A-", "4"), "A-0002"),
-        ("a prefix of 13 characters", 29, ("R3", "V3", "X" + long_prefix, "4"), None),
-        ("a prefix of 12 characters", 0, ("R3", "V3", long_prefix, "4"), long_prefix + "0001"),
-        ("labels of 11 digits", 29, ("R4", "V4", "W-", "11"), None), ("labels of 10 digits", 0, ("R4", "V4", "W-", "10"), "W-0000000001"),
-        ("labels of 3 digits", 29, ("R5", "V5", "N-", "3"), None), ("labels of 4 digits", 0, ("R5", "V5", "N-", "4"), "N-0001"),
-        ("a width of 256, no word", 1, ("R6", "V6", "N-", "256"), None), ("a width of 255, a word", 29, ("R6", "V6", "N-", "255"), None),
+        ("a volume with a name of 33", 32, ("Q2", "V" * 33, "A-", "4"), None), ("a volume with a name of 32", 0, ("Q2", "V" * 32, "A-", "4"), "A-0002"),
+        ("a prefix of 13 characters", 29, ("Q3", "V3", "X" + long_prefix, "4"), None),
+        ("a prefix of 12 characters", 0, ("Q3", "V3", long_prefix, "4"), long_prefix + "0001"),
+        ("labels of 11 digits", 29, ("Q4", "V4", "W-", "11"), None), ("labels of 10 digits", 0, ("Q4", "V4", "W-", "10"), "W-0000000001"),
+        ("labels of 3 digits", 29, ("Q5", "V5", "N-", "3"), None), ("labels of 4 digits", 0, ("Q5", "V5", "N-", "4"), "N-0001"),
+        ("a width of 256, no word", 1, ("Q6", "V6", "N-", "256"), None), ("a width of 255, a word", 29, ("Q6", "V6", "N-", "255"), None),
     ):
         doc = words[0][1:] if words[0][1:].isdigit() else "1"
         line = ("produce", *words, doc, doc)
@@ -363,9 +363,9 @@ def numbers(room):
         matter.pages[1, k], matter.words[1, k] = matter.pages[2, 1], []
     room.fresh()
     days.write_rows(room.folder, matters.rows_of(matter))
-    room.check("`produce` of a document of 9,999 pages under 4 digits", 0, "^production R1 labels A-0001 to A-9999 files 10004 manifest [0-9a-f]{64}",
-               "produce", "R1", "V1", "A-", "4", "1", "1")
-    room.check_refused("`produce` of one page more under that prefix", matters.Rule(31, 9999), "produce", "R2", "V2", "A-", "4", "2", "2")
+    room.check("`produce` of a document of 9,999 pages under 4 digits", 0, "^production Q1 labels A-0001 to A-9999 files 10004 manifest [0-9a-f]{64}",
+               "produce", "Q1", "V1", "A-", "4", "1", "1")
+    room.check_refused("`produce` of one page more under that prefix", matters.Rule(31, 9999), "produce", "Q2", "V2", "A-", "4", "2", "2")
     shutil.rmtree(os.path.join(room.folder, "out"))
 
 

@@ -10,7 +10,7 @@ use bp_keep::{Keeper, MemKeeper};
 use bp_matter::{Call, Reply};
 use bp_seats::{Desk, Seat, Started};
 use sha2::{Digest, Sha256};
-use std::alloc::Global;
+use std::alloc::{AllocError, Global};
 use std::sync::Wait;
 use std::test::Fail;
 
@@ -80,21 +80,21 @@ pub fn pass_note(
     Ok(())
 }
 
-/// Closes the desk. How many calls its history has.
+/// Closes the desk. How many calls its history has, where it closes.
 #[tactic(auto, using(crate::proofs::PairLemmas::pair_seats))]
-pub fn close_pair(alloc: Global, pair: Pair) -> Result<usize, Fail>
+pub fn close_pair(alloc: Global, pair: Pair) -> Option<usize>
     requires { IsPair pair.desk pair.one pair.two }
 {
     let Pair { desk, one, two } = pair;
-    let seats = row_of(alloc, one, two)?;
+    let seats = row_of(alloc, one, two).ok()?;
     match desk.close(alloc, seats) {
-        Ok(closed) => Ok(closed.history.len()),
-        Err(_) => Err(Fail::from("the desk did not close")),
+        Ok(closed) => Some(closed.history.len()),
+        Err(_) => None,
     }
 }
 
 // Both seats in a row.
-fn row_of<K: Keeper>(alloc: Global, one: Seat<K>, two: Seat<K>) -> Result<Vec<Seat<K>>, Fail>
+fn row_of<K: Keeper>(alloc: Global, one: Seat<K>, two: Seat<K>) -> Result<Vec<Seat<K>>, AllocError>
     ensures { IfOk result (λ seats. seats.items ≡ one ∷ two ∷ []) }
 {
     let mut seats = Vec::new(alloc);

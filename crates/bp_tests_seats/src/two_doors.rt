@@ -1,12 +1,15 @@
 // Doors are served at once: each of two waits in its first read until the other has begun to be read.
-ghost use Rattle.std.specs.Prelude.{◌≡◌, ◌<◌, length, true, All};
+ghost use Rattle.std.specs.Prelude.{◌≡◌, ◌<◌, length, true, All, IfOk};
 ghost use Rattle.bp_outside.specs.Door.{DoorView, Reads, Writes, after_accept, after_hang_up};
+ghost use Rattle.bp_seats.specs.Seats.{Desked, IsSeatOf};
 
 use crate::matters::begun;
 use crate::stage::{Pair, start_pair};
+use bp_keep::MemKeeper;
 use bp_outside::{Door, DoorRefusal};
-use bp_seats::{PostOf, serve_all};
+use bp_seats::{Post, PostOf, Seat, serve_all};
 use std::alloc::Global;
+use std::process::Abort;
 use std::sync::atomic::{AtomicU64, Ordering};
 use std::test::Fail;
 
@@ -118,11 +121,16 @@ fn is_well(text: &[u8]) -> bool {
     text.starts_with(b"HTTP/1.1 200 ")
 }
 
-#[test]
-fn two_doors(rt: HostRuntime) -> Result<(), Fail> {
-    let alloc = rt.alloc();
-    let flags = (AtomicU64::new(0), AtomicU64::new(0));
-    let Pair { desk, one, two } = start_pair(alloc, begun(alloc)?, 10)?;
+// Each seat at a door of its own, at which the lead adds another reviewer.
+fn posts_of<'a>(
+    alloc: Global,
+    one: Seat<MemKeeper>,
+    two: Seat<MemKeeper>,
+    flags: &'a (AtomicU64, AtomicU64),
+) -> Result<Vec<Post<MemKeeper, MeetingDoor<'a>>>, Fail>
+    ensures { (desk : Desked) → IsSeatOf desk one → IsSeatOf desk two
+        → IfOk result (λ posts. All (λ post. IsSeatOf desk post.seat) posts.items) }
+{
     let mut posts = Vec::new(alloc);
     posts.push(PostOf {
         seat: one,
@@ -132,11 +140,25 @@ fn two_doors(rt: HostRuntime) -> Result<(), Fail> {
         seat: two,
         door: MeetingDoor::over(alloc, SECOND, &flags.1, &flags.0),
     })?;
-    serve_all(&desk, &rt, alloc, &mut posts, 1);
+    Ok(posts)
+}
+
+// Each of two doors was answered, and none failed.
+fn look<R: Abort>(rt: &R, posts: &[Post<MemKeeper, MeetingDoor>]) {
     assert_eq!(rt; posts.len(), 2);
-    for post in posts.as_slice() {
+    for post in posts {
         assert!(rt; is_well(post.door.written.as_slice()));
         assert_eq!(rt; post.door.faults, 0);
     }
+}
+
+#[test]
+fn two_doors(rt: HostRuntime) -> Result<(), Fail> {
+    let alloc = rt.alloc();
+    let flags = (AtomicU64::new(0), AtomicU64::new(0));
+    let Pair { desk, one, two } = start_pair(alloc, begun(alloc)?, 10)?;
+    let mut posts = posts_of(alloc, one, two, &flags)?;
+    serve_all(&desk, &rt, alloc, &mut posts, 1);
+    look(&rt, posts.as_slice());
     Ok(())
 }

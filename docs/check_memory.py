@@ -29,7 +29,7 @@ MADE = {
     ("bp_receiver/src/requests.rt", "read_event"): "the router could not be made for want of memory",
     ("bp_receiver/src/requests.rt", "asked_in"): "the event of a body was refused, which wants memory alone",
     ("bp_receiver/src/wants.rt", "given_to"): "room for the list was refused",
-    ("bp_text/src/word_files.rt", "read_record"): "csv's reader answers an error, which in memory is want of memory",
+    ("bp_records/src/rows.rt", "read_record"): "csv's reader answers an error, which in memory is want of memory",
     ("bp_web/src/members.rt", "object_in"): "serde_json's own kind of error says that memory ran out",
     ("bp_web/src/requests.rt", "read_request"): "the router could not be made for want of memory",
     ("bp_web/src/requests.rt", "asked_in"): "the call of a body was refused, which wants memory alone",

@@ -5,10 +5,12 @@ ghost use Rattle.bp_seats.specs.Seats.{IsSeatOf, SameSeat};
 use crate::calls::see_doc;
 use crate::matters::called;
 use crate::stage::{close_pair, make, start_pair};
+use bp_core::{Bytes, NumberList};
 use bp_desk::DeskRefusal;
 use bp_keep::MemKeeper;
-use bp_seats::{Desk, Seat};
-use std::alloc::Global;
+use bp_outside::{BytesList, MemDoor};
+use bp_seats::{Desk, Seat, serve_door};
+use std::alloc::{AllocError, Global};
 use std::process::Abort;
 use std::sync::Wait;
 use std::test::Fail;
@@ -39,5 +41,45 @@ fn a_history_with_room_for_two_calls_takes_no_third(rt: HostRuntime) -> Result<(
     let calls = close_pair(alloc, pair);
     told?;
     assert_eq!(rt; calls, Some(2));
+    Ok(())
+}
+
+// Three peers, each of whom asks for the document.
+fn three_peers(alloc: Global) -> Result<MemDoor, AllocError> {
+    let mut inputs = Vec::new(alloc);
+    for _ in 0..3 {
+        inputs.push(Bytes::from_vec(ASKS.to_vec(alloc)?))?;
+    }
+    Ok(MemDoor::over(BytesList::from_vec(inputs), NumberList::new(alloc)))
+}
+
+const ASKS: &[u8] = b"GET /docs/1 HTTP/1.1\r\nDesk-Key: abc\r\n\r\n";
+
+// RFC 6585, section 4
+const TOO_MANY: &[u8] = b"HTTP/1.1 429 Too Many Requests\r\n";
+
+const TWO: &[u8] = b"\r\n\r\n{\"a\":2,\"b\":0,\"line\":0,\"name\":\"JournalFull\",\"rule\":106}";
+
+// The first two of three peers are answered, and the third is told how many calls there are.
+fn look<R: Abort>(rt: &R, door: &MemDoor) {
+    let exchanges = door.exchanges();
+    assert_eq!(rt; exchanges.len(), 3);
+    for exchange in &exchanges[..2] {
+        assert!(rt; exchange.written.as_slice().starts_with(b"HTTP/1.1 200 "));
+    }
+    let third = exchanges[2].written.as_slice();
+    assert!(rt; third.starts_with(TOO_MANY));
+    assert!(rt; third.ends_with(TWO));
+}
+
+#[test]
+fn a_door_tells_the_third_that_the_history_is_full(rt: HostRuntime) -> Result<(), Fail> {
+    let alloc = rt.alloc();
+    let mut door = three_peers(alloc)?;
+    let mut pair = start_pair(alloc, called(alloc)?, 2)?;
+    serve_door(&pair.desk, &rt, alloc, &mut pair.one, &mut door, 3);
+    let calls = close_pair(alloc, pair);
+    assert_eq!(rt; calls, Some(2));
+    look(&rt, &door);
     Ok(())
 }

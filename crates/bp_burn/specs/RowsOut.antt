@@ -1,5 +1,5 @@
 -- Rows on their way out of a page's strip: read and covered, one after another.
-use Rattle.std.specs.Prelude.{ℕ, ◌-◌, ◌<◌, ◌≤◌, ◌≡◌, Bool, true, List, [], ◌∷◌, slice_range}
+use Rattle.std.specs.Prelude.{ℕ, ◌-◌, ◌<◌, ◌≤◌, ◌≡◌, Bool, true, false, List, [], ◌∷◌, slice_range}
 use Rattle.bp_core.specs.declared.stamps.Ink.{Ink}
 use Rattle.bp_core.specs.declared.stamps.Stamp.{Stamp}
 use Rattle.bp_codes.specs.declared.span.Fill.TheVariants.{High}
@@ -9,7 +9,7 @@ use Rattle.bp_rows.specs.Image.{Image, IsPage, row_of}
 use Rattle.bp_t6.specs.SoFar.{ReadSoFar, ReadsPage, row_above}
 use Rattle.bp_t6.specs.Written.{row_code, strip_of}
 use Rattle.bp_burn.specs.Covered.{covered}
-use Rattle.bp_burn.specs.Strips.{touches_row}
+use Rattle.bp_burn.specs.Strips.{touches_above, touches_row}
 use Rattle.bp_burn.specs.declared.covered_rows.CoveredRow.{CoveredRow}
 use Rattle.bp_burn.specs.declared.covered_rows.CoveredRow.TheVariants.{Painted, Bare, Coded}
 
@@ -59,6 +59,23 @@ abbrev pub IsLine : ℕ → List Bool → List Bool → CoveredRow → Type 0
 IsLine width above line (Painted page) = IsOneRow width line page.now
 IsLine width above line (Bare places) = Shows places.now width line
 IsLine width above line (Coded places code) = Shows places.now width line × (code ≡ row_code above line)
+
+-- a stamp lies in the row above and none in the row
+pub record IsBelowStamp (stamps : List Stamp) (row : ℕ) : Type 0 where
+  pub bare : touches_row stamps row ≡ false
+  pub above : touches_above stamps row ≡ true
+
+-- a stamp lies neither in the row nor in the row above
+pub record IsApart (stamps : List Stamp) (row : ℕ) : Type 0 where
+  pub bare : touches_row stamps row ≡ false
+  pub above : touches_above stamps row ≡ false
+
+-- which kind of row is lent hangs on the stamps alone: it is painted exactly where a stamp lies in the
+-- row, bare exactly where one lies in the row above alone, and with its code else
+abbrev pub IsKindBy : List Stamp → ℕ → CoveredRow → Type 0
+IsKindBy stamps row (Painted page) = touches_row stamps row ≡ true
+IsKindBy stamps row (Bare places) = IsBelowStamp stamps row
+IsKindBy stamps row (Coded places code) = IsApart stamps row
 
 -- ---- what they keep
 

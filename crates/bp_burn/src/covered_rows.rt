@@ -3,14 +3,14 @@
 // All room is taken before (out_room.rt), by what sees no page. Nothing here has an allocator or an
 // answer, so nothing that sees a covered pixel can tell of it by want of memory; what may want memory,
 // the coder, sees a row when it is covered.
-ghost use Rattle.std.specs.Prelude.{◌≡◌, ◌+◌, ◌<◌, ◌≤◌, ◌∷◌, Bool, List, [], IsTrue, true};
+ghost use Rattle.std.specs.Prelude.{◌≡◌, ◌+◌, ◌-◌, ◌<◌, ◌≤◌, ◌∷◌, Bool, List, [], IsTrue, true};
 ghost use Rattle.bp_codes.specs.declared.span.Fill.TheVariants.{High};
 ghost use Rattle.bp_codes.specs.Bits.{bits_of};
 ghost use Rattle.bp_rows.specs.Changes.{Rises, Shows};
 ghost use Rattle.bp_rows.specs.Image.{Image, row_of};
 ghost use Rattle.bp_rows.specs.Limits.{sides_are_imported};
 ghost use Rattle.bp_burn.specs.Covered.{covered};
-ghost use Rattle.bp_burn.specs.RowsOut.{AreOf, IsLine, above_out, last_out};
+ghost use Rattle.bp_burn.specs.RowsOut.{AreOf, IsKindBy, IsLine, above_out, last_out};
 ghost use Rattle.bp_burn.specs.Strips.{IsPageStrip, has_row, touches_above, touches_row};
 
 use crate::out_room::OutRoom;
@@ -146,8 +146,9 @@ impl<'a> CoveredRows<'a> {
     /// The row that was read last, covered.
     pub fn row(&self) -> CoveredRow<'_>
         requires { 0 < self.now.row }
-        ensures { (p : Image) → AreOf self.now p
+        ensures line { (p : Image) → AreOf self.now p
             → IsLine self.now.width (above_out self.now p) (last_out self.now p) result }
+        ensures kind { IsKindBy self.now.stamps (self.now.row - 1) result }
     {
         let marks = self.stamps.as_slice();
         let row = self.row - 1;

@@ -41,7 +41,7 @@ add_row-requires c =
     let q = covered first.ink p first.stamps in
     let row = c.loop-row.row in
     let next = c.next.ensures ∙ ap (λ (o : RowsOut). record o { row = o.row + 1 }) inv.are in
-    let line = line_out first row c.next.new.self c.row.result next c.row.ensures p c.requires.page.are in (
+    let line = line_out first row c.next.new.self c.row.result next c.row.ensures.line p c.requires.page.are in (
       row_above q row,
       row_of q row,
       subst (λ (w : ℕ). IsLine w (row_above q row) (row_of q row) c.row.result) (sym inv.wide) line,
@@ -62,7 +62,7 @@ loop-row-preserved c =
           let grid = changed_is_grid p (covered_pixel first.ink first.stamps) in
           let down : row < p.height = omega (arith, has.high, c.height-height.ensures, c.loop-row-test.true) in
           let lines = take row q.rows in
-          let line = line_out first row c.next.new.self c.row.result next c.row.ensures p has in
+          let line = line_out first row c.next.new.self c.row.result next c.row.ensures.line p has in
           let above : row_above q row ≡ last_line (white_line width) lines = ap (λ w. last_line (white_line w) lines) has.wide in
           let own : IsLine width (last_line (white_line width) lines) (row_of q row) c.row.result =
           subst (λ (over : List Bool). IsLine width over (row_of q row) c.row.result) above line in

@@ -5,7 +5,7 @@ use Rattle.bp_rows.specs.Image.{row_of}
 use Rattle.bp_t6.specs.SoFar.{row_above}
 use Rattle.bp_t6.specs.Written.{row_code}
 use Rattle.bp_burn.specs.Covered.{covered}
-use Rattle.bp_burn.specs.RowsOut.{AreOf, RowsOut, above_out, last_out}
+use Rattle.bp_burn.specs.RowsOut.{AreOf, IsApart, IsBelowStamp, RowsOut, above_out, last_out}
 use Rattle.bp_burn.specs.Strips.{touches_above, touches_row}
 use Rattle.bp_burn.proofs.MakingLemmas.{same_above}
 use Rattle.bp_burn.proofs.StripLemmas.{untouched_row}
@@ -16,8 +16,8 @@ overflow_sub-row c =
     let some : 0 < c.self.inside.row = subst (λ (o : RowsOut). 0 < o.row) (sym c.self.view_is) c.requires in
     omega (arith, some)
 
-pub returns-then-touches_row : goal.returns-then-touches_row
-returns-then-touches_row c = λ p these.
+pub returns-then-touches_row-clause-line : goal.returns-then-touches_row-clause-line
+returns-then-touches_row-clause-line c = λ p these.
     let s = c.self.inside in let inv = c.self.invariant in
     let some : 0 < s.row = subst (λ (o : RowsOut). 0 < o.row) (sym c.self.view_is) c.requires in
     let own = subst (λ (o : RowsOut). AreOf o p) (sym c.self.view_is) these in
@@ -29,8 +29,8 @@ returns-then-touches_row c = λ p these.
       row = (inv.last some p own).painted touched ∙ ap (λ (o : RowsOut). last_out o p) c.self.view_is;
     }
 
-pub returns-then-touches_above : goal.returns-then-touches_above
-returns-then-touches_above c = λ p these.
+pub returns-then-touches_above-clause-line : goal.returns-then-touches_above-clause-line
+returns-then-touches_above-clause-line c = λ p these.
     let s = c.self.inside in let inv = c.self.invariant in
     let row = s.row - 1 in
     let some : 0 < s.row = subst (λ (o : RowsOut). 0 < o.row) (sym c.self.view_is) c.requires in
@@ -43,8 +43,8 @@ returns-then-touches_above c = λ p these.
     subst (λ (o : RowsOut). Shows c.places-places.result.now o.width (last_out o p)) c.self.view_is
     (subst (λ (line : List Bool). Shows c.places-places.result.now s.rows.width line) same shows)
 
-pub returns : goal.returns
-returns c = λ p these.
+pub returns-clause-line : goal.returns-clause-line
+returns-clause-line c = λ p these.
     let s = c.self.inside in let inv = c.self.invariant in
     let row = s.row - 1 in
     let some : 0 < s.row = subst (λ (o : RowsOut). 0 < o.row) (sym c.self.view_is) c.requires in
@@ -69,3 +69,25 @@ returns c = λ p these.
 
 pub code_since-requires : goal.code_since-requires
 code_since-requires c = c.self.invariant.before
+
+pub returns-then-touches_row-clause-kind : goal.returns-then-touches_row-clause-kind
+returns-then-touches_row-clause-kind c =
+    let marks = sym c.as_slice-marks.ensures in
+    let touched = ap (λ (marks : List Stamp). touches_row marks (c.self.inside.row - 1)) marks ∙ sym c.touches_row.ensures ∙ c.if-touches_row.true in
+    subst (λ (o : RowsOut). touches_row o.stamps (o.row - 1) ≡ true) c.self.view_is touched
+
+pub returns-then-touches_above-clause-kind : goal.returns-then-touches_above-clause-kind
+returns-then-touches_above-clause-kind c =
+    let row = c.self.inside.row - 1 in
+    let marks = sym c.as_slice-marks.ensures in
+    let none = ap (λ (marks : List Stamp). touches_row marks row) marks ∙ sym c.touches_row.ensures ∙ c.if-touches_row.false in
+    let above = ap (λ (marks : List Stamp). touches_above marks row) marks ∙ sym c.touches_above.ensures ∙ c.if-touches_above.true in
+    subst (λ (o : RowsOut). IsBelowStamp o.stamps (o.row - 1)) c.self.view_is (record { bare = none; above = above })
+
+pub returns-clause-kind : goal.returns-clause-kind
+returns-clause-kind c =
+    let row = c.self.inside.row - 1 in
+    let marks = sym c.as_slice-marks.ensures in
+    let none = ap (λ (marks : List Stamp). touches_row marks row) marks ∙ sym c.touches_row.ensures ∙ c.if-touches_row.false in
+    let above = ap (λ (marks : List Stamp). touches_above marks row) marks ∙ sym c.touches_above.ensures ∙ c.if-touches_above.false in
+    subst (λ (o : RowsOut). IsApart o.stamps (o.row - 1)) c.self.view_is (record { bare = none; above = above })

@@ -23,6 +23,7 @@ use Rattle.bp_outside.specs.declared.input.TheConstants.{INPUT_CHUNK}
 use Rattle.bp_outside.specs.declared.memory.door.TheConstants.{PASS_LIMIT}
 use Rattle.bp_outside.specs.declared.memory.folder.TheConstants.{APPEND_LIMIT}
 use Rattle.bp_outside.specs.declared.memory.output.TheConstants.{WRITE_LIMIT}
+use Rattle.bp_outside.specs.declared.system.peers.TheConstants.{HURRY_MILLIS, PIECE_LIMIT}
 use Rattle.bp_outside.specs.declared.system.tcp_door.TheConstants.{BASE_PORT, DESK_LIMIT, DRAIN_LIMIT, DRAIN_MILLIS, SILENCE_MILLIS}
 use Rattle.bp_outside.proofs.FileMapLemmas.{get-first_with}
 
@@ -114,8 +115,14 @@ below_a_plain_file = refl
 a_link_loop : opening_refusal kinds.FilesystemLoop ≡ read_refusals.Failed
 a_link_loop = refl
 
-a_name_too_long : opening_refusal kinds.InvalidFilename ≡ read_refusals.Failed
+a_name_too_long : opening_refusal kinds.InvalidFilename ≡ read_refusals.Absent
 a_name_too_long = refl
+
+a_path_with_a_nul : opening_refusal kinds.InvalidInput ≡ read_refusals.Absent
+a_path_with_a_nul = refl
+
+no_permission : opening_refusal kinds.PermissionDenied ≡ read_refusals.Failed
+no_permission = refl
 
 abbrev writing : OpenOptions
 writing = with_create (with_write new_options true) true
@@ -196,6 +203,12 @@ two_seconds_of_reading_off = refl
 
 two_mebibytes_are_read_off : DRAIN_LIMIT ≡ 2097152
 two_mebibytes_are_read_off = refl
+
+bytes_of_one_write_at_a_port : PIECE_LIMIT ≡ 65536
+bytes_of_one_write_at_a_port = refl
+
+a_second_for_a_slow_peer : HURRY_MILLIS ≡ 1000
+a_second_for_a_slow_peer = refl
 
 bytes_of_one_read_of_an_input : INPUT_CHUNK ≡ 16384
 bytes_of_one_read_of_an_input = refl

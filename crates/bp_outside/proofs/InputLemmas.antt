@@ -4,7 +4,7 @@ use Rattle.std.specs.Prelude.{Err}
 use Rattle.std.proofs.lemmas.Bool.Decides.{nat_tests}
 use Rattle.std.proofs.lemmas.List.{append-nil, length-take-le}
 use Rattle.bp_outside.specs.Door.{DoorView, ReadsFirst, after_refusal, changed, took}
-use Rattle.bp_outside.specs.Input.{TakesInput, TakesMore, TakesPart, TakesSome, WasNeeded}
+use Rattle.bp_outside.specs.Input.{LosesSome, TakesInput, TakesMore, TakesSome, WasNeeded}
 use Rattle.bp_outside.specs.declared.input.InputStop.{InputStop}
 use Rattle.bp_outside.specs.declared.input.InputStop.TheVariants.{LackedMemory, Refused}
 use Rattle.bp_outside.specs.declared.input.TheConstants.{INPUT_CHUNK}
@@ -51,12 +51,18 @@ takes_more most door after room bytes now count step some fits is =
       read = some_more door after room count step some;
     }
 
-pub takes_part : (door after : DoorView) (room : List ℕ) (count : ℕ)
+pub loses_some : (most : ℕ) (door after : DoorView) (room : List ℕ) (count : ℕ)
     → ReadsFirst door room count after
     → (count ≡ 0 → ⊥)
-    → TakesPart door after
-takes_part door after room count step some =
-    record { some = take count room; read = some_more door after room count step some }
+    → length room ≤ most
+    → LosesSome most door after
+loses_some most door after room count step some fits =
+    let part : length (take count room) ≡ count = length-take-le count room step.within in
+    record {
+      some = take count room;
+      few = omega (arith, part, step.within, fits);
+      read = some_more door after room count step some;
+    }
 
 -- a read that met the end of input
 pub no_more_bytes : (door after : DoorView) (room : List ℕ) (count : ℕ)
@@ -109,14 +115,22 @@ end_needed Tells bytes now short is =
 -- reading stopped short, after so many bytes
 pub read_short : (Tells : List ℕ → Bool → Type 0) (stop : InputStop) (room : ℕ)
     (door now after : DoorView) (so_far bytes : List ℕ)
+    → Tells so_far false
+    → room ≤ INPUT_CHUNK
     → now ≡ changed (took so_far false) door
     → TakesSome room now so_far (Err stop) bytes after
     → TakesInput Tells door (Err stop) after
-read_short Tells LackedMemory room door now after so_far bytes before step =
+read_short Tells LackedMemory room door now after so_far bytes short fits before step =
+    let few : length step.some ≤ INPUT_CHUNK = omega (arith, step.few, fits) in
     record {
       some = so_far ++ step.some;
       read = read_more door now after so_far step.some (so_far ++ step.some) false before
           step.read refl;
+      needed = more_needed Tells so_far step.some _ short few refl;
     }
-read_short Tells (Refused refusal) room door now after so_far bytes before step =
-    record { some = so_far; read = step ∙ ap (λ d. after_refusal d refusal) before }
+read_short Tells (Refused refusal) room door now after so_far bytes short fits before step =
+    record {
+      some = so_far;
+      read = step ∙ ap (λ d. after_refusal d refusal) before;
+      short = short;
+    }

@@ -24,22 +24,25 @@ pub record TakesWhole (Tells : List ℕ → Bool → Type 0) (before : DoorView)
   pub whole : Tells bytes true ⊎ (ended ≡ true)
   pub needed : WasNeeded Tells bytes
 
--- some bytes were read, and lost for want of memory
-pub record TakesPart (before after : DoorView) : Type 0 where
+-- some bytes were read, each as far as it was needed, and lost for want of memory
+pub record TakesPart (Tells : List ℕ → Bool → Type 0) (before after : DoorView) : Type 0 where
   pub some : List ℕ
   pub read : after ≡ changed (took some false) before
+  pub needed : WasNeeded Tells some
 
--- some bytes were read, and then a read was refused
-pub record StopsAt (before : DoorView) (refusal : DoorRefusal) (after : DoorView) : Type 0 where
+-- some bytes were read, which were told not to be enough, and then a read was refused
+pub record StopsAt (Tells : List ℕ → Bool → Type 0) (before : DoorView) (refusal : DoorRefusal)
+    (after : DoorView) : Type 0 where
   pub some : List ℕ
   pub read : after ≡ after_refusal (changed (took some false) before) refusal
+  pub short : Tells some false
 
 -- what reading an input leaves
 abbrev pub TakesInput : (List ℕ → Bool → Type 0) → DoorView → Result (Vec ℕ Global) InputStop
     → DoorView → Type 0
 TakesInput Tells before (Ok bytes) after = TakesWhole Tells before bytes.items after
-TakesInput Tells before (Err LackedMemory) after = TakesPart before after
-TakesInput Tells before (Err (Refused refusal)) after = StopsAt before refusal after
+TakesInput Tells before (Err LackedMemory) after = TakesPart Tells before after
+TakesInput Tells before (Err (Refused refusal)) after = StopsAt Tells before refusal after
 
 -- some bytes, at most as many as there was room for, were read and put behind those before
 pub record TakesMore (room : ℕ) (before : DoorView) (bytes now : List ℕ) (after : DoorView)
@@ -50,11 +53,17 @@ pub record TakesMore (room : ℕ) (before : DoorView) (bytes now : List ℕ) (af
   pub all : now ≡ bytes ++ more
   pub read : after ≡ changed (took more false) before
 
+-- some bytes, at most as many as there was room for, were read, and lost for want of memory
+pub record LosesSome (room : ℕ) (before after : DoorView) : Type 0 where
+  pub some : List ℕ
+  pub few : length some ≤ room
+  pub read : after ≡ changed (took some false) before
+
 -- what one read of an input leaves: more bytes, or the end
 abbrev pub TakesSome : ℕ → DoorView → List ℕ → Result Bool InputStop → List ℕ → DoorView → Type 0
 TakesSome room before bytes (Ok true) now after = TakesMore room before bytes now after
 TakesSome room before bytes (Ok false) now after =
     (now ≡ bytes) × (after ≡ changed (took [] true) before)
-TakesSome room before bytes (Err LackedMemory) now after = TakesPart before after
+TakesSome room before bytes (Err LackedMemory) now after = LosesSome room before after
 TakesSome room before bytes (Err (Refused refusal)) now after =
     after ≡ after_refusal before refusal

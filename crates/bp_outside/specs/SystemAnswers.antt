@@ -2,7 +2,7 @@
 use Rattle.std.specs.Prelude.{ℕ, ◌==◌, not, ◌&&◌, Result, Ok, Err, if◌then◌else◌}
 use Rattle.std.specs.declared.io.Error.{Error}
 use Rattle.std.specs.declared.io.ErrorKind.{ErrorKind}
-use Rattle.std.specs.declared.io.ErrorKind.TheVariants.{NotFound, NotADirectory}
+use Rattle.std.specs.declared.io.ErrorKind.TheVariants.{InvalidFilename, InvalidInput, NotADirectory, NotFound}
 use Rattle.bp_outside.specs.Counts.{risen}
 use Rattle.bp_outside.specs.declared.refusals.DoorRefusal.{DoorRefusal}
 use Rattle.bp_outside.specs.declared.refusals.DoorRefusal.TheVariants as doors
@@ -26,8 +26,11 @@ abbrev pub after_answer : {T E : Type 0} → Result T E → ℕ → ℕ
 after_answer (Ok _) faults = faults
 after_answer (Err _) faults = risen faults
 
--- why a file couldn't be opened to be read. A path below a plain file is no file
+-- why a file couldn't be opened to be read. A path below a plain file is no file, nor is one with a
+-- NUL or with a name that is too long for a file
 abbrev pub opening_refusal : ErrorKind → ReadRefusal
 opening_refusal NotFound = Absent
 opening_refusal NotADirectory = Absent
+opening_refusal InvalidFilename = Absent
+opening_refusal InvalidInput = Absent
 opening_refusal _ = Failed

@@ -6,5 +6,6 @@ mod answers;
 pub mod file_folder;
 pub mod file_source;
 mod opened;
+mod peers;
 pub mod std_out;
 pub mod tcp_door;

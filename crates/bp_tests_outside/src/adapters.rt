@@ -2,8 +2,8 @@
 // what they make of its answers.
 use crate::lists::counted;
 use crate::stage::{
-    A_FOLDER, CLOSED_PIPE, INTERRUPTED, LINK_LOOP, NAME_TOO_LONG, NO_MEMORY, NO_PERMISSION,
-    NO_SPACE, NO_SUCH_FILE, NONE, NOT_A_FOLDER, Stage,
+    A_FOLDER, CLOSED_PIPE, INTERRUPTED, INVALID, LINK_LOOP, NAME_TOO_LONG, NO_MEMORY,
+    NO_PERMISSION, NO_SPACE, NO_SUCH_FILE, NONE, NOT_A_FOLDER, Stage,
 };
 use bp_outside::{
     FileFolder, FileSource, FolderRefusal, OutRefusal, ReadRefusal, Source, StdOut, put_file,
@@ -22,7 +22,8 @@ fn a_source_tells_absent_from_failed(rt: HostRuntime) -> Result<(), Fail> {
         (0, NO_PERMISSION, ReadRefusal::Failed),
         (0, A_FOLDER, ReadRefusal::Failed),
         (0, LINK_LOOP, ReadRefusal::Failed),
-        (0, NAME_TOO_LONG, ReadRefusal::Failed),
+        (0, NAME_TOO_LONG, ReadRefusal::Absent),
+        (0, INVALID, ReadRefusal::Absent),
         (0, NO_MEMORY, ReadRefusal::Failed),
         (1, NO_SUCH_FILE, ReadRefusal::Failed),
         (2, NO_SUCH_FILE, ReadRefusal::Failed),

@@ -30,7 +30,8 @@ fn files_are_read_below_a_folder(rt: HostRuntime) -> Result<(), Fail> {
         ("plain/below", 9, Err(ReadRefusal::Absent)),
         ("deep", 9, Err(ReadRefusal::Failed)),
         ("loop", 9, Err(ReadRefusal::Failed)),
-        (name.as_str(), 9, Err(ReadRefusal::Failed)),
+        (name.as_str(), 9, Err(ReadRefusal::Absent)),
+        ("plain\0", 9, Err(ReadRefusal::Absent)),
     ] {
         let read = source.read(alloc, path, max);
         let told = match &read {

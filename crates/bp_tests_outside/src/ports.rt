@@ -6,7 +6,7 @@ use bp_outside::{Door, DoorRefusal, TcpDoor, send};
 use std::alloc::{AllocError, Global};
 use std::cell::Cell;
 use std::io;
-use std::io::{Read, Write};
+use std::io::{ErrorKind, Read, Write};
 use std::net::{Ipv4Addr, Net, OpenListener, OpenStream, Shutdown, SocketAddr, SocketAddrV4};
 use std::rc::Rc;
 use std::test::Fail;
@@ -45,7 +45,7 @@ fn a_door_asks_for_its_port_alone(rt: HostRuntime) -> Result<(), Fail> {
 }
 
 // The calls are bind (0), accept (1), the limits (2 and 3), read (4) and write (5); a hang up can't
-// fail.
+// fail. Once it listens it keeps its port, whatever fails then.
 #[test]
 fn a_door_fails_where_the_system_does(rt: HostRuntime) -> Result<(), Fail> {
     let alloc = rt.alloc();
@@ -62,6 +62,13 @@ fn a_door_fails_where_the_system_does(rt: HostRuntime) -> Result<(), Fail> {
         let wanted = if failing < 6 { failed } else { Ok(4) };
         assert_eq!(rt; answer, wanted, "at call {failing}");
         assert_eq!(rt; serve(alloc, &mut door), Ok(4), "after call {failing}");
+        let binds = if failing == 0 { 2 } else { 1 };
+        let lines = stage.lines();
+        assert_eq!(rt;
+            times(lines.as_str(), "bind 127.0.0.1:48216"),
+            binds,
+            "call {failing}"
+        );
     }
     Ok(())
 }
@@ -78,6 +85,40 @@ fn a_door_rests_after_a_refusal(rt: HostRuntime) -> Result<(), Fail> {
     assert_eq!(rt; door.accept(alloc), Ok(true));
     let begun = "bind 127.0.0.1:48216\naccept\nread limit 10000\nwrite limit 10000\n";
     assert_eq!(rt; stage.lines().as_str(), begun);
+    Ok(())
+}
+
+// A long reply goes out in pieces of 65,536 bytes. A door that is left asks for its port again.
+#[test]
+fn a_long_reply_is_sent(rt: HostRuntime) -> Result<(), Fail> {
+    let alloc = rt.alloc();
+    let long = counted(alloc, 2_000_000)?;
+    let stage = Stage::new(alloc, NONE, NO_SPACE, b"ping", 4_000_000)?;
+    let mut door = TcpDoor::of(&stage, 2);
+    assert_eq!(rt; door.accept(alloc), Ok(true));
+    assert_eq!(rt; send(alloc, &mut door, long.as_slice()), Ok(()));
+    assert!(rt; stage.written().as_slice() == long.as_slice());
+    door.leave();
+    assert_eq!(rt; door.accept(alloc), Ok(true));
+    let lines = stage.lines();
+    assert_eq!(rt; times(lines.as_str(), "write"), 31);
+    assert_eq!(rt; times(lines.as_str(), "write limit 1000"), 0);
+    assert_eq!(rt; times(lines.as_str(), "bind 127.0.0.1:48202"), 2);
+    Ok(())
+}
+
+// A peer that took no whole piece in its time is waited for a second at a time.
+#[test]
+fn a_slow_peer_is_hurried(rt: HostRuntime) -> Result<(), Fail> {
+    let alloc = rt.alloc();
+    let stage = Stage::new(alloc, NONE, NO_SPACE, b"pin", 3)?;
+    let mut door = TcpDoor::of(&stage, 16);
+    assert_eq!(rt; door.accept(alloc), Ok(true));
+    assert_eq!(rt; send(alloc, &mut door, b"pong"), Ok(()));
+    let begun = "bind 127.0.0.1:48216\naccept\nread limit 10000\nwrite limit 10000\n";
+    let sent = "write\nwrite limit 1000\nwrite\n";
+    let all = format!(in alloc; "{begun}{sent}")?;
+    assert_eq!(rt; stage.lines().as_str(), all.as_str());
     Ok(())
 }
 
@@ -107,7 +148,7 @@ fn hanging_up_ends(rt: HostRuntime) -> Result<(), Fail> {
 struct Loopback<'a, R: Net> {
     rt: &'a R,
     sends: &'a [u8],
-    peer: Rc<Cell<Option<R::Stream>>>,
+    peer: Rc<Cell<Option<(R::Stream, SocketAddr)>>>,
 }
 
 impl<'a, R: Net> Loopback<'a, R> {
@@ -119,9 +160,12 @@ impl<'a, R: Net> Loopback<'a, R> {
         })
     }
 
-    // The peer that came.
-    fn take_peer(&self) -> Option<R::Stream> {
-        self.peer.replace(None)
+    // The peer that came, and where it came to.
+    fn take_peer(&self) -> io::Result<(R::Stream, SocketAddr)> {
+        match self.peer.replace(None) {
+            Some(came) => Ok(came),
+            None => Err(io::Error::from(ErrorKind::NotFound)),
+        }
     }
 }
 
@@ -133,10 +177,11 @@ impl<'a, R: Net> Net for Loopback<'a, R> {
     fn bind(&self, _address: SocketAddr) -> io::Result<R::Listener> {
         let any = SocketAddr::V4(SocketAddrV4::new(Ipv4Addr::LOCALHOST, 0));
         let listener = self.rt.bind(any)?;
-        let mut peer = self.rt.connect(listener.local_addr()?)?;
+        let address = listener.local_addr()?;
+        let mut peer = self.rt.connect(address)?;
         peer.write_all(self.sends)?;
         peer.shutdown(Shutdown::Write)?;
-        self.peer.set(Some(peer));
+        self.peer.set(Some((peer, address)));
         Ok(listener)
     }
 
@@ -156,15 +201,14 @@ impl<'a, R: Net + Clock> Clock for Loopback<'a, R> {
 }
 
 // What the peer reads to the end.
-fn reply<S: Read + Drop>(alloc: Global, peer: Option<S>) -> io::Result<Vec<u8>> {
+fn reply<S: Read>(alloc: Global, peer: &mut S) -> io::Result<Vec<u8>> {
     let mut bytes = Vec::new(alloc);
-    if let Some(mut peer) = peer {
-        peer.read_to_end(&mut bytes)?;
-    }
+    peer.read_to_end(&mut bytes)?;
     Ok(bytes)
 }
 
-// The door reads 4 bytes of 20,000, and the peer gets the whole reply all the same.
+// The door reads 4 bytes of 20,000, and the peer gets the whole reply all the same. Who comes then
+// is let wait, and refused once the door was left.
 // A door of the system itself may be moved to the thread that serves it.
 #[test]
 fn a_peer_gets_the_reply(rt: HostRuntime) -> Result<(), Fail> {
@@ -173,8 +217,12 @@ fn a_peer_gets_the_reply(rt: HostRuntime) -> Result<(), Fail> {
     let network = Loopback::over(alloc, &rt, long.as_slice())?;
     let mut door = TcpDoor::of(&network, 1);
     assert_eq!(rt; serve(alloc, &mut door), Ok(4));
-    let bytes = reply(alloc, network.take_peer())?;
+    let (mut peer, address) = network.take_peer()?;
+    let bytes = reply(alloc, &mut peer)?;
     assert_eq!(rt; bytes.as_slice(), b"pong".as_slice());
+    assert!(rt; rt.connect(address).is_ok());
+    door.leave();
+    assert!(rt; rt.connect(address).is_err());
     know_send(&TcpDoor::of(&rt, 1));
     Ok(())
 }

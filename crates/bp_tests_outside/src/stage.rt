@@ -32,6 +32,8 @@ pub const NOT_A_FOLDER: i32 = 20;
 
 pub const A_FOLDER: i32 = 21;
 
+pub const INVALID: i32 = 22;
+
 pub const NO_SPACE: i32 = 28;
 
 pub const CLOSED_PIPE: i32 = 32;

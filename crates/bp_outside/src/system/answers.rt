@@ -43,12 +43,13 @@ pub fn read_answer(answer: io::Result<usize>, faults: &mut u64) -> Result<usize,
 }
 
 // Why a file couldn't be opened to be read, by the kind of the system's error. A path below a plain
-// file, as `a.tif/b`, is no file.
+// file, as `a.tif/b`, is no file; nor is one with a NUL, or with a name that is too long for a file.
 pub fn opening_refusal(kind: ErrorKind) -> ReadRefusal
     ensures { result ≡ opening_refusal kind }
 {
     match kind {
         ErrorKind::NotFound | ErrorKind::NotADirectory => ReadRefusal::Absent,
+        ErrorKind::InvalidFilename | ErrorKind::InvalidInput => ReadRefusal::Absent,
         _ => ReadRefusal::Failed,
     }
 }

@@ -1,5 +1,5 @@
 // A port of this machine as a door.
-ghost use Rattle.std.specs.Prelude.{◌≡◌, ◌≢◌, ◌+◌, ◌<◌, ◌≤◌, false, true, length, None, Some, Ok, Err, IfOk, IsErrOf, OnErr, is_some};
+ghost use Rattle.std.specs.Prelude.{◌≡◌, ◌≢◌, ◌+◌, ◌<◌, ◌≤◌, ◌↔◌, false, true, length, None, Ok, Err, IfOk, IfSome, IsErr, IsErrOf, IsSome, IsTrue, OnErr, is_some};
 ghost use Rattle.bp_outside.specs.Counts.{risen};
 ghost use Rattle.bp_outside.specs.Door.{Reads, Writes, after_accept, after_hang_up};
 ghost use Rattle.bp_outside.specs.Reading.{TakesAtMost};
@@ -9,7 +9,7 @@ ghost use Rattle.bp_outside.specs.Untold.{untold_door};
 
 use crate::door::Door;
 use crate::refusals::DoorRefusal;
-use crate::system::answers::{read_answer, write_answer};
+use crate::system::peers::{PIECE_LIMIT, Peer};
 use std::alloc::Global;
 use std::io;
 use std::io::{Read, Write};
@@ -45,7 +45,7 @@ pub struct TcpDoor<'a, R: Net + Clock> {
     rt: &'a R,
     port: u16,
     listener: Option<R::Listener>,
-    stream: Option<R::Stream>,
+    stream: Option<Peer<R::Stream>>,
     faults: u64,
     accepts: u64,
 }
@@ -79,17 +79,40 @@ impl<'a, R: Net + Clock> TcpDoor<'a, R> {
     // Waits for the next peer. It begins to listen where it doesn't yet.
     fn next_peer(&mut self) -> io::Result<R::Stream>
         ensures port { self.new.port ≡ self.old.port }
+        ensures kept { IfSome self.old.listener (λ _. self.new.listener ≡ self.old.listener) }
+        ensures listens { IfOk result (λ _. IsSome self.new.listener) }
         ensures stream { self.new.stream ≡ self.old.stream }
         ensures faults { self.new.faults ≡ self.old.faults }
         ensures accepts { self.new.accepts ≡ self.old.accepts }
     {
-        let listener = match self.listener.take() {
-            Some(listener) => listener,
-            None => TcpListener::bind(self.rt, (Ipv4Addr::LOCALHOST, self.port))?,
+        self.listen()?;
+        self.come()
+    }
+
+    // Listens at its port, where it doesn't yet.
+    fn listen(&mut self) -> io::Result<()>
+        ensures port { self.new.port ≡ self.old.port }
+        ensures kept { IfSome self.old.listener (λ _. self.new.listener ≡ self.old.listener) }
+        ensures listens { IfOk result (λ _. IsSome self.new.listener) }
+        ensures stream { self.new.stream ≡ self.old.stream }
+        ensures faults { self.new.faults ≡ self.old.faults }
+        ensures accepts { self.new.accepts ≡ self.old.accepts }
+    {
+        if self.listener.is_none() {
+            let listener = TcpListener::bind(self.rt, (Ipv4Addr::LOCALHOST, self.port))?;
+            self.listener = Some(listener);
+        }
+        Ok(())
+    }
+
+    // Waits for who comes to its port next.
+    fn come(&self) -> io::Result<R::Stream>
+        requires { IsSome self.now.listener }
+    {
+        let (stream, _peer) = match &self.listener {
+            Some(listener) => listener.accept()?,
+            None => unreachable!(),
         };
-        let answer = listener.accept();
-        self.listener = Some(listener);
-        let (stream, _peer) = answer?;
         limit_silence(&stream)?;
         Ok(stream)
     }
@@ -97,9 +120,13 @@ impl<'a, R: Net + Clock> TcpDoor<'a, R> {
     // Takes the system's answer to an accept as the exchange under way. An error leaves the one
     // before, and is counted.
     fn begin(&mut self, answer: io::Result<R::Stream>) -> Result<bool, DoorRefusal>
-        ensures begun { IfOk answer (λ stream. self.new.stream ≡ Some stream) }
+        ensures begun { IfOk answer (λ stream. IfSome self.new.stream (λ peer. peer.stream
+            ≡ stream)) }
+        ensures there { IfOk answer (λ _. IsSome self.new.stream) }
         ensures ok { IfOk answer (λ _. result ≡ Ok true) }
         ensures kept { OnErr answer (self.new.stream ≡ self.old.stream) }
+        ensures listener { self.new.listener ≡ self.old.listener }
+        ensures port { self.new.port ≡ self.old.port }
         ensures failed { OnErr answer (result ≡ Err DoorRefusal.Failed) }
         ensures counted { self.new.faults ≡ after_answer answer self.old.faults }
         ensures accepts { self.new.accepts ≡ risen self.old.accepts }
@@ -107,7 +134,7 @@ impl<'a, R: Net + Clock> TcpDoor<'a, R> {
         self.accepts = self.accepts.saturating_add(1);
         match answer {
             Ok(stream) => {
-                self.stream = Some(stream);
+                self.stream = Some(Peer::over(stream));
                 Ok(true)
             }
             Err(_) => {
@@ -126,13 +153,16 @@ impl<'a, R: Net + Clock> Door for TcpDoor<'a, R> {
     ghost unfailing = { λ door sure. absurd (false≢true sure) };
 
     /// Waits for a peer, with no limit of time, or fails after a rest of a quarter of a second. It is
-    /// never closed, and takes no memory.
+    /// never closed, and takes no memory. Once it listens at its port, it keeps it.
     fn accept(&mut self, _alloc: Global) -> Result<bool, DoorRefusal>
         ensures after { untold_door (is_some self.new.stream) self.new.faults self.new.accepts
             ≡ after_accept (untold_door (is_some self.old.stream) self.old.faults
             self.old.accepts) result }
         ensures there { result ≢ Ok false }
         ensures no_memory { ¬ (IsErrOf result DoorRefusal.OutOfMemory) }
+        ensures port { self.new.port ≡ self.old.port }
+        ensures kept { IfSome self.old.listener (λ _. self.new.listener ≡ self.old.listener) }
+        ensures listens { IfOk result (λ _. IsSome self.new.listener) }
     {
         let answer = self.next_peer();
         if answer.is_err() {
@@ -149,34 +179,40 @@ impl<'a, R: Net + Clock> Door for TcpDoor<'a, R> {
         ensures reads { Reads (untold_door (is_some self.old.stream) self.old.faults
             self.old.accepts) room.new result
             (untold_door (is_some self.new.stream) self.new.faults self.new.accepts) }
-        ensures bytes { ReadsFrom R.Stream.remaining self.old.stream self.new.stream result
-            room.new }
+        ensures bytes { ReadsFrom (λ peer. R.Stream.remaining peer.stream) self.old.stream
+            self.new.stream result room.new }
+        ensures failed { IfSome self.new.stream (λ peer. IsErr result ↔ IsTrue peer.failed) }
         ensures no_memory { ¬ (IsErrOf result DoorRefusal.OutOfMemory) }
+        ensures port { self.new.port ≡ self.old.port }
+        ensures listener { self.new.listener ≡ self.old.listener }
     {
-        let answer = match &mut self.stream {
-            Some(stream) => stream.read(room),
+        match &mut self.stream {
+            Some(peer) => peer.read(room, &mut self.faults),
             None => unreachable!(),
-        };
-        read_answer(answer, &mut self.faults)
+        }
     }
 
-    /// Fails where the peer takes nothing for 10 seconds. Takes no memory, so it never runs out of
-    /// it.
+    /// Writes at most 65,536 bytes. Fails where the peer takes nothing for 10 seconds; for 1 second,
+    /// once those passed with a piece not taken whole. Takes no memory, so it never runs out of it.
     fn write(&mut self, _alloc: Global, piece: &[u8]) -> Result<usize, DoorRefusal>
         requires { (untold_door (is_some self.old.stream) self.old.faults
             self.old.accepts).under_way ≡ true }
         ensures writes { Writes (untold_door (is_some self.old.stream) self.old.faults
             self.old.accepts) piece.now result
             (untold_door (is_some self.new.stream) self.new.faults self.new.accepts) }
-        ensures bytes { AppendsTo R.Stream.contents self.old.stream self.new.stream result
-            piece.now }
+        ensures bytes { AppendsTo (λ peer. R.Stream.contents peer.stream) self.old.stream
+            self.new.stream result piece.now }
+        ensures few { IfOk result (λ count. count ≤ PIECE_LIMIT) }
+        ensures failed { IfSome self.new.stream (λ peer. IsErr result ↔ IsTrue peer.failed) }
         ensures no_memory { ¬ (IsErrOf result DoorRefusal.OutOfMemory) }
+        ensures port { self.new.port ≡ self.old.port }
+        ensures listener { self.new.listener ≡ self.old.listener }
     {
-        let answer = match &mut self.stream {
-            Some(stream) => stream.write(piece),
+        let first = &piece[..piece.len().min(PIECE_LIMIT)];
+        match &mut self.stream {
+            Some(peer) => peer.write(first, &mut self.faults),
             None => unreachable!(),
-        };
-        write_answer(answer, piece.len(), DoorRefusal::Failed, &mut self.faults)
+        }
     }
 
     /// Closes the connection. What the peer still sends is read off first, for 2 seconds and up to
@@ -186,10 +222,24 @@ impl<'a, R: Net + Clock> Door for TcpDoor<'a, R> {
             ≡ after_hang_up (untold_door (is_some self.old.stream) self.old.faults
             self.old.accepts) }
         ensures closed { self.new.stream ≡ None }
+        ensures port { self.new.port ≡ self.old.port }
+        ensures listener { self.new.listener ≡ self.old.listener }
     {
-        if let Some(mut stream) = self.stream.take() {
+        if let Some(peer) = self.stream.take() {
+            let mut stream = peer.into_stream();
             let _ = drain(self.rt, &mut stream);
         }
+    }
+
+    /// Closes its port, until the next accept: who waits there, and who comes, is refused.
+    fn leave(&mut self)
+        ensures after { untold_door (is_some self.new.stream) self.new.faults self.new.accepts
+            ≡ untold_door (is_some self.old.stream) self.old.faults self.old.accepts }
+        ensures gone { self.new.listener ≡ None }
+        ensures port { self.new.port ≡ self.old.port }
+        ensures stream { self.new.stream ≡ self.old.stream }
+    {
+        self.listener = None;
     }
 }
 

@@ -50,6 +50,10 @@ returns-in-Ok-false-clause-takes g c =
 
 pub returns-in-Err-clause-takes : goal.returns-in-Err-clause-takes
 returns-in-Err-clause-takes g c =
-    let room = length (take c.min-room.result c.reading.chunk) in
-    read_short (g.E.Enough.Tells c.args.until.now) c.in-Err.stop room _ _ _ _ _
+    let short = not_enough (g.E.Enough.Tells c.args.until.now) c.reading.bytes.items _ _
+    c.as_slice.ensures.value c.enough.ensures.told c.reading-test.true in
+    let room = length-take c.min-room.result c.reading.chunk in
+    let fits : length (take c.min-room.result c.reading.chunk) ≤ INPUT_CHUNK =
+    omega (arith, room, c.min-room.ensures) in
+    read_short (g.E.Enough.Tells c.args.until.now) c.in-Err.stop _ _ _ _ _ _ short fits
     c.reading.invariant.read c.in-Err.ensures

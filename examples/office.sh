@@ -21,6 +21,12 @@ cd "$room"
 
 . "$here/commands.sh"
 
+# gives a command, behind which the log has been copied into matter.db: it has its header alone, and no page
+closes() {
+    run "$@"
+    [ ! -e matter.db-wal ] || [ "$(wc -c < matter.db-wal)" -lt 512 ] || stop "the log was not copied into matter.db"
+}
+
 lead='the key of the lead' reviewer='the key of Ellis' second='the key of Marlow'
 
 # The desk takes so many connections, each with one request, and then ends.
@@ -62,11 +68,11 @@ entry() {
         "{\"date\":\"$2\",\"author\":\"$3\",\"recipients\":\"$4\",\"description\":\"$5\"}"
 }
 
-run 2 'refused 43 NoMatter 0 0 0' import CVI_001
-run 0 'matter made' init "$(digest "$lead")"
-run 2 'refused 42 MatterThere 0 0 0' init "$(digest "$lead")"
-run 0 'batch CVI_001 documents 12 pages 31' import CVI_001
-run 2 'refused 26 Unsettled 0 1 0' produce R-1 VOL001 ABC 8 1 12 AUTHOR
+closes 2 'refused 43 NoMatter 0 0 0' import CVI_001
+closes 0 'matter made' init "$(digest "$lead")"
+closes 2 'refused 42 MatterThere 0 0 0' init "$(digest "$lead")"
+closes 0 'batch CVI_001 documents 12 pages 31' import CVI_001
+closes 2 'refused 26 Unsettled 0 1 0' produce R-1 VOL001 ABC 8 1 12 AUTHOR
 
 echo "\$ tivrenan serve 1 $connections"
 setsid "$tivrenan" serve 1 "$connections" > served 2> /dev/null &
@@ -118,12 +124,12 @@ cat served
 [ "$(cat served)" = "served $connections" ] || stop "the desk took another number of calls"
 
 volume='production R-1 labels ABC00000001 to ABC00000023 files 37 manifest '
-run 0 "$volume*" produce R-1 VOL001 ABC 8 1 12 AUTHOR
+closes 0 "$volume*" produce R-1 VOL001 ABC 8 1 12 AUTHOR
 line=$told
 [ "${line#"$volume"}" = "$(sha256sum < out/VOL001/MANIFEST.TXT | cut -c1-64)" ] || stop "the manifest has another digest"
 "$here/check_volume.py" out
-run 0 "$line" press R-1
-run 0 '*Note quoting counsel*' log R-1
+closes 0 "$line" press R-1
+closes 0 '*Note quoting counsel*' log R-1
 
 echo '$ sqlite3 matter.db'
 [ "$(sqlite3 matter.db 'PRAGMA integrity_check')" = ok ] || stop "the database isn't whole"

@@ -55,6 +55,7 @@ cat > "$room/fake/program" << 'END'
 case ${1-} in
     '') echo 'words refused' && exit 1 ;;
     burn) echo 'refused 85 TiffMeaning 0 258 0' && exit 2 ;;
+    import) echo "imports $2" ;;
     *) echo "ran $*" ;;
 esac
 END
@@ -110,6 +111,14 @@ done
 status_of "$copy/tivrenan" init x
 check 'the program is built and run' is "$status" 0
 check 'its line is passed on' holds '^ran init x$' "$room/said"
+status_of "$copy/tivrenan" import 'a  b'
+check 'a word with spaces stays one word' is "$status$(cat "$room/said")" '0imports a  b'
+mkdir -p "$room/lib/tivrenan"
+printf '#!/bin/sh\necho another program\n' > "$room/lib/tivrenan/bp_main"
+chmod +x "$room/lib/tivrenan/bp_main"
+status_of "$copy/tivrenan" init x
+check 'beside its sources the launcher runs the program built from them' is "$status$(cat "$room/said")" '0ran init x'
+rm -r "$room/lib"
 cat > "$room/order.py" << 'END'
 import sys
 below = {}

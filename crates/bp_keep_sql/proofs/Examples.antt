@@ -1,15 +1,19 @@
 -- Worked examples of the definitions in specs/, each run by the check.
 use Rattle.std.proofs.Common.{◌≡◌, ℕ, ℤ, pos, negsuc, true, false, List, [], ◌∷◌, length, codes, Some, None, refl, ap, inl, inr, arith}
 use Rattle.std.proofs.lemmas.Bool.{cases_Bool}
-use Rattle.sqlite_value.specs.declared.value.Value.TheVariants.{Int, Blob}
+use Rattle.sqlite_value.specs.declared.value.Value.TheVariants.{Null, Int, Text, Blob}
 use Rattle.sqlite_value.specs.Order.{Row as Line, value_cmp}
 use Rattle.sqlite_trees.specs.Tree.{Trees, no_trees, with_tree}
 use Rattle.sqlite_sql.specs.Ops.{binary}
 use Rattle.sqlite_schema.specs.declared.schema.Schema.{Schema}
 use Rattle.sqlite_schema.specs.Rules.{passes_checks}
+use Rattle.sqlite.specs.declared.error.ErrorCode.TheVariants as code
+use Rattle.sqlite.specs.declared.error.Error.TheVariants.{SqliteFailure}
 use Rattle.bp_core.specs.declared.kept.Row.{Row}
+use Rattle.bp_keep.specs.declared.refusals.KeepRefusal.TheVariants.{Failed, OutOfMemory}
 use Rattle.bp_keep_sql.specs.Table.{kept_table, kept_schema, no_schema}
-use Rattle.bp_keep_sql.specs.Lines.{kept_row, shown_row, kept_rows}
+use Rattle.bp_keep_sql.specs.Lines.{kept_row, shown_row, kept_rows, is_row}
+use Rattle.bp_keep_sql.specs.Asked.{are_rows, told_as}
 use Rattle.bp_keep_sql.specs.Schemas.{same_schema}
 use Rattle.bp_keep_sql.specs.Told.{rows_of}
 use Rattle.bp_keep_sql.proofs.SchemaLemmas.{same_schema-true, same_schema-itself}
@@ -37,6 +41,41 @@ rows_by_key = refl
 
 no_line : kept_rows [] ≡ []
 no_line = refl
+
+-- ---- lines that are rows
+
+abbrev shown : ℤ → ℤ → ℤ → Line
+shown kind k1 k2 = Int kind ∷ Int k1 ∷ Int k2 ∷ Blob (7 ∷ []) ∷ []
+
+the_greatest_row : is_row (shown (pos 255) (pos 4294967295) (pos 4294967295)) ≡ true
+the_greatest_row = refl
+
+no_kind : is_row (shown (pos 256) (pos 2) (pos 1)) ≡ false
+no_kind = refl
+
+no_first_number : is_row (shown (pos 4) (negsuc 0) (pos 1)) ≡ false
+no_first_number = refl
+
+no_second_number : is_row (shown (pos 4) (pos 2) (pos 4294967296)) ≡ false
+no_second_number = refl
+
+no_body : is_row (Int (pos 4) ∷ Int (pos 2) ∷ Int (pos 1) ∷ Text (7 ∷ []) ∷ []) ≡ false
+no_body = refl
+
+no_number : is_row (Int (pos 4) ∷ Int (pos 2) ∷ Null ∷ Blob (7 ∷ []) ∷ []) ≡ false
+no_number = refl
+
+rising_rows : are_rows (shown (pos 4) (pos 2) (pos 1) ∷ shown (pos 4) (pos 2) (pos 2) ∷ []) ≡ true
+rising_rows = refl
+
+one_key_twice : are_rows (shown (pos 4) (pos 2) (pos 1) ∷ shown (pos 4) (pos 2) (pos 1) ∷ []) ≡ false
+one_key_twice = refl
+
+want_of_memory : told_as (SqliteFailure code.OutOfMemory) ≡ OutOfMemory
+want_of_memory = refl
+
+a_full_disk : told_as (SqliteFailure code.DiskFull) ≡ Failed
+a_full_disk = refl
 
 -- ---- the ranges that the table asks
 

@@ -1,3 +1,4 @@
+pub mod AskedLemmas
 pub mod DeleteLemmas
 mod Examples
 pub mod KindLemmas

@@ -16,19 +16,8 @@ use Rattle.sqlite_resolve.specs.declared.error.CompileError.TheVariants.{NoSuchT
 use Rattle.sqlite.specs.Listing.{understood, reads_listing, listing_schema}
 use Rattle.sqlite.proofs.Callers.{IsPlain, command_of, statement_of}
 use Rattle.sqlite_tied.specs.Compute.{everything}
+pub use Rattle.bp_keep_sql.specs.Texts.{create_text, upsert_text, delete_text, select_text, find_text, rowids_text}
 use Rattle.bp_keep_sql.specs.Table.{kept_table, no_schema, kept_schema, key_places}
-
-abbrev pub create_text : List ℕ
-create_text = codes "CREATE TABLE IF NOT EXISTS kept (kind INTEGER NOT NULL CHECK (kind BETWEEN 0 AND 255), k1 INTEGER NOT NULL CHECK (k1 BETWEEN 0 AND 4294967295), k2 INTEGER NOT NULL CHECK (k2 BETWEEN 0 AND 4294967295), body BLOB NOT NULL, PRIMARY KEY (kind, k1, k2)) STRICT"
-
-abbrev pub upsert_text : List ℕ
-upsert_text = codes "INSERT INTO kept (kind, k1, k2, body) VALUES (?1, ?2, ?3, ?4) ON CONFLICT (kind, k1, k2) DO UPDATE SET body = excluded.body"
-
-abbrev pub delete_text : List ℕ
-delete_text = codes "DELETE FROM kept WHERE kind = ?1 AND k1 = ?2 AND k2 = ?3"
-
-abbrev pub select_text : List ℕ
-select_text = codes "SELECT kind, k1, k2, body FROM kept ORDER BY kind, k1, k2"
 
 pub table_is : table_defined_by create_text ≡ Ok kept_table
 unfolding understood everything
@@ -129,15 +118,9 @@ pub no_select : understood no_schema select_text ≡ Err NoSuchTable
 unfolding understood everything listing_schema
 no_select = refl
 
-abbrev pub find_text : List ℕ
-find_text = codes "SELECT kind FROM kept"
-
 pub no_find : understood no_schema find_text ≡ Err NoSuchTable
 unfolding understood everything listing_schema
 no_find = refl
-
-abbrev pub rowids_text : List ℕ
-rowids_text = codes "SELECT rowid FROM kept ORDER BY rowid"
 
 abbrev pub rowids_query : Query
 rowids_query = record all_query {

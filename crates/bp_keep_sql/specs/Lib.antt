@@ -1,3 +1,4 @@
+pub mod Asked
 pub mod Effects
 pub mod Keeper
 pub mod Keeps
@@ -5,4 +6,5 @@ pub mod Lines
 pub mod Rowids
 pub mod Schemas
 pub mod Table
+pub mod Texts
 pub mod Told

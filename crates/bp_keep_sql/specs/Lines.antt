@@ -1,5 +1,7 @@
 -- Rows of the table as kept rows. A line of the table is its rowid, kind, k1, k2 and body.
-use Rattle.std.specs.Prelude.{ℕ, List, [], ◌∷◌}
+use Rattle.std.specs.Prelude.{ℕ, pos, Bool, true, false, nat_lt, ◌&&◌, List, [], ◌∷◌}
+use Rattle.sqlite_value.specs.declared.value.Value.{Value}
+use Rattle.sqlite_value.specs.declared.value.Value.TheVariants.{Int, Blob}
 use Rattle.sqlite_value.specs.Order.{Row as Line, column, bytes}
 use Rattle.sqlite_trees.specs.Objects.{number_in}
 use Rattle.bp_core.specs.declared.kept.Row.{Row}
@@ -26,3 +28,19 @@ shown_row = row_at 0 1 2 3
 abbrev pub kept_rows : List Line → List Row
 kept_rows [] = []
 kept_rows (line ∷ lines) = put row_key (kept_row line) (kept_rows lines)
+
+-- a number from 0 up to, but without, the limit
+abbrev pub is_number : ℕ → Value → Bool
+is_number limit (Int (pos n)) = nat_lt n limit
+is_number limit _ = false
+
+-- bytes
+abbrev pub is_body : Value → Bool
+is_body (Blob b) = true
+is_body _ = false
+
+-- a line of the answer is a key with a body
+abbrev pub is_row : Line → Bool
+is_row line =
+    is_number 256 (column line 0) && is_number 4294967296 (column line 1)
+    && is_number 4294967296 (column line 2) && is_body (column line 3)

@@ -1,5 +1,5 @@
 // Puts in one transaction: all of them, or none.
-ghost use Rattle.std.specs.Prelude.{◌≡◌, ◌≤◌, ◌⊎◌, false, List, OnOk, OnErr, IsErr, IsTrue};
+ghost use Rattle.std.specs.Prelude.{◌≡◌, ◌≤◌, ◌⊎◌, false, List, OnOk, OnErr, IfErr, IsErr, IsTrue};
 ghost use Rattle.sqlite.specs.Held.{state};
 ghost use Rattle.sqlite.specs.State.{HasCleanDisk, IsLive, KeepsCommit, Survives};
 ghost use Rattle.sqlite_trees.specs.View.{doubt};
@@ -10,6 +10,7 @@ ghost use Rattle.bp_keep_sql.specs.Table.{no_schema};
 ghost use Rattle.bp_keep_sql.specs.Lines.{kept_rows};
 ghost use Rattle.bp_keep_sql.specs.Keeps.{Keeps};
 ghost use Rattle.bp_keep_sql.specs.Effects.{Leaves};
+ghost use Rattle.bp_keep_sql.specs.Asked.{FailsToKeep, FailsToPut, PutsAll, PutsRow, SameLimit, StopsAt};
 
 use crate::statements::{delete_row, find_table, upsert_row};
 use bp_core::Put;
@@ -36,6 +37,8 @@ pub fn commit_puts<S: Alter>(conn: &mut Connection<S>, puts: &[Put]) -> Result<(
         → (db : Trees) → (state S.Store conn.new).may_leave db
         → (state S.Store conn.old).may_leave db ⊎ (kept_rows (db 0) ≡ put_all puts.now rows) }
     ensures live { IsLive (state S.Store conn.old) }
+    ensures refused { HasCleanDisk (state S.Store conn.new)
+        → IfErr result (FailsToKeep S.Store puts.now conn.old conn.new) }
 {
     find_table(conn)?;
     put_inside(conn, puts)
@@ -60,6 +63,8 @@ fn put_inside<S: Alter>(conn: &mut Connection<S>, puts: &[Put]) -> Result<(), Er
         → Keeps (state S.Store conn.old).now rows
         → (db : Trees) → (state S.Store conn.new).may_leave db
         → (state S.Store conn.old).may_leave db ⊎ (kept_rows (db 0) ≡ put_all puts.now rows) }
+    ensures refused { HasCleanDisk (state S.Store conn.new)
+        → IfErr result (FailsToPut S.Store puts.now conn.old conn.new) }
 {
     if !conn.is_autocommit() {
         return Err(Error::SqliteFailure(ErrorCode::TransactionState));
@@ -85,6 +90,14 @@ fn make_puts<S: Alter>(transaction: &mut Transaction<'_, S>, puts: &[Put]) -> Re
         → OnOk result (IsTrue (state S.Store transaction.new.conn.now).in_transaction) }
     ensures survives { Survives (state S.Store transaction.old.conn.now)
         (state S.Store transaction.new.conn.now) (λ _. ⊥) }
+    ensures all { HasCleanDisk (state S.Store transaction.new.conn.now)
+        → IsTrue (state S.Store transaction.old.conn.now).in_transaction
+        → OnOk result
+        (PutsAll S.Store puts.now transaction.old.conn.now transaction.new.conn.now) }
+    ensures refused { HasCleanDisk (state S.Store transaction.new.conn.now)
+        → IsTrue (state S.Store transaction.old.conn.now).in_transaction
+        → IfErr result
+        (StopsAt S.Store puts.now transaction.old.conn.now transaction.new.conn.now) }
 {
     for put in puts {
         make_put(transaction, put)?;
@@ -108,6 +121,11 @@ fn make_put<S: Alter>(transaction: &mut Transaction<'_, S>, put: &Put) -> Result
         → OnOk result (IsTrue (state S.Store transaction.new.conn.now).in_transaction) }
     ensures survives { Survives (state S.Store transaction.old.conn.now)
         (state S.Store transaction.new.conn.now) (λ _. ⊥) }
+    ensures runs { HasCleanDisk (state S.Store transaction.new.conn.now)
+        → IsTrue (state S.Store transaction.old.conn.now).in_transaction
+        → PutsRow put.now (state S.Store transaction.old.conn.now)
+        (state S.Store transaction.new.conn.now) result }
+    ensures limit { SameLimit S.Store transaction.old.conn.now transaction.new.conn.now }
 {
     match &put.body {
         Some(body) => upsert_row(transaction, put.kind, put.k1, put.k2, body.as_slice()),

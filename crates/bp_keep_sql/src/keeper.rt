@@ -80,6 +80,7 @@ impl<S: Alter> Keeper for SqlKeeper<S> {
     ghost use Rattle.bp_keep_sql.specs.Lines.{kept_rows};
     ghost use Rattle.bp_keep_sql.specs.Keeps.{Keeps};
     ghost use Rattle.bp_keep_sql.specs.Effects.{Leaves, KeepsTable};
+    ghost use Rattle.bp_keep_sql.specs.Asked.{AnswersCommit, AnswersLoad};
     ghost use Rattle.bp_keep_sql.specs.Keeper.{keeper_shown, GoesOn, shown-ascend, shown-unfailing};
 
     ghost shows = { keeper_shown S.Store };
@@ -101,6 +102,8 @@ impl<S: Alter> Keeper for SqlKeeper<S> {
             → OnOk result (Keeps (state S.Store self.new.conn).now []) }
         ensures keeps { KeepsTable (state S.Store self.old.conn) (state S.Store self.new.conn) }
         ensures opened { OnOk result (IsTrue self.new.numbered) }
+        ensures asked { HasCleanDisk (state S.Store self.new.conn)
+            → AnswersLoad S.Store self.old.numbered self.old.conn self.new.conn result }
         ensures goes_on { GoesOn S.Store self.old self.new }
     {
         self.loads = self.loads.saturating_add(1);
@@ -130,6 +133,8 @@ impl<S: Alter> Keeper for SqlKeeper<S> {
             → (db : Trees) → (state S.Store self.new.conn).may_leave db
             → (state S.Store self.old.conn).may_leave db
             ⊎ (kept_rows (db 0) ≡ put_all puts.now rows) }
+        ensures asked { HasCleanDisk (state S.Store self.new.conn)
+            → AnswersCommit S.Store puts.now self.old.conn self.new.conn result }
         ensures goes_on { GoesOn S.Store self.old self.new }
     {
         self.commits = self.commits.saturating_add(1);

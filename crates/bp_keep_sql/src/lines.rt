@@ -1,14 +1,18 @@
 // Lines of an answer as kept rows.
-ghost use Rattle.std.specs.Prelude.{◌≡◌, IfOk, map};
-ghost use Rattle.bp_keep_sql.specs.Lines.{shown_row};
+ghost use Rattle.std.specs.Prelude.{◌≡◌, ◌⊎◌, true, false, IfOk, IfErr, OnOk, map};
+ghost use Rattle.std.specs.List.{list_all};
+ghost use Rattle.bp_keep_sql.specs.Lines.{shown_row, is_row};
 
 use bp_core::{Bytes, Row};
-use sqlite::{Error, Row as Line};
+use sqlite::{Error, ErrorCode, Row as Line};
 use std::alloc::Global;
 
 // The kept rows that these lines are. Each line is let go as soon as it was read.
 pub fn read_lines(alloc: Global, lines: Vec<Line>) -> Result<Vec<Row>, Error>
-    ensures { IfOk result (λ rows. rows.items ≡ map shown_row lines.items) }
+    ensures rows { IfOk result (λ rows. rows.items ≡ map shown_row lines.items) }
+    ensures all { OnOk result (list_all is_row lines.items ≡ true) }
+    ensures refused { IfErr result (λ e. (e ≡ Error.SqliteFailure ErrorCode.OutOfMemory)
+        ⊎ (list_all is_row lines.items ≡ false)) }
 {
     let mut rows = Vec::with_capacity(alloc, lines.len())?;
     for line in lines {
@@ -18,7 +22,10 @@ pub fn read_lines(alloc: Global, lines: Vec<Line>) -> Result<Vec<Row>, Error>
 }
 
 fn read_line(line: &Line) -> Result<Row, Error>
-    ensures { IfOk result (λ row. row ≡ shown_row line.now) }
+    ensures row { IfOk result (λ row. row ≡ shown_row line.now) }
+    ensures is { OnOk result (is_row line.now ≡ true) }
+    ensures refused { IfErr result (λ e. (e ≡ Error.SqliteFailure ErrorCode.OutOfMemory)
+        ⊎ (is_row line.now ≡ false)) }
 {
     let kind = line.get::<u32>(0)?;
     let Ok(kind) = u8::try_from(kind) else {

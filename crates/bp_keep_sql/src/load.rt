@@ -1,5 +1,5 @@
 // All rows, read at once.
-ghost use Rattle.std.specs.Prelude.{◌≡◌, [], false, OnOk, IfOk, IfSome, IsErr, IsTrue};
+ghost use Rattle.std.specs.Prelude.{◌≡◌, [], false, Ok, Err, OnOk, IfOk, IfErr, IfSome, IsErr, IsTrue};
 ghost use Rattle.sqlite.specs.Held.{state};
 ghost use Rattle.sqlite.specs.State.{HasCleanDisk};
 ghost use Rattle.bp_core.specs.declared.kept.Row.{Row as Kept};
@@ -10,6 +10,7 @@ ghost use Rattle.bp_keep_sql.specs.Lines.{kept_rows};
 ghost use Rattle.bp_keep_sql.specs.Rowids.{AreNumbered};
 ghost use Rattle.bp_keep_sql.specs.Keeps.{Keeps};
 ghost use Rattle.bp_keep_sql.specs.Effects.{Leaves, KeepsTable};
+ghost use Rattle.bp_keep_sql.specs.Asked.{LoadsTable, OpensTable, ReadsTable, SameLimit};
 ghost use Rattle.bp_keep_sql.specs.Told.{IsNumbered, rows_told};
 
 use crate::lines::read_lines;
@@ -38,6 +39,11 @@ pub fn load_rows<S: Alter>(
     ensures keeps { KeepsTable (state S.Store conn.old) (state S.Store conn.new) }
     ensures opened { OnOk result (IsTrue numbered.new) }
     ensures stays { IsTrue numbered.old → IsTrue numbered.new }
+    ensures loaded { HasCleanDisk (state S.Store conn.new) → IfOk result (λ rows.
+        LoadsTable S.Store numbered.old conn.old conn.new (Ok rows.items)) }
+    ensures refused { HasCleanDisk (state S.Store conn.new) → IfErr result (λ e.
+        LoadsTable S.Store numbered.old conn.old conn.new (Err e)) }
+    ensures limit { SameLimit S.Store conn.old conn.new }
 {
     open_once(conn, numbered)?;
     read_table(alloc, conn)
@@ -55,6 +61,9 @@ fn open_once<S: Alter>(conn: &mut Connection<S>, numbered: &mut bool) -> Result<
         → OnOk result (Keeps (state S.Store conn.new).now []) }
     ensures keeps { KeepsTable (state S.Store conn.old) (state S.Store conn.new) }
     ensures stays { IsTrue numbered.old → IsTrue numbered.new }
+    ensures asked { HasCleanDisk (state S.Store conn.new)
+        → OpensTable S.Store numbered.old conn.old conn.new result }
+    ensures limit { SameLimit S.Store conn.old conn.new }
 {
     if *numbered {
         return Ok(());
@@ -74,6 +83,9 @@ fn open_table<S: Alter>(conn: &mut Connection<S>) -> Result<(), Error>
         → (state S.Store conn.old).now.schema ≡ no_schema
         → OnOk result (Keeps (state S.Store conn.new).now []) }
     ensures keeps { KeepsTable (state S.Store conn.old) (state S.Store conn.new) }
+    ensures asked { HasCleanDisk (state S.Store conn.new)
+        → OpensTable S.Store false conn.old conn.new result }
+    ensures limit { SameLimit S.Store conn.old conn.new }
 {
     create_table(conn)?;
     test_rowids(conn)
@@ -88,6 +100,11 @@ fn read_table<S: Alter>(alloc: Global, conn: &mut Connection<S>) -> Result<Vec<R
         → (state S.Store conn.old).now.schema ≡ no_schema → IsErr result }
     ensures ascends { IfOk result (λ loaded. IsTrue (ascends row_key 0 loaded.items)) }
     ensures leaves { Leaves (state S.Store conn.old) (state S.Store conn.new) }
+    ensures read { HasCleanDisk (state S.Store conn.new) → IfOk result (λ rows.
+        ReadsTable (state S.Store conn.old) (state S.Store conn.new) (Ok rows.items)) }
+    ensures refused { HasCleanDisk (state S.Store conn.new) → IfErr result (λ e.
+        ReadsTable (state S.Store conn.old) (state S.Store conn.new) (Err e)) }
+    ensures limit { SameLimit S.Store conn.old conn.new }
 {
     let lines = select_rows(conn)?;
     let rows = read_lines(alloc, lines)?;

@@ -1,15 +1,18 @@
 // That no two lines of the table have one rowid. It is so in every tree of a store, but no call of
 // a connection says it, and a statement takes its lines out by their rowids.
-ghost use Rattle.std.specs.Prelude.{◌≡◌, ◌-◌, ◌<◌, length, slice_index_or, [], IfOk, IsTrue, OnOk};
+ghost use Rattle.std.specs.Prelude.{◌≡◌, ◌-◌, ◌<◌, length, slice_index_or, [], false, None, IfSome, IsTrue, OnOk};
 ghost use Rattle.sqlite.specs.Held.{state};
 ghost use Rattle.sqlite.specs.State.{HasCleanDisk};
 ghost use Rattle.sqlite.specs.Values.{IsInt};
+ghost use Rattle.sqlite_value.specs.declared.value.Value.TheVariants.{Int};
 ghost use Rattle.sqlite_trees.specs.Tree.{rowid};
 ghost use Rattle.bp_keep_sql.specs.Table.{kept_schema};
 ghost use Rattle.bp_keep_sql.specs.Rowids.{AreNumbered, IsBelow, Rise};
 ghost use Rattle.bp_keep_sql.specs.Effects.{Leaves};
+ghost use Rattle.bp_keep_sql.specs.Asked.{NumbersTable, SameLimit};
 
 use crate::statements::select_rowids;
+use sqlite::types::ValueRef;
 use sqlite::{Alter, Connection, Error, ErrorCode, Row as Line};
 
 // Finds that no two lines of the table have one rowid. A table in which two have is refused.
@@ -18,39 +21,56 @@ pub fn test_rowids<S: Alter>(conn: &mut Connection<S>) -> Result<(), Error>
         → (state S.Store conn.old).now.schema ≡ kept_schema
         → OnOk result (AreNumbered ((state S.Store conn.old).now.trees 0)) }
     ensures leaves { Leaves (state S.Store conn.old) (state S.Store conn.new) }
+    ensures asked { HasCleanDisk (state S.Store conn.new)
+        → NumbersTable (state S.Store conn.old) (state S.Store conn.new) result }
+    ensures limit { SameLimit S.Store conn.old conn.new }
 {
     let lines = select_rowids(conn)?;
-    if rowids_rise(lines.as_slice())? {
+    if rowids_rise(lines.as_slice()) {
         Ok(())
     } else {
         Err(Error::SqliteFailure(ErrorCode::DatabaseCorrupt))
     }
 }
 
-fn rowids_rise(lines: &[Line]) -> Result<bool, Error>
-    ensures { IfOk result (λ rise. IsTrue rise → Rise lines.now) }
+fn rowids_rise(lines: &[Line]) -> bool
+    ensures rise { IsTrue result → Rise lines.now }
+    ensures falls { result ≡ false → ¬ Rise lines.now }
 {
     for at in 0..lines.len() {
-        if !rises_at(lines, at)? {
-            return Ok(false);
+        if !rises_at(lines, at) {
+            return false;
         }
     }
-    Ok(true)
+    true
 }
 
 // The rowid at this place is an integer, and above the one before it.
-fn rises_at(lines: &[Line], at: usize) -> Result<bool, Error>
+fn rises_at(lines: &[Line], at: usize) -> bool
     requires { at < length lines.now }
-    ensures int { OnOk result (IsInt (rowid (slice_index_or lines.now at []))) }
-    ensures up { IfOk result (λ rises. IsTrue rises → 0 < at
-        → IsBelow (slice_index_or lines.now (at - 1) []) (slice_index_or lines.now at [])) }
+    ensures int { IsTrue result → IsInt (rowid (slice_index_or lines.now at [])) }
+    ensures up { IsTrue result → 0 < at
+        → IsBelow (slice_index_or lines.now (at - 1) []) (slice_index_or lines.now at []) }
+    ensures falls { result ≡ false → ¬ Rise lines.now }
 {
-    let line = &lines[at];
-    let id = line.get::<i64>(0)?;
+    let Some(id) = rowid_in(&lines[at]) else {
+        return false;
+    };
     if at == 0 {
-        return Ok(true);
+        return true;
     }
-    let line_before = &lines[at - 1];
-    let before = line_before.get::<i64>(0)?;
-    Ok(before < id)
+    let Some(before) = rowid_in(&lines[at - 1]) else {
+        return false;
+    };
+    before < id
+}
+
+fn rowid_in(line: &Line) -> Option<i64>
+    ensures some { IfSome result (λ n. rowid line.now ≡ Int n) }
+    ensures none { result ≡ None → ¬ IsInt (rowid line.now) }
+{
+    match line.get_ref(0) {
+        Ok(ValueRef::Int(id)) => Some(id),
+        _ => None,
+    }
 }

@@ -1,5 +1,5 @@
 // The statements, each run by a function of its own.
-ghost use Rattle.std.specs.Prelude.{◌≡◌, List, [], OnOk, OnErr, IfOk, IsErr, IsTrue, true, map};
+ghost use Rattle.std.specs.Prelude.{◌≡◌, List, [], OnOk, OnErr, IfOk, IfErr, IsErr, IsTrue, true, map, Some, None, Ok, Err};
 ghost use Rattle.sqlite.specs.Held.{state};
 ghost use Rattle.sqlite.specs.State.{HasCleanDisk, IsLive, KeepsCommit, Survives};
 ghost use Rattle.sqlite_trees.specs.Tree.{Trees};
@@ -10,6 +10,8 @@ ghost use Rattle.bp_keep_sql.specs.Lines.{shown_row, kept_rows};
 ghost use Rattle.bp_keep_sql.specs.Rowids.{AreNumbered, Rise};
 ghost use Rattle.bp_keep_sql.specs.Keeps.{Keeps};
 ghost use Rattle.bp_keep_sql.specs.Effects.{Leaves, KeepsTable};
+ghost use Rattle.bp_keep_sql.specs.Texts.{rowids_text, select_text};
+ghost use Rattle.bp_keep_sql.specs.Asked.{FindsTable, MakesTable, PutsBody, Queries, SameLimit};
 
 use sqlite::{Alter, Connection, Error, ErrorCode, Row as Line, Transaction, params};
 
@@ -20,6 +22,9 @@ pub fn create_table<S: Alter>(conn: &mut Connection<S>) -> Result<usize, Error>
         → OnOk result (Keeps (state S.Store conn.new).now []) }
     ensures keeps { KeepsTable (state S.Store conn.old) (state S.Store conn.new) }
     ensures left { OnErr result (Leaves (state S.Store conn.old) (state S.Store conn.new)) }
+    ensures asked { HasCleanDisk (state S.Store conn.new)
+        → MakesTable (state S.Store conn.old) (state S.Store conn.new) result }
+    ensures limit { SameLimit S.Store conn.old conn.new }
 {
     if !conn.is_autocommit() {
         return Err(Error::SqliteFailure(ErrorCode::TransactionState));
@@ -40,6 +45,9 @@ pub fn find_table<S: Alter>(conn: &mut Connection<S>) -> Result<(), Error>
     ensures stops { HasCleanDisk (state S.Store conn.new) → (db : Trees)
         → (state S.Store conn.new).may_leave db → (state S.Store conn.old).may_leave db }
     ensures live { IsLive (state S.Store conn.old) }
+    ensures asked { HasCleanDisk (state S.Store conn.new)
+        → FindsTable (state S.Store conn.old) (state S.Store conn.new) result }
+    ensures limit { SameLimit S.Store conn.old conn.new }
 {
     let _schema = conn.schema();
     if !conn.is_autocommit() {
@@ -72,6 +80,11 @@ pub fn upsert_row<S: Alter>(
         → OnOk result (IsTrue (state S.Store transaction.new.conn.now).in_transaction) }
     ensures survives { Survives (state S.Store transaction.old.conn.now)
         (state S.Store transaction.new.conn.now) (λ _. ⊥) }
+    ensures runs { HasCleanDisk (state S.Store transaction.new.conn.now)
+        → IsTrue (state S.Store transaction.old.conn.now).in_transaction
+        → PutsBody kind k1 k2 (Some body.now) (state S.Store transaction.old.conn.now)
+        (state S.Store transaction.new.conn.now) result }
+    ensures limit { SameLimit S.Store transaction.old.conn.now transaction.new.conn.now }
 {
     transaction.execute(
         "INSERT INTO kept (kind, k1, k2, body) VALUES (?1, ?2, ?3, ?4) ON CONFLICT (kind, k1, k2) DO UPDATE SET body = excluded.body",
@@ -102,6 +115,11 @@ pub fn delete_row<S: Alter>(
         → OnOk result (IsTrue (state S.Store transaction.new.conn.now).in_transaction) }
     ensures survives { Survives (state S.Store transaction.old.conn.now)
         (state S.Store transaction.new.conn.now) (λ _. ⊥) }
+    ensures runs { HasCleanDisk (state S.Store transaction.new.conn.now)
+        → IsTrue (state S.Store transaction.old.conn.now).in_transaction
+        → PutsBody kind k1 k2 None (state S.Store transaction.old.conn.now)
+        (state S.Store transaction.new.conn.now) result }
+    ensures limit { SameLimit S.Store transaction.old.conn.now transaction.new.conn.now }
 {
     transaction.execute(
         "DELETE FROM kept WHERE kind = ?1 AND k1 = ?2 AND k2 = ?3",
@@ -119,6 +137,11 @@ pub fn select_rows<S: Alter>(conn: &mut Connection<S>) -> Result<Vec<Line>, Erro
     ensures lacking { HasCleanDisk (state S.Store conn.new)
         → (state S.Store conn.old).now.schema ≡ no_schema → IsErr result }
     ensures leaves { Leaves (state S.Store conn.old) (state S.Store conn.new) }
+    ensures shown { HasCleanDisk (state S.Store conn.new) → IfOk result (λ lines.
+        Queries select_text (state S.Store conn.old) (state S.Store conn.new) (Ok lines.items)) }
+    ensures refused { HasCleanDisk (state S.Store conn.new) → IfErr result (λ e.
+        Queries select_text (state S.Store conn.old) (state S.Store conn.new) (Err e)) }
+    ensures limit { SameLimit S.Store conn.old conn.new }
 {
     let _schema = conn.schema();
     if !conn.is_autocommit() {
@@ -137,6 +160,11 @@ pub fn select_rowids<S: Alter>(conn: &mut Connection<S>) -> Result<Vec<Line>, Er
         → IfOk result (λ lines. Rise lines.items
         → AreNumbered ((state S.Store conn.old).now.trees 0)) }
     ensures leaves { Leaves (state S.Store conn.old) (state S.Store conn.new) }
+    ensures shown { HasCleanDisk (state S.Store conn.new) → IfOk result (λ lines.
+        Queries rowids_text (state S.Store conn.old) (state S.Store conn.new) (Ok lines.items)) }
+    ensures refused { HasCleanDisk (state S.Store conn.new) → IfErr result (λ e.
+        Queries rowids_text (state S.Store conn.old) (state S.Store conn.new) (Err e)) }
+    ensures limit { SameLimit S.Store conn.old conn.new }
 {
     if !conn.is_autocommit() {
         return Err(Error::SqliteFailure(ErrorCode::TransactionState));

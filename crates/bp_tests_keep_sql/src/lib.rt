@@ -5,6 +5,8 @@
 #[cfg(test)]
 mod batches;
 #[cfg(test)]
+mod many_rows;
+#[cfg(test)]
 mod other_tables;
 #[cfg(test)]
 mod sql_rows;

@@ -3,6 +3,7 @@ use Rattle.sqlite.specs.Held.{state}
 use Rattle.sqlite.specs.Effect.{Database}
 use Rattle.sqlite.specs.State.{HasCleanDisk}
 use Rattle.bp_keep_sql.specs.Keeps.{Keeps}
+use Rattle.bp_keep_sql.proofs.AskedLemmas.{fails_later}
 use Rattle.bp_keep_sql.proofs.LeaveLemmas.{made_after}
 use Rattle.bp_keep_sql.proofs.commit.commit_puts.Goals as goal
 
@@ -37,3 +38,11 @@ returns-clause-stops g c clean rows keeps db left =
       | inl old ↦ inl (found.stops early db old)
       | inr made ↦ inr made
     ]
+
+pub returns-clause-refused : goal.returns-clause-refused
+returns-clause-refused g c clean =
+    let mid = state g.S.Store c.find_table.new.conn in
+    let early : HasCleanDisk mid = omega (arith, c.put_inside.ensures.clean, clean) in
+    fails_later g.S.Store c.args.puts.now c.args.conn.now c.find_table.new.conn c.put_inside.new.conn
+    c.put_inside.result (c.in_ok-find_table.ensures.asked early) c.find_table.ensures.limit
+    (c.put_inside.ensures.refused clean)

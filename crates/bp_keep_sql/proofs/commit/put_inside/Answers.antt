@@ -1,6 +1,8 @@
-use Rattle.std.proofs.Common.{◌≡◌, IsTrue, OnErr, sym, ap, subst, arith, rules}
+use Rattle.std.proofs.Common.{◌≡◌, IsTrue, Err, OnErr, IfErr, sym, ap, subst, arith, rules}
 use Rattle.sqlite.specs.Held.{state}
 use Rattle.sqlite.specs.State.{HasCleanDisk}
+use Rattle.bp_keep_sql.specs.Asked.{FailsToPut}
+use Rattle.bp_keep_sql.proofs.AskedLemmas.{stops_put, fails_last}
 use Rattle.bp_keep_sql.proofs.StatementLemmas.{uncommitted}
 use Rattle.bp_keep_sql.proofs.commit.put_inside.Goals as goal
 
@@ -22,3 +24,30 @@ returns-clause-left g c clean opens =
     (c.is_autocommit.ensures.settled (search rules))
     (λ o. rw is at o)
     (subst (λ h. IsTrue (state g.S.Store h).is_open) (sym same) opens))
+
+pub returns-in_err-make_puts-clause-refused : goal.returns-in_err-make_puts-clause-refused
+returns-in_err-make_puts-clause-refused g c clean =
+    let mid = state g.S.Store c.make_puts.new.transaction.conn.now in
+    let end = c.drop-transaction.new.self.0 in
+    let same : end ≡ c.conn-1.given.0 = search rules in
+    let late : HasCleanDisk (state g.S.Store end) = subst (λ h. HasCleanDisk (state g.S.Store h)) (sym same) clean in
+    let early : HasCleanDisk mid = omega (arith, c.drop-transaction.ensures.survives.clean, late) in
+    let begun = c.transaction-transaction.ensures.begun in
+    let is : c.from_residual.result ≡ Err c.in_err-make_puts.field-0.0 = search rules in
+    subst (λ r. IfErr r (FailsToPut g.S.Store c.args.puts.now c.args.conn.now c.conn-1.given.0)) (sym is)
+    (stops_put g.S.Store c.args.puts.now c.args.conn.now c.transaction-transaction.result.conn.now
+    c.make_puts.new.transaction.conn.now c.conn-1.given.0 c.in_err-make_puts.field-0.0 begun
+    (c.in_err-make_puts.ensures.refused early (ap (λ h. h.in_transaction) begun)))
+
+pub returns-clause-refused : goal.returns-clause-refused
+returns-clause-refused g c clean =
+    let mid = state g.S.Store c.make_puts.new.transaction.conn.now in
+    let end = c.commit.new.self.0 in
+    let same : end ≡ c.conn-2-1.given.0 = search rules in
+    let late : HasCleanDisk (state g.S.Store end) = subst (λ h. HasCleanDisk (state g.S.Store h)) (sym same) clean in
+    let early : HasCleanDisk mid = omega (arith, c.commit.ensures.survives.clean, late) in
+    let begun = c.transaction-transaction.ensures.begun in
+    subst (λ h. IfErr c.commit.result (FailsToPut g.S.Store c.args.puts.now c.args.conn.now h)) same
+    (fails_last g.S.Store c.args.puts.now c.args.conn.now c.transaction-transaction.result.conn.now
+    c.make_puts.new.transaction.conn.now end c.commit.result begun
+    (c.in_ok-make_puts.ensures.all early (ap (λ h. h.in_transaction) begun)) (c.commit.ensures.err late))

@@ -1,4 +1,7 @@
+use Rattle.std.proofs.Common.{arith}
 use Rattle.sqlite.specs.Held.{state}
+use Rattle.sqlite.specs.State.{HasCleanDisk}
+use Rattle.bp_keep_sql.proofs.AskedLemmas.{loads_read, loads_refused}
 use Rattle.bp_keep_sql.proofs.ToldLemmas.{loads_told, same_then}
 use Rattle.bp_keep_sql.proofs.load.load_rows.Goals as goal
 
@@ -14,3 +17,19 @@ returns-clause-same g c =
     same_then c.args.numbered.now (state g.S.Store c.args.conn.now) c.open_once.new.numbered
     (state g.S.Store c.open_once.new.conn) (state g.S.Store c.read_table.new.conn)
     c.in_ok-open_once.ensures.same c.read_table.ensures.leaves
+
+pub returns-clause-loaded : goal.returns-clause-loaded
+returns-clause-loaded g c clean =
+    let early : HasCleanDisk (state g.S.Store c.open_once.new.conn) =
+    omega (arith, c.read_table.ensures.leaves.clean, clean) in
+    loads_read g.S.Store c.args.numbered.now c.args.conn.now c.open_once.new.conn c.read_table.new.conn _
+    (c.in_ok-open_once.ensures.asked early) c.open_once.ensures.limit (λ v. v.items) c.read_table.result
+    (c.read_table.ensures.read clean)
+
+pub returns-clause-refused : goal.returns-clause-refused
+returns-clause-refused g c clean =
+    let early : HasCleanDisk (state g.S.Store c.open_once.new.conn) =
+    omega (arith, c.read_table.ensures.leaves.clean, clean) in
+    loads_refused g.S.Store c.args.numbered.now c.args.conn.now c.open_once.new.conn c.read_table.new.conn _
+    (c.in_ok-open_once.ensures.asked early) c.open_once.ensures.limit (λ v. v.items) c.read_table.result
+    (c.read_table.ensures.refused clean)

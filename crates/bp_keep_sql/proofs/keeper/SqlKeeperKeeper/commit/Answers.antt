@@ -34,3 +34,8 @@ returns-in-Err-clause-commits g c =
       commits = search rules;
       sure = refl;
     })
+
+pub returns-in-Err-clause-asked : goal.returns-in-Err-clause-asked
+returns-in-Err-clause-asked g c clean =
+    rw (← c.self.view_is, ← c.as_slice.ensures)
+    (c.in-Err.error, c.refuse.ensures.told, c.in-Err.ensures.refused clean)

@@ -22,7 +22,8 @@ use Rattle.bp_core.specs.declared.rectangle.Rect.{Rect}
 use Rattle.bp_core.specs.declared.rules.RuleKind.TheVariants.{WordShape}
 use Rattle.bp_matter.specs.Texts.{is_plain_character, is_word_text}
 use Rattle.bp_matter.specs.Written.{is_short, is_word, rect_written, word_written}
-use Rattle.bp_text.specs.WordFiles.{characters_of, field_of, is_blank, is_number, nonzero, number_of, rect_of, row_of, side_of, word_row_of, word_text_of, words_of}
+use Rattle.bp_records.specs.Fields.{characters_of, field_of}
+use Rattle.bp_text.specs.WordFiles.{is_blank, is_number, nonzero, number_of, rect_of, row_of, side_of, word_row_of, word_text_of, words_of}
 use Rattle.bp_text.specs.declared.words.Word.{Word}
 use Rattle.bp_text.specs.declared.words.WordRow.{WordRow}
 use Rattle.bp_import.specs.declared.files.TheConstants.{FILE_LIMIT}

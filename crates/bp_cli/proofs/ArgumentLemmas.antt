@@ -1,7 +1,8 @@
 -- Lemmas of arguments: from the stop that the system's answer became to what the run promises over
 -- that answer, and from there to what the program promises.
-use Rattle.std.proofs.Common.{ℕ, ◌≡◌, ◌↔◌, ◌<◌, List, [], ◌∷◌, ◌++◌, length, drop, Option, Some, None, Ok, Err, ap, subst, ◌∙◌, inl, inr, arith}
+use Rattle.std.proofs.Common.{ℕ, ◌≡◌, ◌↔◌, ◌<◌, List, [], ◌∷◌, ◌++◌, length, drop, Option, Some, None, Ok, Err, refl, sym, ap, subst, ◌∙◌, inl, inr, arith}
 use Rattle.std.specs.Prelude.{IsSome, IsSomeAnd, String, Vec, option_to_list}
+use Rattle.std.specs.Option.{option_map}
 use Rattle.std.specs.declared.alloc.Global.{Global}
 use Rattle.std.proofs.lemmas.Bool.{false≢true}
 use Rattle.bp_cli.specs.declared.stops.Stop.{Stop}
@@ -11,7 +12,10 @@ use Rattle.bp_desk.specs.declared.history.Made.{Made}
 use Rattle.bp_outside.specs.Door.{DoorView}
 use Rattle.bp_outside.specs.Out.{OutView}
 use Rattle.bp_keep.specs.Keeper.{KeeperView}
-use Rattle.bp_cli.specs.Arguments.{Answer, TakesWords, StopsAtOnce, RunsArguments, RunsFrom, EndsStopped, beginning}
+use Rattle.bp_keep_sql.specs.Keeper.{KeptOver, keeper_shown}
+use Rattle.sqlite.specs.Held.{Held}
+use Rattle.sqlite_trees.specs.declared.store.Store.{Ghosts}
+use Rattle.bp_cli.specs.Arguments.{Answer, TakesWords, StopsAtOnce, RunsArguments, RunsFrom, EndsStopped, beginning, opened_keeper}
 use Rattle.bp_cli.specs.Words.{word_bytes}
 use Rattle.bp_cli.specs.Endings.{status_of, text_of}
 use Rattle.bp_cli.specs.Printing.{Prints}
@@ -40,23 +44,31 @@ left_after_first (x ∷ xs) new n None long e some = absurd (false≢true (some.
 
 -- ---- the program
 
--- a run over this keeper, where nothing is known of the system
-pub runs_from : {D : Type 0} (shows : D → DoorView) (answer : Answer) (keeper : KeeperView) (doors : List D) (s : SourceView) (k : KeeperView) (f : FolderView) (o : OutView) (history : Option (List Made)) (after : Moment D) (status : ℕ) → s ≡ (beginning keeper).world.source → k ≡ keeper → f ≡ (beginning keeper).world.folder → o ≡ (beginning keeper).out
+-- a run over this database, where nothing is known of the system
+pub runs_from : {A D : Type 0} (store : Ghosts A) (shows : D → DoorView) (answer : Answer) (given : Held A) (doors : List D) (s : SourceView) (k : KeeperView) (f : FolderView) (o : OutView) (history : Option (List Made)) (after : Moment D) (kept : KeptOver A) (status : ℕ)
+    → s ≡ (beginning (opened_keeper store given)).world.source → k ≡ opened_keeper store given → f ≡ (beginning (opened_keeper store given)).world.folder → o ≡ (beginning (opened_keeper store given)).out
+    → after.outside.world.keeper ≡ keeper_shown store kept
     → RunsArguments shows answer (moment (outside s k f o) doors) history after status
-    → RunsFrom shows answer keeper doors status
-runs_from shows answer keeper doors s k f o history after status same_s same_k same_f same_o runs = record {
-  after = after;
-  history = history;
-  runs = subst (λ (x : SourceView). RunsArguments shows answer (moment (outside x keeper (beginning keeper).world.folder (beginning keeper).out) doors) history after status) same_s
-      (subst (λ (x : KeeperView). RunsArguments shows answer (moment (outside s x (beginning keeper).world.folder (beginning keeper).out) doors) history after status) same_k
-      (subst (λ (x : FolderView). RunsArguments shows answer (moment (outside s k x (beginning keeper).out) doors) history after status) same_f
-      (subst (λ (x : OutView). RunsArguments shows answer (moment (outside s k f x) doors) history after status) same_o runs)));
-}
+    → RunsFrom store shows answer given doors kept.conn status
+runs_from store shows answer given doors s k f o history after kept status same_s same_k same_f same_o shown runs =
+    let keeper = opened_keeper store given in
+    record {
+      after = after;
+      history = history;
+      kept = kept;
+      handed_back = refl;
+      keeper = shown;
+      runs = subst (λ (x : SourceView). RunsArguments shows answer (moment (outside x keeper (beginning keeper).world.folder (beginning keeper).out) doors) history after status) same_s
+          (subst (λ (x : KeeperView). RunsArguments shows answer (moment (outside s x (beginning keeper).world.folder (beginning keeper).out) doors) history after status) same_k
+          (subst (λ (x : FolderView). RunsArguments shows answer (moment (outside s k x (beginning keeper).out) doors) history after status) same_f
+          (subst (λ (x : OutView). RunsArguments shows answer (moment (outside s k f x) doors) history after status) same_o runs)));
+    }
 
--- a keeper that was handed back
-pub with_keeper : {K : Type 0} (P : K → Type 0) (Q : Type 0) (kept : Option K) → IsSomeAnd kept P → ((k : K) → P k → Q) → Q
-with_keeper P Q None some give = absurd some
-with_keeper P Q (Some k) some give = give k some
+-- the connection of a keeper that was handed back
+pub with_connection : {A : Type 0} (P : KeptOver A → Type 0) (Q : Held A → Type 0) (kept : Option (KeptOver A)) (handed : Option (Held A)) → handed ≡ option_map (λ (k : KeptOver A). k.conn) kept
+    → IsSomeAnd kept P → ((k : KeptOver A) → P k → Q k.conn) → IsSomeAnd handed Q
+with_connection P Q None handed is some give = absurd some
+with_connection P Q (Some k) handed is some give = subst (λ (o : Option _). IsSomeAnd o Q) (sym is) (give k some)
 
 -- what was printed where nothing is done
 pub ends_stopped : (stop known : Stop) (o after : OutView) (status : ℕ) → stop ≡ known → o ≡ untold_out 0 → Prints (text_of (Err stop)) (status_of (Err stop)) o after status → EndsStopped known status

@@ -42,7 +42,6 @@ use Rattle.bp_cli.specs.declared.init.TheConstants.{DIGEST_BYTES}
 use Rattle.bp_cli.specs.declared.produce.TheConstants.{MAX_WIDTH_WORD, REQUEST_WORDS}
 use Rattle.bp_cli.specs.declared.serve.TheConstants.{MAX_CONNECTIONS, MAX_DESKS, SERVE_WORDS}
 use Rattle.bp_cli.specs.declared.statuses.TheConstants.{DONE, WORDS_REFUSED, RULE_BROKEN, SOURCE_FAULT, FOLDER_FAULT, KEEPER_FAULT, OUT_OF_MEMORY, OUT_FAULT}
-use Rattle.bp_cli.specs.declared.words.TheConstants.{MAX_DIGITS}
 use Rattle.bp_cli.specs.Produce.{produce_gives, volume_line, width_of}
 use Rattle.bp_cli.specs.Deliver.{deliver_of, delivered_line, opening_of}
 use Rattle.bp_cli.specs.NamedFiles.{file_read}
@@ -320,9 +319,6 @@ longest_file = refl
 
 digest_bytes : DIGEST_BYTES ≡ 32
 digest_bytes = refl
-
-most_digits : MAX_DIGITS ≡ 9
-most_digits = refl
 
 words_before_fields : REQUEST_WORDS ≡ 6
 words_before_fields = refl

@@ -1,4 +1,4 @@
--- Lemmas of words: from the words of a command line to its numbers and to its command.
+-- Lemmas of words: from the words of a command line to its command.
 use Rattle.std.proofs.Common.{ℕ, zero, suc, ◌+◌, ◌++◌, Bor, map, take, ◌≡◌, ◌<◌, ◌≤◌, ◌^◌, true, false, not, ◌&&◌, ◌||◌, eqb, nat_le, List, [], ◌∷◌, length, drop, Option, Some, None, Result, get_or, refl, sym, ap, ◌∙◌, arith, String}
 use Rattle.std.specs.declared.alloc.Global.{Global}
 use Rattle.std.specs.List.{list_any, list_all}
@@ -10,34 +10,12 @@ use Rattle.std.specs.Str.Parse.{digits_value, ParsesUnsigned}
 use Rattle.std.specs.String.{string_bytes}
 use Rattle.std.proofs.lemmas.Bool.{and_parts, leb-true, cond-true, cond-false, eqb-true}
 use Rattle.std.proofs.lemmas.Str.Parse.{IsNumeralModel, numerals_by_value, tells_all_ascii_digits, parse_gives, digits_value_short}
-use Rattle.bp_cli.specs.Words.{is_number, number_of, word_bytes, word_of, words_lent, is_bad_word}
+use Rattle.bp_cli.specs.Words.{word_bytes, word_of, words_lent, is_bad_word}
 use Rattle.bp_cli.specs.Commands.{CommandLine, named_command, command_of}
 
 pub any_of_bytes : (words : List (String Global)) → list_any (λ word. is_bad_word (string_bytes word)) words ≡ list_any is_bad_word (word_bytes words)
 any_of_bytes [] = refl
 any_of_bytes (word ∷ words) = ap (λ rest. is_bad_word (string_bytes word) || rest) (any_of_bytes words)
-
-pub digits_alike : (word : List ℕ) → list_all is_ascii_digit word ≡ all_ascii_digits word
-digits_alike [] = refl
-digits_alike (c ∷ cs) = ap (λ rest. is_ascii_digit c && rest) (digits_alike cs)
-
-own : IsNumeralModel (λ ds. all_ascii_digits ds ≡ true) (digits_value 10)
-own = numerals_by_value _ tells_all_ascii_digits
-
--- a number that is read
-pub number_read : {E : Type 0} (word : List ℕ) (r : Result ℕ E) → is_number word ≡ true → ParsesUnsigned 32 10 word r → result_ok r ≡ number_of word
-number_read word r good parsed =
-    let three = and_parts (nat_le 1 (length word) && nat_le (length word) 9 && (eqb (length word) 1 || not (eqb (get_or word 0 0) 48))) (all_ascii_digits word) good in
-    let two = and_parts (nat_le 1 (length word) && nat_le (length word) 9) (eqb (length word) 1 || not (eqb (get_or word 0 0) 48)) three.0 in
-    let one = and_parts (nat_le 1 (length word)) (nat_le (length word) 9) two.0 in
-    let some : 1 ≤ length word = leb-true 1 (length word) one.0 in
-    let few : length word ≤ 9 = leb-true (length word) 9 one.1 in
-    let value : digits_value 10 word < 2 ^ 32 = omega (arith, digits_value_short own word 9 three.1 few) in
-    ap result_ok (parse_gives own 32 word r parsed three.1 (omega arith) value)
-    ∙ sym (cond-true (is_number word) (Some (digits_value 10 word)) None good)
-
-pub no_number : (word : List ℕ) → is_number word ≡ false → None ≡ number_of word
-no_number word bad = sym (cond-false (is_number word) (Some (digits_value 10 word)) None bad)
 
 -- ---- command lines
 

@@ -1,6 +1,6 @@
 -- The words of the command line, as the system gives them: with the program's name, or not at all.
 use Rattle.std.specs.Prelude.{◌≡◌, ℕ, ◌⊎◌, false, List, Option, Vec, String, drop, Result}
-use Rattle.std.specs.Prelude.{Ok, Err}
+use Rattle.std.specs.Prelude.{Ok, Err, Some, None, IsSomeAnd}
 use Rattle.std.specs.declared.alloc.Global.{Global}
 use Rattle.std.specs.declared.vec.IntoIter.{IntoIter}
 use Rattle.std.specs.declared.io.Error.{Error}
@@ -15,7 +15,7 @@ use Rattle.bp_cli.specs.Words.{word_bytes}
 use Rattle.bp_cli.specs.Endings.{status_of, text_of}
 use Rattle.bp_cli.specs.Printing.{Prints}
 use Rattle.bp_keep.specs.Keeper.{KeeperView}
-use Rattle.bp_keep_sql.specs.Keeper.{keeper_shown}
+use Rattle.bp_keep_sql.specs.Keeper.{KeptOver, keeper_shown}
 use Rattle.bp_desk.specs.declared.history.Made.{Made}
 use Rattle.bp_outside.specs.Door.{DoorView}
 use Rattle.bp_outside.specs.Out.{OutView}
@@ -74,23 +74,6 @@ beginning keeper =
     outside (untold_source (record { faults = 0; absences = 0; overlong = 0 })) keeper
     (untold_folder false 0) (untold_out 0)
 
--- a run from there over these doors ended with this status
-pub record RunsFrom {D : Type 0} (shows : D → DoorView) (answer : Answer) (keeper : KeeperView)
-    (doors : List D) (status : ℕ) : Type 0 where
-  pub after : Moment D
-  pub history : Option (List Made)
-  pub runs : RunsArguments shows answer (moment (beginning keeper) doors) history after status
-
--- why the program ends where its database can't be opened
-abbrev pub stop_unopened : SqlError → Stop
-stop_unopened (sqlite.SqliteFailure codes.OutOfMemory) = stops.OutOfMemory
-stop_unopened _ = stops.KeeperFault
-
--- nothing was done, and that was printed
-pub record EndsStopped (stop : Stop) (status : ℕ) : Type 0 where
-  pub out : OutView
-  pub printed : Prints (text_of (Err stop)) (status_of (Err stop)) (untold_out 0) out status
-
 -- what a keeper over a database shows that was just opened
 abbrev pub opened_keeper : {A : Type 0} → Ghosts A → Held A → KeeperView
 opened_keeper store connection =
@@ -102,16 +85,42 @@ opened_keeper store connection =
       commits = 0;
     })
 
--- the program ends by a run over a keeper, or says that there was no memory for its doors
-abbrev pub EndsWithDoors : {D : Type 0} → (D → DoorView) → Answer → KeeperView
-    → Result (Vec D Global) OutOfMemory → ℕ → Type 0
-EndsWithDoors shows answer keeper (Ok doors) status =
-    RunsFrom shows answer keeper doors.items status
-EndsWithDoors shows answer keeper (Err lacked) status = EndsStopped stops.OutOfMemory status
+-- a run over the database that was given and these doors ended with this status; the keeper that it
+-- left is over the database that is handed back
+pub record RunsFrom {A D : Type 0} (store : Ghosts A) (shows : D → DoorView) (answer : Answer)
+    (given : Held A) (doors : List D) (handed : Held A) (status : ℕ) : Type 0 where
+  pub after : Moment D
+  pub history : Option (List Made)
+  pub kept : KeptOver A
+  pub handed_back : kept.conn ≡ handed
+  pub keeper : after.outside.world.keeper ≡ keeper_shown store kept
+  pub runs :
+      let before = moment (beginning (opened_keeper store given)) doors in
+      RunsArguments shows answer before history after status
+
+-- why the program ends where its database can't be opened
+abbrev pub stop_unopened : SqlError → Stop
+stop_unopened (sqlite.SqliteFailure codes.OutOfMemory) = stops.OutOfMemory
+stop_unopened _ = stops.KeeperFault
+
+-- nothing was done, and that was printed
+pub record EndsStopped (stop : Stop) (status : ℕ) : Type 0 where
+  pub out : OutView
+  pub printed : Prints (text_of (Err stop)) (status_of (Err stop)) (untold_out 0) out status
+
+-- the program ends by a run over the database, which it hands back; or says that there was no memory
+-- for its doors, and hands the database back as it was given
+abbrev pub EndsWithDoors : {A D : Type 0} → Ghosts A → (D → DoorView) → Answer → Held A
+    → Result (Vec D Global) OutOfMemory → Option (Held A) → ℕ → Type 0
+EndsWithDoors store shows answer given (Ok doors) handed status =
+    IsSomeAnd handed (λ held. RunsFrom store shows answer given doors.items held status)
+EndsWithDoors store shows answer given (Err lacked) handed status =
+    (handed ≡ Some given) × EndsStopped stops.OutOfMemory status
 
 -- the program ends by a run over the database that was opened, or says that it wasn't
 abbrev pub EndsOpened : {A D : Type 0} → Ghosts A → (D → DoorView) → Answer
-    → Result (Held A) SqlError → Result (Vec D Global) OutOfMemory → ℕ → Type 0
-EndsOpened store shows answer (Ok connection) doors status =
-    EndsWithDoors shows answer (opened_keeper store connection) doors status
-EndsOpened store shows answer (Err error) doors status = EndsStopped (stop_unopened error) status
+    → Result (Held A) SqlError → Result (Vec D Global) OutOfMemory → Option (Held A) → ℕ → Type 0
+EndsOpened store shows answer (Ok given) doors handed status =
+    EndsWithDoors store shows answer given doors handed status
+EndsOpened store shows answer (Err error) doors handed status =
+    (handed ≡ None) × EndsStopped (stop_unopened error) status

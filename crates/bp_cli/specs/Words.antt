@@ -1,15 +1,12 @@
 -- The words of a command line, without the program's name, each as its bytes.
-use Rattle.std.specs.Prelude.{ℕ, Bool, not, ◌&&◌, ◌||◌, ◌==◌, nat_le, Option, Some}
-use Rattle.std.specs.Prelude.{None, List, [], length, map, slice_index, slice_index_or, String}
-use Rattle.std.specs.Prelude.{if◌then◌else◌}
+use Rattle.std.specs.Prelude.{ℕ, Bool, ◌||◌, ◌==◌, Option, List, [], length, map, slice_index}
+use Rattle.std.specs.Prelude.{slice_index_or, String}
 use Rattle.std.specs.declared.alloc.Global.{Global}
 use Rattle.std.specs.Borrow.{Bor}
 use Rattle.std.specs.Option.{option_and_then}
-use Rattle.std.specs.Str.{all_ascii_digits}
-use Rattle.std.specs.Str.Parse.{digits_value}
 use Rattle.std.specs.String.{string_bytes}
-use Rattle.bp_core.specs.Characters.{digit_zero, hyphen}
-use Rattle.bp_cli.specs.declared.words.TheConstants.{MAX_DIGITS}
+use Rattle.bp_core.specs.Characters.{hyphen}
+use Rattle.bp_core.specs.Digits.{unpadded_in}
 
 -- the words as their bytes
 abbrev pub word_bytes : List (String Global) → List (List ℕ)
@@ -27,16 +24,9 @@ word_of words at = slice_index_or words at []
 abbrev pub is_bad_word : List ℕ → Bool
 is_bad_word word = length word == 0 || slice_index word 0 == hyphen
 
--- a number is `0`, or 1 to 9 digits without a leading zero
-abbrev pub is_number : List ℕ → Bool
-is_number word =
-    nat_le 1 (length word) && nat_le (length word) MAX_DIGITS
-    && (length word == 1 || not (slice_index word 0 == digit_zero))
-    && all_ascii_digits word
-
--- the number of a word, if it is one
+-- the number of a word, if it is one: `0`, or 1 to 9 digits without a leading zero
 abbrev pub number_of : List ℕ → Option ℕ
-number_of word = if is_number word then Some (digits_value 10 word) else None
+number_of = unpadded_in
 
 -- a value, and what follows from it
 infixl 10 ◌>>=◌

@@ -1,6 +1,8 @@
 // The program over the system.
-ghost use Rattle.std.specs.Prelude.{◌≡◌};
-ghost use Rattle.bp_cli.specs.Arguments.{EndsOpened, EndsStopped, EndsWithDoors, RunsFrom, opened_keeper, stop_unopened};
+ghost use Rattle.std.specs.Prelude.{◌≡◌, IsSomeAnd};
+ghost use Rattle.std.specs.Option.{option_map};
+ghost use Rattle.bp_cli.specs.Arguments.{EndsOpened, EndsStopped, EndsWithDoors, RunsFrom, stop_unopened};
+ghost use Rattle.bp_keep_sql.specs.Keeper.{KeptOver};
 
 use crate::doors::Doors;
 use crate::printing::finish;
@@ -46,10 +48,10 @@ pub fn hold_descriptors<S: Files>(system: &S) -> Descriptors<S::File> {
 }
 
 /// The program, from the words that the system gave to the exit status: it keeps rows in the
-/// database that was opened, reads files below the current folder, writes files below the folder
-/// `out`, and prints to the standard output. Where no database could be opened, or no doors could
-/// be made, the program says so before it looks at the words, and ends with 6 for want of memory,
-/// else 5.
+/// database that was opened, and hands that back; it reads files below the current folder, writes
+/// files below the folder `out`, and prints to the standard output. Where no database could be
+/// opened, or no doors could be made, the program says so before it looks at the words, and ends
+/// with 6 for want of memory, else 5.
 pub fn program<
     S: Files + Print,
     T: Threads + Wait + Sync,
@@ -63,7 +65,7 @@ pub fn program<
     doors: Doors<D>,
     answer: io::Result<Args>,
 ) -> Ran<A>
-    ensures { EndsOpened A.Store D.shows answer opened doors result.status }
+    ensures { EndsOpened A.Store D.shows answer opened doors result.connection result.status }
 {
     match opened {
         Ok(connection) => with_doors(system, threads, alloc, connection, doors, answer),
@@ -87,7 +89,8 @@ fn with_doors<
     doors: Doors<D>,
     answer: io::Result<Args>,
 ) -> Ran<A>
-    ensures { EndsWithDoors D.shows answer (opened_keeper A.Store connection) doors result.status }
+    ensures { EndsWithDoors A.Store D.shows answer connection doors result.connection
+        result.status }
 {
     match doors {
         Ok(doors) => over_database(system, threads, alloc, connection, doors, answer),
@@ -111,8 +114,8 @@ fn over_database<
     doors: Vec<D>,
     answer: io::Result<Args>,
 ) -> Ran<A>
-    ensures { RunsFrom D.shows answer (opened_keeper A.Store connection) doors.items
-        result.status }
+    ensures { IsSomeAnd result.connection (λ handed.
+        RunsFrom A.Store D.shows answer connection doors.items handed result.status) }
 {
     let mut source = FileSource::below(system, ".");
     let mut folder = FileFolder::below(system, "out");
@@ -133,7 +136,9 @@ fn over_database<
     }
 }
 
-fn connection_of<A: Alter + Drop>(keeper: Option<SqlKeeper<A>>) -> Option<Connection<A>> {
+fn connection_of<A: Alter + Drop>(keeper: Option<SqlKeeper<A>>) -> Option<Connection<A>>
+    ensures { result ≡ option_map (λ (kept : KeptOver A). kept.conn) keeper }
+{
     match keeper {
         Some(keeper) => Some(keeper.into_connection()),
         None => None,

@@ -1,16 +1,12 @@
 // The words of a command line: which may stand in one, and the numbers among them.
 ghost use Rattle.std.specs.Prelude.{◌≡◌, ◌<◌, IfOk, length};
-ghost use Rattle.std.specs.Char.{is_ascii_digit};
-ghost use Rattle.std.specs.List.{list_all, list_any};
+ghost use Rattle.std.specs.List.{list_any};
 ghost use Rattle.std.specs.Str.{chars};
 ghost use Rattle.std.specs.String.{string_bytes};
-ghost use Rattle.bp_cli.specs.Words.{is_number as number_word, number_of, is_bad_word, word_of, words_lent};
+ghost use Rattle.bp_cli.specs.Words.{number_of, is_bad_word, word_of, words_lent};
 
-use bp_core::{OutOfMemory, Text};
+use bp_core::{OutOfMemory, Text, unpadded_in};
 use std::alloc::Global;
-
-/// The most digits of a number.
-pub const MAX_DIGITS: usize = 9;
 
 /// The word at a place, counted from 0.
 pub fn word_at<'a>(words: &[&'a str], at: usize) -> &'a str
@@ -37,25 +33,7 @@ fn is_bad(word: &[u8]) -> bool
 pub fn number_in(word: &str) -> Option<u32>
     ensures { result ≡ number_of word.now }
 {
-    if !is_number(word.as_bytes()) {
-        return None;
-    }
-    word.parse::<u32>().ok()
-}
-
-fn is_number(word: &[u8]) -> bool
-    ensures { result ≡ number_word word.now }
-{
-    !word.is_empty()
-        && word.len() <= MAX_DIGITS
-        && (word.len() == 1 || word[0] != b'0')
-        && all_digits(word)
-}
-
-fn all_digits(word: &[u8]) -> bool
-    ensures { result ≡ list_all is_ascii_digit word.now }
-{
-    word.iter().all(|digit| digit.is_ascii_digit())
+    unpadded_in(word.as_bytes())
 }
 
 /// The characters of a word.

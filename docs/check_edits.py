@@ -1,0 +1,64 @@
+#!/usr/bin/env python3
+"""Counts the must-fail edits of each library crate, laws aside, and tests that each edit can be applied: each `old:` line stands exactly
+once in its file, and the edit changes something. Ends with status 1 where one can't, or where a library has fewer than five. What the
+prover says of them is asked by `rt ci`."""
+import pathlib
+import sys
+
+TOP = pathlib.Path(__file__).resolve().parent.parent
+FEWEST = 5
+# libraries that need fewer: laws, whose calls have no body that does something, and what tests alone use
+APART = {"bp_frozen", "bp_own_volumes", "bp_day", "bp_script"}
+
+
+def steps(edit):
+    """The pairs of lines of an edit, in order: the file that each changes, its old text and its new one."""
+    file, old = "", None
+    for line in edit.read_text(encoding="utf-8").splitlines():
+        kind, _, text = line.partition(":")
+        if kind == "file":
+            file = text.strip()
+        elif kind == "old":
+            old = text.removeprefix(" ")
+        elif kind == "new":
+            yield file, old, text.removeprefix(" ")
+            old = None
+
+
+def fault(crate, edit):
+    """Why the edit can't be applied, or None."""
+    before, after = {}, {}
+    for file, old, new in steps(edit):
+        path = crate / file
+        if not old or not path.is_file():
+            return f"a line new: has no line old: before it, or names no file: '{file}'"
+        text = before.setdefault(file, path.read_text(encoding="utf-8"))
+        text = after.setdefault(file, text)
+        if text.count(old) != 1:
+            return f"'{old}' stands {text.count(old)} times in {file}"
+        after[file] = text.replace(old, new)
+    return None if before != after else "it changes nothing"
+
+
+def is_counted(crate):
+    """Whether it is a library with code of its own."""
+    return (crate / "src" / "lib.rt").is_file() and not crate.name.startswith("bp_tests_") and crate.name not in APART
+
+
+def main():
+    counts, wrong = {}, []
+    for crate in sorted((TOP / "crates").iterdir()):
+        edits = sorted((crate / "must-fail").glob("*.edit"))
+        found = [(edit.name, fault(crate, edit)) for edit in edits]
+        wrong += [f"{crate.name}/must-fail/{name}: {why}" for name, why in found if why]
+        if is_counted(crate):
+            counts[crate.name] = len(edits)
+    wrong += [f"{name}: {count} edits, and not {FEWEST} or more" for name, count in counts.items() if count < FEWEST]
+    print(f"check_edits.py: {sum(counts.values())} edits of {len(counts)} libraries")
+    for line in wrong:
+        print(f"check_edits.py: {line}")
+    sys.exit(1 if wrong else 0)
+
+
+if __name__ == "__main__":
+    main()

@@ -7,12 +7,7 @@ import re
 import fuzz_loads as loads
 import fuzz_pages as pages
 from fuzz_tools import Rule, damaged
-
-MOST = 134217728
-
-
-class Fault(Exception):
-    """A file that can't be read, for another cause than that it is absent or too long."""
+from volumes.folder import LONGEST as MOST, Unreadable as Fault, read_file  # noqa: F401
 
 
 def read_below(folder):
@@ -20,15 +15,7 @@ def read_below(folder):
     digest = hashlib.sha256()
 
     def read(path, which):
-        try:
-            with open(os.path.join(folder, path), "rb") as file:
-                data = file.read(MOST + 1)
-        except (FileNotFoundError, NotADirectoryError):
-            raise Rule(54, which) from None
-        except (OSError, ValueError):
-            raise Fault from None
-        if len(data) > MOST:
-            raise Rule(55, which)
+        data = read_file(folder, path, which)
         digest.update(len(data).to_bytes(8, "little") + data)
         return data
 

@@ -24,9 +24,9 @@ def read_of(files):
     return read
 
 
-def check(read, dat, opt, manifest=None):
+def check(read, *words):
     """How many documents, images and listed files there are, or the first rule that is broken."""
-    looked = checks.Check(read, dat, opt, manifest)
+    looked = checks.Check(read, *words)
     for fault in looked.faults():
         if fault.rule is None:
             raise batches.Fault

@@ -508,4 +508,5 @@ def main():
     sys.exit(1 if tries.other else 0)
 
 
-main()
+if __name__ == "__main__":
+    main()

@@ -74,11 +74,14 @@ def shown(line):
 
 
 class Check:
-    """A check of the files that `read(path, which)` gives. `faults` gives all; `volume` is then what was read."""
+    """A check of the files that `read(path, which)` gives. `faults` gives all; `volume` is then what was read.
 
-    def __init__(self, read, dat, opt, manifest=None, page_rule_of=None):
-        self.read_file, self.told = read, [dat, opt] + ([] if manifest is None else [manifest])
+    `page_rule_of(path, data)` gives the rule that a page file breaks; `find(path)` another path where a file may stand."""
+
+    def __init__(self, read, *words, page_rule_of=None, find=None):
+        self.read_file, self.told = read, list(words)
         self.page_rule_of = page_rule_of or (lambda path, data: page_rule(data))
+        self.find = find or (lambda path: None)
         self.volume, self.paths, self.named = Read(), [], []
 
     def faults(self):
@@ -91,7 +94,9 @@ class Check:
         try:
             return self.read_file(path, which), None
         except Rule as rule:
-            return None, Fault(at_line(rule, line) if line else rule, *place, found=path)
+            other = self.find(path) if rule.number == 54 else None
+            kind = "" if other is None else "letter case" if other.casefold() == path.casefold() else "root"
+            return None, Fault(at_line(rule, line) if line else rule, *place, kind, other or "", path)
         except Unreadable:
             return None, Fault(None, *place, found=path)
 
@@ -288,6 +293,7 @@ class Check:
                 yield Fault(Rule(63, line=number), self.paths[1], text, path_kind(told), found=told)
                 continue
             data, fault = self.taken(path, IS_IMAGE, (self.paths[1], text), number)
+            self.named[-1] = (fault and fault.due or path, "the image")
             rule = None if fault else self.page_rule_of(path, data)
             if fault:
                 yield fault
@@ -305,6 +311,7 @@ class Check:
                 yield Fault(Rule(63, line=number), self.paths[0], text, path_kind(told), found=told)
                 continue
             _, fault = self.taken(path, IS_TEXT, (self.paths[0], text), number)
+            self.named[-1] = (fault and fault.due or path, "the text")
             if fault:
                 yield fault
 
@@ -317,6 +324,8 @@ class Check:
             if path is None or path in listed:
                 continue
             kind, other = unlisted_kind(path, listed, meant)
+            if kind == "line":
+                continue  # that line was told of before
             yield Fault(Rule(117, place), self.paths[2], "", kind, what, other or path)
 
     def digests(self):

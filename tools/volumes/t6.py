@@ -59,6 +59,19 @@ RUN_CODES = {black: {length: code for code, length in codes.items()} for black, 
 MODE_CODES = {mode: code for code, mode in MODES.items()}
 
 
+def by_window(codes, size):
+    """For each text of so many bits that begins with a code, that code: a look-up in place of a search."""
+    windows = {}
+    for code in codes:
+        for rest in range(1 << size - len(code)):
+            windows[code + format(rest, f"0{size - len(code)}b") if len(code) < size else code] = code
+    return windows
+
+
+MODE_WINDOWS = by_window(MODES, 7)
+RUN_WINDOWS = {black: by_window(codes, 13) for black, codes in RUNS.items()}
+
+
 class Refused(Exception):
     """The number of a rule, the row and the bit."""
 
@@ -112,7 +125,7 @@ def read_run(bits, at, black, room, row):
     """The length of a run that begins at a bit, and the bit after it."""
     length = 0
     while True:
-        code = begins(bits, at, RUNS[black])
+        code = RUN_WINDOWS[black].get(bits[at : at + 13]) or begins(bits, at, RUNS[black])
         if code is None:
             raise Refused(70 if any(code.startswith(bits[at:]) for code in RUNS[black]) else 73, row, at)
         part = RUNS[black][code]
@@ -135,7 +148,7 @@ def read_line(bits, at, reference, width, row):
             edges.append(edge)
 
     while a0 < width:
-        code = begins(bits, at, DUE_AT_A_MODE)
+        code = MODE_WINDOWS.get(bits[at : at + 7]) or begins(bits, at, DUE_AT_A_MODE)
         if code is None:
             cut = any(code.startswith(bits[at:]) for code in DUE_AT_A_MODE)
             raise Refused(70 if cut else 73, row, at)

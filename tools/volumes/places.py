@@ -53,6 +53,8 @@ def changes_of(told, found):
     changes = []
     if re.match("[A-Za-z]:", told.strip()):
         changes.append("drive")
+    elif told.strip().startswith(("/", "\\")):
+        changes.append("front")
     plain = "/".join(parts_of(told))
     tail = "/".join(found.split("/")[-len(plain.split("/")) :])
     if plain == found:

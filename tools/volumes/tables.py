@@ -37,7 +37,7 @@ def read_table(data):
     between, around, name = signs_of(text)
     csv.field_size_limit(max(len(text) + 1, 131072))
     reader = csv.reader(io.StringIO(text, newline=""), delimiter=between, quotechar=around, doublequote=True)
-    rows = [(line, [plain(value) for value in row]) for line, row in numbered(reader) if any(row)]
+    rows = [(line, [plain(value, around) for value in row]) for line, row in numbered(reader) if any(row)]
     columns = [column.strip() for column in rows[0][1]] if rows else []
     while columns and not columns[-1]:
         columns.pop()
@@ -55,9 +55,10 @@ def numbered(reader):
         return
 
 
-def plain(value):
-    """The value with newlines as LF, for which some signs stand."""
-    return value.replace("\r\n", "\n").replace("\r", "\n").replace(NEWLINE, "\n")
+def plain(value, around):
+    """The value with newlines as LF, for which ® stands where values aren't quoted as in CSV."""
+    value = value.replace("\r\n", "\n").replace("\r", "\n")
+    return value if around == '"' else value.replace(NEWLINE, "\n")
 
 
 def signs_of(text):

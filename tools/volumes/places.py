@@ -52,15 +52,15 @@ def changes_of(told, found):
     """What was changed of a path that a load file says, in words; none where it is the profile's."""
     changes = []
     if re.match("[A-Za-z]:", told.strip()):
-        changes.append("drive")
+        changes.append("without a drive")
     elif told.strip().startswith(("/", "\\")):
-        changes.append("front")
+        changes.append("without \\ or / at their front")
     plain = "/".join(parts_of(told))
     tail = "/".join(found.split("/")[-len(plain.split("/")) :])
     if plain == found:
         return changes
     if plain.casefold() == found.casefold():
-        return [*changes, "capitals"]
+        return [*changes, "in other capitals"]
     if tail != plain and tail.casefold() == plain.casefold():
-        changes.append("capitals")
-    return [*changes, "root"]
+        changes.append("in other capitals")
+    return [*changes, "below another folder"]

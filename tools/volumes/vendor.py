@@ -145,9 +145,9 @@ class Vendor:
         found = self.files.find(told) if told else None
         if found is None:
             return None
-        changed = [change for change in changes_of(told, self.beneath(found))]
+        changed = changes_of(told, self.beneath(found))
         if changed:
-            self.changes.say(file, f"paths were read with another {' and '.join(changed)}")
+            self.changes.say(file, f"paths were read {' and '.join(changed)}")
         return found
 
     def beneath(self, found):

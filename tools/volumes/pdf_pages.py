@@ -1,0 +1,129 @@
+"""A PDF (ISO 32000-1) of a document's page files: their Group 4 codes as they stand (7.4.6, CCITTFaxDecode), and its text, which
+isn't drawn (9.3.6, text rendering mode 3). The same pages and text make the same file."""
+import hashlib
+from dataclasses import dataclass
+
+from . import t6
+from .page_files import LONG, SHORT, File, read_tiff
+
+POINTS = {2: 72, 3: 72 / 2.54}  # of a unit; by TIFF's ResolutionUnit
+USUAL = (200, 1)  # pixels to the inch where a file doesn't say
+MARGIN, LARGEST, WIDTH = 18, 10, 0.5  # points; points of a letter; its width in its height
+
+
+@dataclass(frozen=True)
+class PageImage:
+    """A page's sides in pixels and in points, its codes, and whether black is what the codes call black."""
+
+    width: int
+    height: int
+    across: float
+    down: float
+    codes: bytes
+    is_black: bool
+
+
+def image_of(data):
+    """The page of a file that `read_tiff` takes. Codes in one strip stay as they are; other pages are coded anew."""
+    file = File(data)
+    value = lambda tag, default: file.whole(tag, default, None)  # noqa: E731
+    width, height, unit = value(256, None), value(257, None), value(296, 2)
+    scales = [file.values(tag, (5,), 1, (200, 1))[0] for tag in (282, 283)]
+    if unit not in POINTS or any(0 in scale for scale in scales):
+        scales, unit = [USUAL, USUAL], 2
+    across, down = (side * POINTS[unit] * below / above for side, (above, below) in zip((width, height), scales))
+    if value(259, None) == 4 and value(266, 1) == 1 and value(278, 2**32 - 1) >= height:
+        at, size = (file.values(tag, (SHORT, LONG), 1, None)[0] for tag in (273, 279))
+        return PageImage(width, height, across, down, data[at : at + size], value(262, None) == 0)
+    page = read_tiff(data)
+    return PageImage(width, height, across, down, t6.code(page.lines, width), True)
+
+
+class Pdf:
+    """Objects on their way into a file."""
+
+    def __init__(self):
+        self.objects = []
+
+    def reserve(self):
+        self.objects.append(b"")
+        return len(self.objects)
+
+    def put(self, body, number=None):
+        number = number or self.reserve()
+        self.objects[number - 1] = body if isinstance(body, bytes) else body.encode("ascii")
+        return number
+
+    def stream(self, head, data):
+        return self.put(f"<< {head} /Length {len(data)} >>\nstream\n".encode("ascii") + data + b"\nendstream")
+
+    def written(self, root, info):
+        out, places = bytearray(b"%PDF-1.5\n%\xe2\xe3\xcf\xd3\n"), []
+        for number, body in enumerate(self.objects, 1):
+            places.append(len(out))
+            out += b"%d 0 obj\n%b\nendobj\n" % (number, body)
+        begins = len(out)
+        out += b"xref\n0 %d\n0000000000 65535 f \n" % (len(places) + 1)
+        out += b"".join(b"%010d 00000 n \n" % place for place in places)
+        mark = hashlib.sha256(bytes(out)).hexdigest()[:32].encode()
+        out += b"trailer\n<< /Size %d /Root %d 0 R /Info %d 0 R /ID [<%b> <%b>] >>\nstartxref\n%d\n%%%%EOF\n" % (
+            len(places) + 1, root, info, mark, mark, begins)
+        return bytes(out)
+
+
+def pdf_of(title, pages):
+    """The file of these pages, each the bytes of its page file and its text."""
+    pdf = Pdf()
+    tree, letters = pdf.reserve(), sorted({letter for _, text in pages for letter in text if letter >= " "})
+    codes = {letter: number for number, letter in enumerate(letters, 1)}
+    font = put_font(pdf, codes)
+    kids = [put_page(pdf, tree, font, image_of(data), text, codes) for data, text in pages]
+    pdf.put(f"<< /Type /Pages /Count {len(kids)} /Kids [{' '.join(f'{kid} 0 R' for kid in kids)}] >>", tree)
+    root = pdf.put(f"<< /Type /Catalog /Pages {tree} 0 R >>")
+    info = pdf.put(f"<< /Title <FEFF{title.encode('utf-16-be').hex()}> >>")
+    return pdf.written(root, info)
+
+
+def put_page(pdf, tree, font, image, text, codes):
+    photometric = "" if image.is_black else " /BlackIs1 true"
+    parms = f"<< /K -1 /Columns {image.width} /Rows {image.height}{photometric} >>"
+    drawn = pdf.stream(f"/Type /XObject /Subtype /Image /Width {image.width} /Height {image.height} /ColorSpace /DeviceGray"
+                       f" /BitsPerComponent 1 /Filter /CCITTFaxDecode /DecodeParms {parms}", image.codes)
+    content = pdf.stream("", f"q {image.across:.4f} 0 0 {image.down:.4f} 0 0 cm /P Do Q\n".encode() + text_drawn(image, text, codes))
+    return pdf.put(f"<< /Type /Page /Parent {tree} 0 R /MediaBox [0 0 {image.across:.4f} {image.down:.4f}] /Contents {content} 0 R"
+                   f" /Resources << /XObject << /P {drawn} 0 R >> /Font << /F {font} 0 R >> >> >>")
+
+
+def text_drawn(image, text, codes):
+    """The lines of the text from the top of the page, in its reading order, invisible. A volume doesn't say where words stand."""
+    lines = [line for line in ("".join(letter for letter in line if letter in codes) for line in text.splitlines()) if line.strip()]
+    if not lines:
+        return b""
+    room = max(1, image.across - 2 * MARGIN)
+    step = (image.down - 2 * MARGIN) / len(lines) if image.down > 4 * MARGIN else image.down / len(lines)
+    size = max(0.1, min(LARGEST, step * 0.8))
+    out = [f"BT 3 Tr /F {size:.3f} Tf"]
+    for number, line in enumerate(lines):
+        scale = min(100, 100 * room / (len(line) * WIDTH * size))
+        top = image.down - (MARGIN if image.down > 4 * MARGIN else 0) - (number + 0.8) * step
+        out.append(f"{scale:.3f} Tz 1 0 0 1 {MARGIN} {top:.3f} Tm <{''.join(f'{codes[letter]:04x}' for letter in line)}> Tj")
+    return "\n".join([*out, "ET"]).encode()
+
+
+def put_font(pdf, codes):
+    """A font that nothing is drawn in, and which letter each of its codes is (9.10.3)."""
+    described = pdf.put("<< /Type /FontDescriptor /FontName /Text /Flags 4 /FontBBox [0 0 500 1000] /ItalicAngle 0 /Ascent 800 /Descent 0"
+                        " /CapHeight 800 /StemV 80 >>")
+    below = pdf.put(f"<< /Type /Font /Subtype /CIDFontType2 /BaseFont /Text /DW {round(WIDTH * 1000)} /FontDescriptor {described} 0 R"
+                    " /CIDSystemInfo << /Registry (Adobe) /Ordering (Identity) /Supplement 0 >> /CIDToGIDMap /Identity >>")
+    told = pdf.stream("", unicode_map(codes))
+    return pdf.put(f"<< /Type /Font /Subtype /Type0 /BaseFont /Text /Encoding /Identity-H /DescendantFonts [{below} 0 R] /ToUnicode {told} 0 R >>")
+
+
+def unicode_map(codes):
+    rows = [f"<{code:04x}> <{letter.encode('utf-16-be', 'replace').hex()}>" for letter, code in codes.items()]
+    parts = [rows[at : at + 100] for at in range(0, len(rows), 100)]
+    head = ("/CIDInit /ProcSet findresource begin\n12 dict begin\nbegincmap\n/CIDSystemInfo << /Registry (Adobe) /Ordering (UCS) /Supplement 0 >> def\n"
+            "/CMapName /Text def\n/CMapType 2 def\n1 begincodespacerange\n<0000> <ffff>\nendcodespacerange\n")
+    body = "".join(f"{len(part)} beginbfchar\n" + "\n".join(part) + "\nendbfchar\n" for part in parts)
+    return (head + body + "endcmap\nCMapName currentdict /CMap defineresource pop\nend\nend").encode("ascii")

@@ -69,4 +69,4 @@ def signs_of(text):
 
 def how_well(head, between, around):
     is_quoted = head.startswith(around) and head.rstrip().endswith(around)
-    return head.count(between), is_quoted
+    return head.count(between), is_quoted, around == '"'

@@ -61,7 +61,7 @@ class Vendor:
     def __init__(self, folder, dat=None, images=None, told=None):
         if not os.path.isdir(folder):
             raise Refused(folder, "there is no such folder")
-        self.folder, self.files, self.changes = folder, Files(folder), Changes()
+        self.folder, self.files, self.changes, self.told = folder, Files(folder), Changes(), told
         self.dat = self.named(dat) if dat else self.only(TABLES, "DAT", "--dat", self.is_dat)
         self.list = self.named(images) if images else self.only(LISTS, "list of images", "--images", self.is_list, True)
         self.table = self.read_table()
@@ -96,7 +96,7 @@ class Vendor:
             return file.read(A_HEAD)
 
     def is_dat(self, data):
-        return names.BEGDOC in names.map_columns(read_table(data).columns)
+        return names.BEGDOC in names.map_columns(read_table(data).columns, self.told)
 
     def is_list(self, data):
         read = read_images(data)

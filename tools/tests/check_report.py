@@ -6,6 +6,7 @@ is said. The page is HTML without a script, whose tags are closed.
 
     check_report.py [COUNT SEED]     so many damaged volumes, 100 where none is said, behind the other tests
 """
+import collections
 import html.parser
 import os
 import random
@@ -73,25 +74,26 @@ class Case(unittest.TestCase):
 
 class Damaged(Case):
     def test_the_first_fault_is_that_of_a_check(self):
-        draw, kinds, all_faults = random.Random(SEED), {}, 0
-        right, done = None, 0
-        while done < COUNT:
-            if done % fuzz_check.CHANGES == 0:
-                volume, right = fuzz_check.a_right_one(draw)
-            made = right if right and done % fuzz_check.CHANGES == 0 else fuzz_check.some_case(draw, volume, True)
-            words = [word.replace("\0", "") for word in made.words]
-            done += 1
-            if not all(word and not word.startswith("-") for word in words):
-                continue  # a faulty command line
-            shutil.rmtree(self.room)
-            os.mkdir(self.room)
-            self.put(made.files)
-            due = self.checked(words)
-            told = self.reported(words)
-            self.assertEqual(told.says(), due, words)
-            kinds[due.split(" ")[1] if due.startswith("refused") else due.split(" ")[0]] = kinds.get(due.split(" ")[1], 0) + 1
-            all_faults += len(told.faults)
-        print(f"{done} volumes, {'as the program' if PROGRAM else 'as the model'} tells the first fault; {len(kinds)} outcomes, {all_faults} faults")
+        draw, outcomes, faults = random.Random(SEED), collections.Counter(), 0
+        while sum(outcomes.values()) < COUNT:
+            volume, right = fuzz_check.a_right_one(draw)
+            for made in (right, *(fuzz_check.some_case(draw, volume, True) for _ in range(fuzz_check.CHANGES))):
+                words = [word.replace("\0", "") for word in made.words]
+                if all(word and not word.startswith("-") for word in words):  # else it is a faulty command line
+                    due, told = self.compared(made.files, words)
+                    outcomes[" ".join(due.split(" ")[:2]) if due.startswith("refused") else due.split(" ")[0]] += 1
+                    faults += len(told.faults)
+        print(f"{sum(outcomes.values())} volumes: the first fault is {'the program' if PROGRAM else 'the model'}'s; {faults} faults in all;",
+              ", ".join(f"{what} {count}" for what, count in sorted(outcomes.items())))
+
+    def compared(self, files, words):
+        """What a check says of these files, and the report, which says the same of its first fault."""
+        shutil.rmtree(self.room)
+        os.mkdir(self.room)
+        self.put(files)
+        due, told = self.checked(words), self.reported(words)
+        self.assertEqual(told.says(), due, words)
+        return due, told
 
     def checked(self, words):
         if PROGRAM is None:

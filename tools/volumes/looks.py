@@ -131,7 +131,7 @@ def unlisted(check, columns, folder):
     for name in ("TEXTPATH", *(check.volume.columns[columns[each]] for each in (names.NATIVE,) if each in columns)):
         told |= {path for _, values, _ in check.volume.rows if (path := allowed(values.get(name) or ""))}
     told |= {each.path for each in check.volume.listed or [] if each.path}
-    there = [path for top in sorted({path.split("/")[0] for path in told if "/" in path}) for path in files_below(folder, top)]
+    there = [path for top in sorted({path.split("/")[0] for path in told if "/" in path and "\0" not in path}) for path in files_below(folder, top)]
     yield Look("files that lie there, and neither load files nor manifest name them", [path for path in there if path not in told],
                "Leave them out, or list them: nobody can tell what they are.")
     known = Counter(path.casefold() for path in there)

@@ -9,6 +9,7 @@ from .page_files import LONG, SHORT, File, read_tiff
 POINTS = {2: 72, 3: 72 / 2.54}  # of a unit; by TIFF's ResolutionUnit
 USUAL = (200, 1)  # pixels to the inch where a file doesn't say
 MARGIN, LARGEST, WIDTH = 18, 10, 0.5  # points; points of a letter; its width in its height
+NARROWEST = 0.6  # of a letter's width
 
 
 @dataclass(frozen=True)
@@ -74,7 +75,7 @@ class Pdf:
 def pdf_of(title, pages):
     """The file of these pages, each the bytes of its page file and its text."""
     pdf = Pdf()
-    tree, letters = pdf.reserve(), sorted({letter for _, text in pages for letter in text if letter >= " "})
+    tree, letters = pdf.reserve(), sorted({" ", *(letter for _, text in pages for letter in text if letter >= " ")})
     codes = {letter: number for number, letter in enumerate(letters, 1)}
     font = put_font(pdf, codes)
     kids = [put_page(pdf, tree, font, image_of(data), text, codes) for data, text in pages]
@@ -96,10 +97,10 @@ def put_page(pdf, tree, font, image, text, codes):
 
 def text_drawn(image, text, codes):
     """The lines of the text from the top of the page, in its reading order, invisible. A volume doesn't say where words stand."""
-    lines = [line for line in ("".join(letter for letter in line if letter in codes) for line in text.splitlines()) if line.strip()]
+    room = max(1, image.across - 2 * MARGIN)
+    lines = rows_of("".join(letter if letter in codes else "\n" for letter in text), room)
     if not lines:
         return b""
-    room = max(1, image.across - 2 * MARGIN)
     step = (image.down - 2 * MARGIN) / len(lines) if image.down > 4 * MARGIN else image.down / len(lines)
     size = max(0.1, min(LARGEST, step * 0.8))
     out = [f"BT 3 Tr /F {size:.3f} Tf"]
@@ -108,6 +109,19 @@ def text_drawn(image, text, codes):
         top = image.down - (MARGIN if image.down > 4 * MARGIN else 0) - (number + 0.8) * step
         out.append(f"{scale:.3f} Tz 1 0 0 1 {MARGIN} {top:.3f} Tm <{''.join(f'{codes[letter]:04x}' for letter in line)}> Tj")
     return "\n".join([*out, "ET"]).encode()
+
+
+def rows_of(text, room):
+    """The lines of a text; a long one becomes several, between its words, so that letters aren't drawn too narrow to be read."""
+    most, rows = int(room / (WIDTH * LARGEST * NARROWEST)), []
+    for line in filter(None, (line.split() for line in text.split("\n"))):
+        rows.append(line[0])
+        for word in line[1:]:
+            if len(rows[-1]) + 1 + len(word) <= most:
+                rows[-1] += f" {word}"
+            else:
+                rows.append(word)
+    return rows
 
 
 def put_font(pdf, codes):

@@ -19,7 +19,7 @@ class Files:
 
     def __init__(self, root):
         self.root, self.paths = root, []
-        for at, folders, names in os.walk(root):
+        for at, folders, names in os.walk(root) if "\0" not in root else ():
             folders.sort()
             self.paths += [os.path.relpath(os.path.join(at, name), root) for name in sorted(names)]
         self.known = set(self.paths)

@@ -22,4 +22,4 @@ check:
 
 # of that the programs for offices, and what installs and packs
 check-tools:
-	tools/tests/all.py manual install report batch
+	tools/tests/all.py manual install report batch take faults forms fetch

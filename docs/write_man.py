@@ -11,7 +11,8 @@ import sys
 TOP = os.path.dirname(os.path.dirname(os.path.abspath(__file__)))
 DATE = "2026-11-28"
 COMMANDS = "burn init import serve deliver produce press log claw check demo help".split()
-PROGRAMS = {"tivrenan-make-batch": "make_batch", "tivrenan-matter-report": "matter_report"}
+SCRIPTS = "make_batch matter_report take_volume check_report volume_as fetch_volume".split()
+PROGRAMS = {f"tivrenan-{script.replace('_', '-')}": script for script in SCRIPTS}
 
 
 def said(*words):
@@ -95,7 +96,8 @@ def launcher_page():
               plain("tivrenan import CVI_001"), plain("tivrenan serve 1 1000"),
               plain("tivrenan produce R-1 VOL001 ABC 8 1 12 AUTHOR"), plain("tivrenan claw R-1 VOL002 notice.csv"),
               plain("cd out && tivrenan check VOL001/DATA/VOL001.DAT VOL001/DATA/VOL001.OPT VOL001/MANIFEST.TXT"), ".fi"]
-    return lines + [".SH SEE ALSO", ".BR tivrenan\\-make\\-batch (1),", ".BR tivrenan\\-matter\\-report (1)", ".PP",
+    others = [f".BR {plain(name)} (1)," for name in PROGRAMS]
+    return lines + [".SH SEE ALSO", *others[:-1], others[-1].rstrip(","), ".PP",
                     plain("An office's guide stands in share/doc/tivrenan/GUIDE.md below the folder that bin stands in.")]
 
 

@@ -25,4 +25,22 @@ _tivrenan() {
     mapfile -t COMPREPLY < <(compgen -W "$words" -- "$word")
 }
 
+# the programs for offices: options by their --help, forms of volume-as, else files
+_tivrenan_program() {
+    local word=${COMP_WORDS[COMP_CWORD]} words=
+    COMPREPLY=()
+    case $1,$COMP_CWORD,$word in
+        *,-*) words=$("$1" --help 2> /dev/null | grep -o -E -- '--[a-z-]+' | sort -u) ;;
+        *volume-as,[12],*) ;;
+        *volume-as,*) words='dat csv lfp pdf log' ;;
+    esac
+    if [ -n "$words" ]; then
+        mapfile -t COMPREPLY < <(compgen -W "$words" -- "$word")
+    else
+        mapfile -t COMPREPLY < <(compgen -f -- "$word") && compopt -o filenames
+    fi
+}
+
 complete -F _tivrenan tivrenan
+complete -F _tivrenan_program tivrenan-make-batch tivrenan-matter-report tivrenan-take-volume tivrenan-check-report \
+    tivrenan-volume-as tivrenan-fetch-volume

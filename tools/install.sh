@@ -1,7 +1,7 @@
 #!/bin/sh
 # Puts the built program and all that goes with it below a folder, where Debian's conventions want them. Words: PREFIX, as
 # /usr/local. DESTDIR in the environment goes before it, for those who make packages. PREFIX holds then
-#   bin/tivrenan                     the launcher, with bin/tivrenan-make-batch and bin/tivrenan-matter-report
+#   bin/tivrenan                     the launcher, and beside it bin/tivrenan-make-batch and the other programs for offices
 #   lib/tivrenan/bp_main             the program
 #   share/tivrenan/                  what these read: the page of statuses, the programs in Python, the review page
 #   share/doc/tivrenan/              README, guide, formats, license, and examples/ with the letter, the batch and pictures
@@ -35,10 +35,12 @@ program crates/bp_main/out/bp_main lib/tivrenan/bp_main
 
 file docs/STATUSES.md share/tivrenan/STATUSES.md
 file README.md share/tivrenan/README.md
-for each in make_batch matter_report; do program "tools/$each" "share/tivrenan/tools/$each"; done
-for each in batch report; do folder "tools/$each" "share/tivrenan/tools/$each"; done
-ln -sf ../share/tivrenan/tools/make_batch "$into/bin/tivrenan-make-batch"
-ln -sf ../share/tivrenan/tools/matter_report "$into/bin/tivrenan-matter-report"
+programs='make_batch matter_report take_volume check_report volume_as fetch_volume'
+for each in $programs; do
+    program "tools/$each" "share/tivrenan/tools/$each"
+    ln -sf "../share/tivrenan/tools/$each" "$into/bin/tivrenan-$(echo "$each" | tr _ -)"
+done
+for each in batch report volumes; do folder "tools/$each" "share/tivrenan/tools/$each"; done
 [ ! -d "$top/desk_page" ] || folder desk_page share/tivrenan/desk_page
 
 doc=share/doc/tivrenan
@@ -57,5 +59,6 @@ for page in "$top"/man/*.1; do
     gzip -9 -n -f "$into/share/man/man1/${page##*/}"
 done
 file tools/completion.bash share/bash-completion/completions/tivrenan
+for each in $programs; do ln -sf tivrenan "$into/share/bash-completion/completions/tivrenan-$(echo "$each" | tr _ -)"; done
 
 echo "tivrenan is installed below $into"

@@ -190,6 +190,14 @@ check 'the report runs' is "$(cat "$room/said")" \
     'tivrenan-matter-report: matter.db: there is no such file; tivrenan keeps a matter in matter.db of its folder'
 status_of "$room/usr/bin/tivrenan-make-batch" "$room/none" "$room/B"
 check 'make_batch runs' holds 'none: there is no such folder' "$room/said"
+status_of "$room/usr/bin/tivrenan-take-volume" "$room/none" "$room/B"
+check 'take_volume runs' holds 'none: there is no such folder' "$room/said"
+status_of "$room/usr/bin/tivrenan-volume-as" "$room/none" "$room/B" pdf
+check 'volume_as runs' holds 'none: there is no such folder' "$room/said"
+status_of "$room/usr/bin/tivrenan-check-report" none.dat none.opt
+check 'check_report runs' holds 'tivrenan check: refused 54 FileAbsent 0 0 0' "$room/said"
+status_of "$room/usr/bin/tivrenan-fetch-volume" ftp://nobody
+check 'fetch_volume runs' holds 'URL begins with https' "$room/said"
 cat > "$room/links.py" << 'END'
 import os, re, sys
 for name in ("README.md", "GUIDE.md"):
@@ -224,8 +232,11 @@ words tivrenan i
 words tivrenan import V
 words tivrenan burn a 0 0 8 1 b p
 words tivrenan help st
+COMP_WORDS=(tivrenan-volume-as VOL_1 OUT p) COMP_CWORD=3
+_tivrenan_program tivrenan-volume-as
+echo "\${COMPREPLY[*]}"
 END
-check 'words are completed' is "$(bash "$room/complete.bash" | tr '\n' ';')" 'init import;VOL_1;plain;statuses;'
+check 'words are completed' is "$(bash "$room/complete.bash" | tr '\n' ';')" 'init import;VOL_1;plain;statuses;pdf;'
 commands=$(sed -n "s/^commands='\(.*\)'$/\1/p" "$top/tivrenan")
 check 'all commands are completed' is "$(sed -n "s/^ *1,[*]) words='\(.*\)' ;;/\1/p" "$top/tools/completion.bash")" "$commands help version build"
 rm -r VOL_1

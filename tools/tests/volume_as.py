@@ -123,7 +123,7 @@ class Out(unittest.TestCase):
                 pdf = file.read()
             self.assertEqual(alone & set(re.findall(r"\w+", f"{told} {drawn(pdf)}")), set())
             read = b"\n".join([pdf, *streams(pdf), sh(["qpdf", "--qdf", "--object-streams=disable", path, "-"])])
-            for word in alone:
+            for word in filter(str.isalpha, alone):  # digits stand in a PDF of themselves
                 letters = word.encode("utf-16-be")
                 self.assertIsNone(re.search(rb"(?<![A-Za-z])" + re.escape(word.encode()) + rb"(?![A-Za-z])", read), word)
                 self.assertNotIn(letters, read)

@@ -198,7 +198,7 @@ def fields_of(vendor):
     for at in places:
         told = vendor.table.columns[at]
         short = re.sub(r"[\x00-\x1f\u00fe\u00ae]", " ", told).encode()[: LONGEST_COLUMN - 6].decode(errors="ignore").strip()
-        name = once(short or "COLUMN", taken)
+        name = once(f"THEIR {short}" if short.upper() in OURS else short or "COLUMN", taken)
         if name != told:
             vendor.changes.say(vendor.dat, f"the column {told} became the field {name}")
         names.append(name)

@@ -194,7 +194,7 @@ export class Boxes {
   // ---- the pointer
 
   press(event) {
-    if (event.button !== 0 || this.review.image?.rows === undefined || !this.review.isShown) return
+    if (event.button !== 0 || this.review.image?.rows === undefined || !this.review.isShown || !this.paper.isWhole()) return
     this.paper.over.setPointerCapture(event.pointerId)
     const from = this.paper.placeOf(event)
     const { corner, num } = event.target.dataset

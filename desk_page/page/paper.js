@@ -138,6 +138,11 @@ export class Paper {
     this.kept = null
   }
 
+  // whether the page stands as it is to stand
+  isWhole() {
+    return this.ink.dataset.state === 'whole'
+  }
+
   // the next larger or smaller size
   step(by) {
     const now = this.scale * window.devicePixelRatio

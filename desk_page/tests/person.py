@@ -64,6 +64,15 @@ class Person(Chromium):
         self.key("c")
         self.until("document.getElementById('ask').open")
 
+    def key(self, key, modifiers=0):
+        super().key(key, modifiers)
+        if key in ("0", "+", "-", "v"):
+            self.whole()
+
+    def whole(self):
+        """Waits until the page stands at its size, which a worker makes."""
+        self.until("document.getElementById('ink').dataset.state !== 'changes'")
+
     def text(self, name):
         return self.js(f"document.getElementById({name!r}).textContent")
 
@@ -110,7 +119,7 @@ class Person(Chromium):
     def size(self, value):
         self.js(f"(() => {{ const it = document.getElementById('size'); it.value = {value!r};"
                 " it.dispatchEvent(new Event('change')) })()")
-        self.until("document.getElementById('ink').dataset.state === 'whole'")
+        self.whole()
 
     def at(self, x, y, sides=(2550, 3300)):
         """Where a pixel of the page stands in the window."""
@@ -190,7 +199,7 @@ CANVAS = """(async () => {
 
 def canvas_is(what, person, number, page):
     """The canvas has the scan's pixels, as many of them in a cell as the size says."""
-    person.until("document.getElementById('ink').dataset.state === 'whole'")
+    person.whole()
     across, down, is_grey, digest = person.js(CANVAS)
     due = hashlib.sha256(grey_of(*scan(number, page), across, down)).hexdigest()
     check(f"{what}, {across} by {down} cells", is_grey and digest == due, digest)

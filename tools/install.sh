@@ -44,7 +44,7 @@ for each in batch report volumes; do folder "tools/$each" "share/tivrenan/tools/
 [ ! -d "$top/desk_page" ] || folder desk_page share/tivrenan/desk_page
 
 doc=share/doc/tivrenan
-for each in README.md docs/STATUSES.md docs/FORMATS.md docs/PROMISES.md docs/GUIDE.md; do
+for each in README.md docs/STATUSES.md docs/FORMATS.md docs/PROMISES.md docs/GUIDE.md docs/REVIEWER.md; do
     [ ! -e "$top/$each" ] || file "$each" "$doc/${each##*/}"
 done
 # their pictures, where they stand here

@@ -1,6 +1,7 @@
 // Boxes on the open page: drawn and moved by the mouse or by keys, each with its basis. What is drawn here is a draft until
 // the desk has it; then what the desk tells is drawn.
 import { rectangle, shape } from './paper.js'
+import { Changed } from './review.js'
 import { between, cornersOf, moved, opposite, sameRectangle, sized, touches } from './rectangles.js'
 
 // A box of fewer pixels a side was a click.
@@ -115,7 +116,7 @@ export class Boxes {
   // ---- the draft
 
   edit(box, isNew = false) {
-    this.draft = { ...box, isNew }
+    this.draft = { ...box, isNew, doc: this.review.doc.doc }
     this.basis.value = box.basis
     this.draw()
   }
@@ -144,8 +145,21 @@ export class Boxes {
     const { draft } = this
     if (draft === null) return null
     const { num, page, left, top, width, height, basis } = draft
-    await this.review.edit('box', { num, page, left, top, width, height, basis })
+    try {
+      await this.review.edit('box', { num, page, left, top, width, height, basis })
+    } catch (why) {
+      if (why instanceof Changed) this.keep(draft, why)
+      throw why
+    }
     return `Box ${num} stands.`
+  }
+
+  // a box that wasn't put, as the document was changed meanwhile, stands as a draft until it is put again
+  keep(draft, why) {
+    if (this.review.doc.doc !== draft.doc) return
+    const isTaken = draft.isNew && this.review.doc.boxes.some((box) => box.num === draft.num)
+    this.edit({ ...draft, num: isTaken ? this.freeNumber() : draft.num }, draft.isNew)
+    why.message += ' Enter puts the box.'
   }
 
   async drop(num) {
@@ -180,7 +194,7 @@ export class Boxes {
   // ---- the pointer
 
   press(event) {
-    if (event.button !== 0 || this.review.image?.rows === undefined || !this.review.isShown) return
+    if (event.button !== 0 || this.review.image?.rows === undefined || !this.review.isShown || !this.paper.isWhole()) return
     this.paper.over.setPointerCapture(event.pointerId)
     const from = this.paper.placeOf(event)
     const { corner, num } = event.target.dataset
@@ -228,7 +242,7 @@ export class Boxes {
     try {
       return await this.put()
     } catch (why) {
-      this.cancel()
+      if (!(why instanceof Changed)) this.cancel()
       throw why
     }
   }
@@ -258,7 +272,8 @@ export class Boxes {
   // Moves or sizes the draft; whether there was one.
   nudge(right, down, isSize) {
     if (this.draft === null) return false
-    this.change((isSize ? sized : moved)(this.draft, right, down, this.review.image))
+    const by = this.paper.alongPage(right, down, isSize)
+    this.change((isSize ? sized : moved)(this.draft, by.x, by.y, this.review.image))
     this.paper.reveal(this.draft)
     return true
   }

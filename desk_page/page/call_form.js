@@ -1,7 +1,7 @@
 // The form of a call: whether the document is responsive, its treatment, its designation. A new call has no answer chosen
 // beforehand: each is a decision.
 import { keepCapitals } from './capitals.js'
-import { NotNow } from './review.js'
+import { Changed, NotNow } from './review.js'
 
 export class CallForm {
   constructor(review, { form, known, act }) {
@@ -55,9 +55,16 @@ export class CallForm {
     const { responsive, treatment, designation } = this.form.elements
     if (responsive.value === '') throw new NotNow('Say first whether it is responsive: Y or N.')
     if (treatment.value === '') throw new NotNow('Choose a treatment: P, R, A or W.')
-    await this.review.edit('call', {
+    const call = {
       responsive: responsive.value === 'yes', treatment: treatment.value, designation: designation.value.trim(),
-    })
+    }
+    try {
+      await this.review.edit('call', call)
+    } catch (why) {
+      // it stands otherwise than it was shown: the form shows how
+      if (why instanceof Changed) this.fill(this.review.doc)
+      throw why
+    }
     return 'The call stands.'
   }
 

@@ -1,19 +1,26 @@
 // What is pressed, by the mouse or by keys, and what it does.
 import { Keys, listKeys } from './keys.js'
-import { act, asItStands, behind, the } from './messages.js'
+import { act, asItStands, behind, say, the } from './messages.js'
+import { forgetLink, placeIn } from './place.js'
 import { NotNow } from './review.js'
 import { progressOf } from './states.js'
+import { stopWalk, walk } from './walk.js'
 
-export function listen({ review, paper, boxes, documents, call, held, second }) {
+export function listen({ review, paper, boxes, documents, listing, call, held, second, many, last, place }) {
   const on = (id, work) => the(id).addEventListener('click', act(work))
   const turn = (by) => review.turn(review.page + by)
-  const step = (by) => review.open(review.doc.doc + by)
+  const step = (by) => review.step(listing.next(review.doc.doc, by))
   on('page_before', () => turn(-1))
   on('page_after', () => turn(1))
   on('larger', () => paper.step(1))
   on('smaller', () => paper.step(-1))
   on('new_box', () => boxes.startByKeys())
-  on('leave', () => window.location.reload())
+  on('turn', () => paper.turn())
+  on('mark', () => many.toggleMark())
+  on('take_back', () => last.takeBack())
+  on('show_many', () => many.open())
+  on('look_at_all', () => listing.lookAtAll(say))
+  on('leave', () => leave())
   on('show_keys', () => showKeys())
   on('close_keys', () => the('keys').close())
   on('look', () => lookAgain(review))
@@ -21,6 +28,7 @@ export function listen({ review, paper, boxes, documents, call, held, second }) 
     event.preventDefault()
     return openByNumber(review)
   }))
+  window.addEventListener('hashchange', act(() => follow(review, place)))
   window.addEventListener('beforeunload', (event) => {
     if (review.unsent().length > 0) event.preventDefault()
   })
@@ -28,6 +36,11 @@ export function listen({ review, paper, boxes, documents, call, held, second }) 
     j: () => step(1),
     k: () => step(-1),
     u: () => openUnsettled(review),
+    f: () => the('filter').focus(),
+    m: () => many.toggleMark(),
+    x: () => many.open(),
+    z: () => last.takeBack(),
+    v: () => paper.turn(),
     o: () => focusOn(the('go').elements.number),
     l: () => lookAgain(review),
     ArrowRight: () => turn(1),
@@ -59,7 +72,7 @@ export function listen({ review, paper, boxes, documents, call, held, second }) 
     Enter: () => boxes.put(),
     Delete: () => boxes.dropChosen(),
     Backspace: () => boxes.dropChosen(),
-    Escape: () => boxes.cancel(),
+    Escape: () => { if (!stopWalk()) boxes.cancel() },
     c: () => second.askConfirm(),
     s: () => second.askBack(),
     '?': () => showKeys(),
@@ -99,13 +112,36 @@ async function openByNumber(review) {
 // The next document that isn't settled, as far as is known; what isn't known yet is looked at.
 async function openUnsettled(review) {
   const from = review.doc.doc
-  for (let by = 1; by < review.count; by += 1) {
-    const number = ((from - 1 + by) % review.count) + 1
-    const doc = review.rows.get(number) ?? (await review.lookAt(number))
-    if (review.doc.doc !== from) return null
-    if (progressOf(doc) !== 'settled') return review.open(number)
-  }
+  const others = review.count - 1
+  let found
+  const { done, isStopped } = await walk(others, async (k) => {
+    const number = ((from + k) % review.count) + 1
+    const doc = review.rows.get(number) ?? (await review.lookAt(number, true))
+    if (review.doc.doc !== from) return false
+    if (progressOf(doc) === 'settled') return true
+    found = number
+    return false
+  }, (k) => say(`Looking for one that isn’t settled: ${k.toLocaleString('en')} of ${others.toLocaleString('en')} documents. Escape stops.`))
+  if (review.doc.doc !== from) return null
+  if (found !== undefined) return review.open(found)
+  if (isStopped) return `Stopped: the ${done.toLocaleString('en')} documents after ${from} are settled.`
   return 'Every other document is settled.'
+}
+
+// a link that was followed while the page stands
+async function follow(review, place) {
+  const wanted = placeIn(window.location.hash)
+  try {
+    if (wanted === null || wanted.number > review.count) throw new NotNow('The address names no document of this matter.')
+    await review.open(wanted.number, wanted.page)
+  } finally {
+    place.keepLink(review.doc.doc, review.page)
+  }
+}
+
+export function leave() {
+  forgetLink()
+  window.location.reload()
 }
 
 // most of a screen on, and at the end of the page to the next one

@@ -1,5 +1,6 @@
 // Requests to the desks. Each answer takes a place of the desks' journal, a look too, so that nothing is asked twice
-// without need. They go one at a time: a desk serves one exchange after another.
+// without need. They go one at a time, as a desk serves one exchange after another; what was pressed for goes before what
+// the page asks for by itself.
 import { inWords, withoutDesk } from './refusals.js'
 
 // The desk refused: `rule` is its name, `a` the value that it names.
@@ -15,6 +16,7 @@ export class Refused extends Error {
 export class NoAnswer extends Error {}
 
 const DESKS = '/desk'
+const FILES = ['image/tiff', 'application/octet-stream']
 
 // What a key may be made of: a field of HTTP carries these as they are, and blanks around them are dropped.
 export const isKey = (text) => /^[!-~]([ -~]*[!-~])?$/.test(text)
@@ -22,38 +24,63 @@ export const isKey = (text) => /^[!-~]([ -~]*[!-~])?$/.test(text)
 export class Desk {
   // the key stands here and nowhere else
   #key
-  #last = Promise.resolve()
+  #waiting = [] // what was pressed for comes first
+  #isBusy = false
 
   constructor(key) {
     this.#key = key
   }
 
-  // the answer to a look: JSON, or the bytes of a page file
-  see(path) {
-    return this.#inTurn(() => this.#exchange(path, { method: 'GET' }))
+  // The answer to a look: JSON, or the bytes of a file. `isBehind`: nobody pressed for it.
+  see(path, isBehind = false) {
+    return this.#inTurn(path, isBehind, () => this.#exchange(path, { method: 'GET' }))
   }
 
   // `unknown` is what to say where no desk answered; a call on a document has it said by what keeps it in mind
   make(path, members, unknown = '') {
     const request = { method: 'POST', body: JSON.stringify(members) }
-    return this.#inTurn(() => this.#exchange(path, request)).catch((why) => {
+    return this.#inTurn(path, false, () => this.#exchange(path, request)).catch((why) => {
       if (why instanceof NoAnswer) why.message = `${why.message} ${unknown}`.trim()
       throw why
     })
   }
 
-  #inTurn(work) {
-    const answer = this.#last.then(work)
-    this.#last = answer.catch(() => {})
-    return answer
+  // what was asked for behind is pressed for now
+  hurry(path) {
+    const at = this.#waiting.findIndex((it) => it.path === path && it.isBehind)
+    if (at < 0) return
+    const [it] = this.#waiting.splice(at, 1)
+    this.#put({ ...it, isBehind: false })
+  }
+
+  #inTurn(path, isBehind, work) {
+    return new Promise((resolve, reject) => {
+      this.#put({ path, isBehind, work, resolve, reject })
+      this.#goOn()
+    })
+  }
+
+  #put(it) {
+    const at = it.isBehind ? -1 : this.#waiting.findIndex(({ isBehind }) => isBehind)
+    this.#waiting.splice(at < 0 ? this.#waiting.length : at, 0, it)
+  }
+
+  async #goOn() {
+    if (this.#isBusy) return
+    this.#isBusy = true
+    while (this.#waiting.length > 0) {
+      const { work, resolve, reject } = this.#waiting.shift()
+      await work().then(resolve, reject)
+    }
+    this.#isBusy = false
   }
 
   async #exchange(path, request) {
     const answer = await this.#fetch(path, request)
     const kind = answer.headers.get('Content-Type') ?? ''
-    if (answer.ok && kind === 'image/tiff') return new Uint8Array(await answer.arrayBuffer())
+    if (answer.ok && FILES.includes(kind)) return new Uint8Array(await whole(answer))
     if (kind !== 'application/json') throw new NoAnswer(withoutDesk(answer.status))
-    const told = await answer.json()
+    const told = JSON.parse(new TextDecoder().decode(await whole(answer)))
     if (!answer.ok) throw new Refused(told)
     return told
   }
@@ -65,5 +92,14 @@ export class Desk {
     } catch {
       throw new NoAnswer('The connection failed.')
     }
+  }
+}
+
+// an answer that is cut off is none
+async function whole(answer) {
+  try {
+    return await answer.arrayBuffer()
+  } catch {
+    throw new NoAnswer('The connection failed.')
   }
 }

@@ -7,46 +7,61 @@ const REST = 150 // milliseconds
 const SPARE = 3 // rows beyond each edge
 
 export class Documents {
-  constructor(review, { list, tall, count, act, behind }) {
-    Object.assign(this, { review, list, tall, count, behind })
+  constructor(review, listing, { list, tall, count, filter, untold, act, behind }) {
+    Object.assign(this, { review, listing, list, tall, count, untold, behind })
     this.drawn = new Map()
     this.isAsking = false
     list.addEventListener('scroll', () => this.draw())
     new ResizeObserver(() => this.draw()).observe(list)
     tall.addEventListener('click', act((event) => this.press(event)))
+    filter.addEventListener('change', () => listing.choose(filter.value))
+    listing.addEventListener('change', () => this.begin())
     review.addEventListener('row', ({ detail }) => this.redraw(detail.doc))
+    review.addEventListener('marked', ({ detail }) => this.redraw(detail))
     review.addEventListener('doc', ({ detail }) => this.mark(detail.doc))
   }
 
+  // the list from anew: another filter, or documents that came or went
   begin() {
-    const { count } = this.review
-    this.tall.style.height = `${count * ROW}em`
-    this.count.textContent = count === 1 ? '1 document' : `${count.toLocaleString('en')} documents`
+    for (const row of this.drawn.values()) row.remove()
+    this.drawn.clear()
+    this.tall.style.height = `${this.listing.count * ROW}em`
+    this.tell()
     this.draw()
   }
 
-  rowHeight() {
-    return this.tall.clientHeight / Math.max(this.review.count, 1)
+  tell() {
+    const { listing } = this
+    const all = this.review.count === 1 ? '1 document' : `${this.review.count.toLocaleString('en')} documents`
+    this.count.textContent = listing.filter === 'all' ? all : `${listing.count.toLocaleString('en')} of ${all}`
+    this.untold.hidden = listing.filter === 'all' || listing.untold === 0
+    this.untold.textContent = `Look at ${listing.untold.toLocaleString('en')} more`
   }
 
+  rowHeight() {
+    return this.tall.clientHeight / Math.max(this.listing.count, 1)
+  }
+
+  // places of the list, from 1
   inSight() {
-    const height = this.rowHeight()
+    const height = Math.max(this.rowHeight(), 1)
     const first = Math.floor(this.list.scrollTop / height)
     const last = Math.ceil((this.list.scrollTop + this.list.clientHeight) / height)
-    return { first: first + 1, last: Math.min(last, this.review.count) }
+    return { first: first + 1, last: Math.min(last, this.listing.count) }
   }
 
   draw() {
-    if (this.list.clientHeight === 0 || this.review.count === 0) return
+    if (this.list.clientHeight === 0) return
     const { first, last } = this.inSight()
     const from = Math.max(1, first - SPARE)
-    const to = Math.min(this.review.count, last + SPARE)
+    const to = Math.min(this.listing.count, last + SPARE)
     for (const [number, row] of this.drawn) {
-      if (number >= from && number <= to) continue
+      const place = this.listing.placeOf(number)
+      if (place >= from && place <= to) continue
       row.remove()
       this.drawn.delete(number)
     }
-    for (let number = from; number <= to; number += 1) if (!this.drawn.has(number)) this.addRow(number)
+    for (let place = from; place <= to; place += 1) if (!this.drawn.has(this.listing.at(place))) this.addRow(place)
     this.askSoon()
   }
 
@@ -55,14 +70,15 @@ export class Documents {
     this.resting = setTimeout(this.behind(() => this.ask()), REST)
   }
 
-  addRow(number) {
+  addRow(place) {
+    const number = this.listing.at(place)
     const row = document.createElement('div')
     row.id = `document_${number}`
     row.dataset.number = number
     row.setAttribute('role', 'option')
-    row.setAttribute('aria-setsize', this.review.count)
-    row.setAttribute('aria-posinset', number)
-    row.style.top = `${(number - 1) * ROW}em`
+    row.setAttribute('aria-setsize', this.listing.count)
+    row.setAttribute('aria-posinset', place)
+    row.style.top = `${(place - 1) * ROW}em`
     this.drawn.set(number, row)
     this.fill(row, number)
     // in their order, for those who read the list by ear
@@ -80,7 +96,7 @@ export class Documents {
     const pages = doc === undefined ? '' : ` · ${doc.pages === 1 ? '1 page' : `${doc.pages} pages`}`
     row.replaceChildren(
       piece('sign', sign),
-      piece('number', String(number)),
+      piece('number', `${number}${this.review.marked.has(number) ? ' ✓ marked' : ''}`),
       piece('pages', pages + (isMember ? ` · with ${doc.parent}` : '')),
       piece('state', text),
     )
@@ -90,6 +106,7 @@ export class Documents {
   redraw(number) {
     const row = this.drawn.get(number)
     if (row !== undefined) this.fill(row, number)
+    if (!this.untold.hidden) this.tell()
   }
 
   // the open document is marked, and comes into sight
@@ -97,23 +114,24 @@ export class Documents {
     const before = this.marked
     this.marked = number
     if (before !== undefined) this.redraw(before)
-    const height = this.rowHeight()
-    const top = (number - 1) * height
-    const { scrollTop, clientHeight } = this.list
-    if (top < scrollTop) this.list.scrollTop = top - height
-    else if (top + height > scrollTop + clientHeight) this.list.scrollTop = top + 2 * height - clientHeight
+    const place = this.listing.placeOf(number)
+    if (place !== undefined) this.bringIntoSight(place)
     this.redraw(number)
     this.list.setAttribute('aria-activedescendant', `document_${number}`)
     this.askSoon() // what failed before: a desk answers now
   }
 
-  press(event) {
-    const row = event.target.closest('[role=option]')
-    return row === null ? null : this.open(Number(row.dataset.number))
+  bringIntoSight(place) {
+    const height = this.rowHeight()
+    const top = (place - 1) * height
+    const { scrollTop, clientHeight } = this.list
+    if (top < scrollTop) this.list.scrollTop = top - height
+    else if (top + height > scrollTop + clientHeight) this.list.scrollTop = top + 2 * height - clientHeight
   }
 
-  open(number) {
-    return this.review.open(number)
+  press(event) {
+    const row = event.target.closest('[role=option]')
+    return row === null ? null : this.review.open(Number(row.dataset.number))
   }
 
   // Asks for the rows in sight that weren't told yet, one after another, so that what is pressed needn't wait for all.
@@ -131,7 +149,7 @@ export class Documents {
   // why it failed may be said nowhere, so the row tells that it did
   async lookAt(number) {
     try {
-      await this.review.lookAt(number)
+      await this.review.lookAt(number, true)
     } catch (why) {
       const row = this.drawn.get(number)
       if (row !== undefined) row.querySelector('.state').textContent = 'no answer'
@@ -141,7 +159,10 @@ export class Documents {
 
   nextUntold() {
     const { first, last } = this.inSight()
-    for (let number = first; number <= last; number += 1) if (!this.review.rows.has(number)) return number
+    for (let place = first; place <= last; place += 1) {
+      const number = this.listing.at(place)
+      if (!this.review.rows.has(number)) return number
+    }
     return undefined
   }
 }

@@ -17,7 +17,7 @@ export class Family {
     for (let asked = 0; asked < MOST_ASKED && number <= this.review.count; number += 1) {
       const known = this.review.rows.get(number)
       if (known === undefined) asked += 1
-      const member = known ?? (await this.review.lookAt(number))
+      const member = known ?? (await this.review.lookAt(number, true))
       if (this.review.doc?.doc !== doc.doc || member.parent !== doc.parent) break
     }
     return null

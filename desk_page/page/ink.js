@@ -32,19 +32,27 @@ function countBlack({ width, height, rows }, across, down) {
   return count
 }
 
-// The image of a page for a canvas of so many cells.
-export function greyImage(page, across, down) {
+// A byte of grey for each cell of a canvas of so many.
+export function greyBytes(page, across, down) {
   const count = countBlack(page, across, down)
   const columns = cellsOf(page.width, across).size
   const lines = cellsOf(page.height, down).size
-  const image = new ImageData(across, down)
-  const out = new Uint32Array(image.data.buffer)
+  const grey = new Uint8Array(across * down)
   let k = 0
   for (let line = 0; line < down; line += 1) {
     for (let column = 0; column < across; column += 1, k += 1) {
-      const grey = 255 - Math.round((255 * count[k]) / (columns[column] * lines[line]))
-      out[k] = grey * 0x010101 + 0xff000000
+      grey[k] = 255 - Math.round((255 * count[k]) / (columns[column] * lines[line]))
     }
   }
+  return grey
+}
+
+const SHADES = Uint32Array.from({ length: 256 }, (_, grey) => grey * 0x010101 + 0xff000000)
+
+// what a canvas takes of such bytes
+export function imageOf(grey, across, down) {
+  const image = new ImageData(across, down)
+  const out = new Uint32Array(image.data.buffer)
+  for (let k = 0; k < out.length; k += 1) out[k] = SHADES[grey[k]]
   return image
 }

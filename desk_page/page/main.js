@@ -1,36 +1,56 @@
-// The review page: it asks for a key, and puts the panels together. It keeps nothing: the key and all that was told are in
-// the memory of this page alone, and are gone with it.
+// The page: it asks for a key, and puts the panels together. The key and all that was told are in the memory of this page
+// alone, and are gone with it; where somebody was, is kept for the life of the tab.
+import { Ahead } from './ahead.js'
 import { Boxes } from './boxes.js'
 import { CallForm } from './call_form.js'
-import { listen } from './controls.js'
+import { leave, listen } from './controls.js'
+import { Decoder } from './decoder.js'
 import { Desk, isKey } from './desk.js'
 import { Documents } from './documents.js'
 import { EntryForm } from './entry_form.js'
 import { Family } from './family.js'
+import { Greys } from './greys.js'
 import { HeldFields } from './held_fields.js'
+import { LastCall } from './last_call.js'
+import { Listing } from './listing.js'
+import { Many } from './many.js'
 import { act, behind, keepUnsure, reasonOf, say, the } from './messages.js'
+import { Pages } from './pages.js'
 import { Paper } from './paper.js'
 import { People } from './people.js'
+import { Place } from './place.js'
 import { Productions } from './productions.js'
+import { Receiver } from './receiver.js'
 import { NotNow, Review } from './review.js'
 import { SecondReview } from './second_review.js'
 import { inFull, lacksOf, progressOf, signOf } from './states.js'
 
 // ---- the panels
 
-function build(review) {
-  const paper = new Paper(review, {
-    sheet: the('sheet'), paper: the('paper'), ink: the('ink'), over: the('over'), size: the('size'),
+const decoder = new Decoder()
+
+function build(review, place) {
+  const paper = new Paper(review, new Greys(decoder), {
+    sheet: the('sheet'), paper: the('paper'), turned: the('turned'), ink: the('ink'), over: the('over'), size: the('size'),
   })
+  review.prepare = (image, doc, page) => paper.prepare(image, doc, page)
   const boxes = new Boxes(review, paper, { list: the('boxes'), basis: the('basis'), showWords: the('show_words'), act })
-  const documents = new Documents(review, { list: the('documents'), tall: the('tall'), count: the('count'), act, behind })
+  const listing = new Listing(review)
+  const documents = new Documents(review, listing, {
+    list: the('documents'), tall: the('tall'), count: the('count'), filter: the('filter'), untold: the('look_at_all'), act, behind,
+  })
   const call = new CallForm(review, { form: the('call'), known: the('designations'), act })
   const held = new HeldFields(review, { form: the('hold'), list: the('held'), known: the('field_names'), act })
   const entry = new EntryForm(review, { form: the('entry'), act })
   const second = new SecondReview(review, {
     dialog: the('ask'), summary: the('asked'), yes: the('yes'), no: the('no'),
-    confirm: the('confirm'), back: the('back'), act,
+    confirm: the('confirm'), back: the('back'), heldInWords: (doc) => held.inWords(doc), act,
   })
+  const many = new Many(review, {
+    dialog: the('many'), form: the('calls'), family: the('of_family'), marked: the('of_marked'), told: the('many_told'),
+    refused: the('many_refused'), stop: the('stop_many'), close: the('close_many'), act,
+  })
+  const last = new LastCall(review)
   new Family(review, { place: the('family'), act, behind })
   new People(review.desk, {
     dialog: the('people'), form: the('person'), handed: the('handed'), newKey: the('new_key'), show: the('show_people'),
@@ -39,10 +59,11 @@ function build(review) {
   new Productions(review, {
     dialog: the('productions'), form: the('freeze'), find: the('find'), told: the('frozen'), items: the('items'),
     fields: the('chosen_fields'), show: the('show_productions'), close: the('close_productions'),
-    names: () => held.names, act,
+    known: the('known_productions'), names: () => held.offered, act,
   })
   review.addEventListener('doc', ({ detail }) => showHead(detail))
   review.addEventListener('unsure', ({ detail }) => keepUnsure(detail))
+  review.addEventListener('aged', behind(() => review.refresh()))
   review.addEventListener('page', act(({ detail }) => showPlace(review, detail)))
   review.unsent = () => [
     ...(call.isUnsent() ? ['the call'] : []),
@@ -50,7 +71,16 @@ function build(review) {
     ...(held.isUnsent() ? ['a held field'] : []),
     ...(entry.isUnsent() ? ['the log entry'] : []),
   ]
-  return { review, paper, boxes, documents, call, held, second }
+  review.addEventListener('page', () => place.keepLink(review.doc.doc, review.page))
+  keepFilter(listing, place)
+  new Ahead(review, (number, by) => listing.next(number, by))
+  return { review, paper, boxes, documents, listing, call, held, second, many, last, place }
+}
+
+function keepFilter(listing, place) {
+  listing.choose(place.kept.filter ?? 'all')
+  the('filter').value = listing.filter
+  the('filter').addEventListener('change', () => place.keep({ filter: listing.filter }))
 }
 
 function showHead(doc) {
@@ -77,15 +107,38 @@ async function showPlace(review, image) {
 
 async function enter(key) {
   if (!isKey(key)) throw new NotNow('A key has letters, digits and signs of a plain keyboard alone.')
-  const review = new Review(new Desk(key))
+  const desk = new Desk(key)
+  const review = new Review(desk, new Pages(desk, decoder))
   // the panels are put together once, when a desk has taken the key
-  await review.countDocuments()
+  try {
+    await review.countDocuments()
+  } catch (why) {
+    if (why.rule !== 'RoleRefused') throw why
+    return enterAsReceiver(desk)
+  }
+  const place = await Place.of(key)
+  const { number, page } = place.begin()
   the('enter').hidden = true
   the('room').hidden = false
-  listen(build(review))
+  listen(build(review, place))
   if (review.count === 0) throw new NotNow('The matter has no documents yet.')
-  await review.open(1)
+  await review.open(Math.min(number, review.count), page)
   the('sheet').focus()
+  return null
+}
+
+// no look is answered to a receiver alone
+function enterAsReceiver(desk) {
+  the('enter').hidden = true
+  the('received').hidden = false
+  document.title = 'Productions'
+  the('leave_received').addEventListener('click', leave)
+  return new Receiver(desk, decoder, {
+    told: the('received_said'), form: the('open_volume'), again: the('list_again'), opened: the('opened'), head: the('volume_head'),
+    manifest: the('manifest_sum'), sum: the('sent_sum'), same: the('same_sum'), intoFolder: the('into_folder'),
+    asArchive: the('as_archive'), stop: the('stop_saving'), failed: the('not_saved'), folder: the('folder'), files: the('files'),
+    shown: the('shown_file'), name: the('shown_name'), canvas: the('shown_image'), text: the('shown_text'),
+  }).begin()
 }
 
 the('enter').addEventListener('submit', async (event) => {
@@ -97,7 +150,7 @@ the('enter').addEventListener('submit', async (event) => {
     await enter(key.value.trim())
   } catch (why) {
     const text = reasonOf(why)
-    if (the('room').hidden) the('denied').textContent = `✗ ${text}`
+    if (!the('enter').hidden) the('denied').textContent = `✗ ${text}`
     else say(text, true)
   }
   key.value = ''

@@ -1,5 +1,7 @@
-// The open page on the screen: its pixels on a canvas, and over it a drawing whose numbers are pixels of the page.
-import { greyImage } from './ink.js'
+// The open page on the screen: its pixels on a canvas, and over it a drawing whose numbers are pixels of the page. Both may be
+// viewed turned by quarter turns.
+import { imageOf } from './ink.js'
+import { growthOnPage, inView, isOnSide, onPage, stepOnPage, transformOf } from './turned.js'
 
 const SVG = 'http://www.w3.org/2000/svg'
 
@@ -21,108 +23,184 @@ export const rectangle = ({ left, top, width, height }, kind) =>
   shape('rect', { x: left, y: top, width, height, class: kind })
 
 export class Paper {
-  constructor(review, { sheet, paper, ink, over, size }) {
-    Object.assign(this, { review, sheet, paper, ink, over, size })
+  constructor(review, greys, { sheet, paper, turned, ink, over, size }) {
+    Object.assign(this, { review, greys, sheet, paper, turned, ink, over, size })
     this.image = null
     this.scale = 1 // points of the screen for a pixel of the page
-    size.addEventListener('change', () => this.paint())
+    this.turns = 0
+    this.turnsOf = new Map() // of the pages that were turned
+    this.kept = null // the pixel that stays in the middle
+    size.addEventListener('change', () => this.repaint())
     new ResizeObserver(() => this.fit()).observe(sheet)
     review.addEventListener('page', ({ detail }) => this.show(detail))
+  }
+
+  nameOfPage(doc = this.review.doc.doc, page = this.review.page) {
+    return `${doc}/${page}`
   }
 
   show(image) {
     this.image = image.fault === undefined ? image : null
     this.paper.hidden = this.image === null
+    this.turns = this.turnsOf.get(this.nameOfPage()) ?? 0
+    this.kept = null
     this.paint()
     this.sheet.scrollTo(0, 0)
   }
 
-  // on a window of another size only a page that fits it is painted anew
-  fit() {
-    if (Number.isNaN(Number(this.size.value))) this.paint()
+  // has a page ready, so that it is painted at once when it is shown
+  async prepare(image, doc, page) {
+    if (image.fault !== undefined || this.sheet.clientWidth === 0) return
+    const { across, down } = this.layoutOf(image, this.turnsOf.get(this.nameOfPage(doc, page)) ?? 0)
+    await this.greys.make(image, across, down)
   }
 
-  wantedScale() {
-    const { width, height } = this.image
+  // on a window of another size only a page that fits it is painted anew
+  fit() {
+    if (Number.isNaN(Number(this.size.value))) this.repaint()
+  }
+
+  // the same page at another size or turn, its middle where it was
+  repaint() {
+    if (this.image === null || this.sheet.clientWidth === 0) return
+    this.kept ??= this.middle()
+    this.paint()
+  }
+
+  // a quarter turn of the view, clockwise
+  turn() {
+    if (this.image === null) return null
+    const kept = this.middle()
+    this.turns = (this.turns + 1) % 4
+    this.turnsOf.set(this.nameOfPage(), this.turns)
+    this.kept = kept
+    this.paint()
+    return this.turns === 0
+      ? 'The page is viewed upright again.'
+      : `The view is turned by ${90 * this.turns} degrees: the page goes out as it was scanned.`
+  }
+
+  wantedScale({ width, height }, turns) {
     const fixed = Number(this.size.value)
     if (!Number.isNaN(fixed)) return fixed / window.devicePixelRatio
+    const [wide, high] = isOnSide(turns) ? [height, width] : [width, height]
     // the page has a margin of 12 at each side, and one of 12 for the bar that scrolls
-    const across = (this.sheet.clientWidth - 36) / width
-    const scale = this.size.value === 'page' ? Math.min(across, (this.sheet.clientHeight - 24) / height) : across
+    const across = (this.sheet.clientWidth - 36) / wide
+    const scale = this.size.value === 'page' ? Math.min(across, (this.sheet.clientHeight - 24) / high) : across
     return Math.max(Math.min(scale, 1 / window.devicePixelRatio), 1 / Math.max(width, height))
   }
 
-  paint() {
-    if (this.image === null || this.sheet.clientWidth === 0) return
-    const { width, height } = this.image
+  // How a page stands on the screen: a cell of the canvas is a point of the screen, and never less than a pixel of the page.
+  layoutOf(image, turns) {
+    const { width, height } = image
     const points = window.devicePixelRatio
-    // a cell of the canvas is a point of the screen, and never less than a pixel of the page
     const most = Math.min(1, MOST_SIDE / Math.max(width, height), Math.sqrt(MOST_CELLS / (width * height)))
-    const wanted = this.wantedScale()
+    const wanted = this.wantedScale(image, turns)
     const fine = Math.min(wanted * points, most)
     const across = Math.max(1, Math.round(width * fine))
     const down = Math.max(1, Math.round(height * fine))
     const isExact = wanted * points <= most
-    this.scale = isExact ? across / width / points : wanted
-    const key = `${across} ${down}`
+    return {
+      across, down, key: `${across} ${down}`, scale: isExact ? across / width / points : wanted,
+      // a cell is a point of the screen exactly, so that the browser has nothing to shrink
+      wide: isExact ? across / points : width * wanted, high: isExact ? down / points : height * wanted,
+    }
+  }
+
+  paint() {
+    const { image } = this
+    if (image === null || this.sheet.clientWidth === 0) return
+    const layout = this.layoutOf(image, this.turns)
+    const grey = this.greys.known(image, layout.key)
+    if (grey !== undefined || (this.painted === image && this.paintedKey === layout.key)) {
+      this.put(layout, grey)
+      return
+    }
+    this.ink.dataset.state = this.painted === image ? 'changes' : 'waits'
+    this.greys.make(image, layout.across, layout.down).then(() => { if (this.image === image) this.paint() })
+  }
+
+  put({ across, down, key, scale, wide, high }, grey) {
     if (this.painted !== this.image || this.paintedKey !== key) {
       Object.assign(this.ink, { width: across, height: down })
-      this.ink.getContext('2d').putImageData(greyImage(this.image, across, down), 0, 0)
+      this.ink.getContext('2d').putImageData(imageOf(grey, across, down), 0, 0)
       Object.assign(this, { painted: this.image, paintedKey: key })
     }
-    // a cell is a point of the screen exactly, so that the browser has nothing to shrink
-    this.paper.style.width = `${isExact ? across / points : width * wanted}px`
-    this.paper.style.height = `${isExact ? down / points : height * wanted}px`
-    this.over.setAttribute('viewBox', `0 0 ${width} ${height}`)
+    this.scale = scale
+    const [left, top] = isOnSide(this.turns) ? [high, wide] : [wide, high]
+    Object.assign(this.paper.style, { width: `${left}px`, height: `${top}px` })
+    Object.assign(this.turned.style, { width: `${wide}px`, height: `${high}px`, transform: transformOf(this.turns, wide, high) })
+    this.over.setAttribute('viewBox', `0 0 ${this.image.width} ${this.image.height}`)
     // lines and letters of the drawing are as thick on the screen at each size
-    this.over.style.setProperty('--point', `${1 / this.scale}px`)
+    this.over.style.setProperty('--point', `${1 / scale}px`)
+    this.ink.dataset.state = 'whole'
+    if (this.kept !== null) this.center(this.kept)
+    this.kept = null
+  }
+
+  // whether the page stands as it is to stand
+  isWhole() {
+    return this.ink.dataset.state === 'whole'
   }
 
   // the next larger or smaller size
   step(by) {
     const now = this.scale * window.devicePixelRatio
     const next = by > 0 ? STEPS.find((it) => it > now * 1.01) : STEPS.findLast((it) => it < now / 1.01)
-    if (next === undefined) return
-    this.size.value = String(next)
-    this.paint()
+    if (next !== undefined) this.fitAs(String(next))
   }
 
   fitAs(what) {
     this.size.value = what
-    this.paint()
+    this.repaint()
+  }
+
+  // a step on the screen along the page's own sides: of a box, or of its lower right corner
+  alongPage(right, down, isSize) {
+    return (isSize ? growthOnPage : stepOnPage)(this.turns, right, down)
   }
 
   // the pixel of the page under the pointer, or the nearest one
   placeOf(event) {
-    const on = this.over.getBoundingClientRect()
-    const along = (at, from, size, pixels) =>
-      Math.min(Math.max(Math.floor(((at - from) / size) * pixels), 0), pixels - 1)
-    return {
-      x: along(event.clientX, on.left, on.width, this.image.width),
-      y: along(event.clientY, on.top, on.height, this.image.height),
-    }
+    const on = this.paper.getBoundingClientRect()
+    const [x, y] = onPage(this.turns, (event.clientX - on.left) / on.width, (event.clientY - on.top) / on.height)
+    const along = (share, pixels) => Math.min(Math.max(Math.floor(share * pixels), 0), pixels - 1)
+    return { x: along(x, this.image.width), y: along(y, this.image.height) }
   }
 
   // the middle of what is in sight, as a pixel of the page
   middle() {
-    const on = this.over.getBoundingClientRect()
+    const on = this.paper.getBoundingClientRect()
     const sheet = this.sheet.getBoundingClientRect()
     const clientX = (Math.max(on.left, sheet.left) + Math.min(on.right, sheet.right)) / 2
     const clientY = (Math.max(on.top, sheet.top) + Math.min(on.bottom, sheet.bottom)) / 2
     return this.placeOf({ clientX, clientY })
   }
 
+  // where a pixel of the page stands, in points from the upper left corner of the view
+  viewOf(x, y) {
+    const [right, down] = inView(this.turns, x / this.image.width, y / this.image.height)
+    return { x: right * this.paper.clientWidth, y: down * this.paper.clientHeight }
+  }
+
+  // scrolls so that a pixel of the page is in the middle, as far as that goes
+  center({ x, y }) {
+    const on = this.paper.getBoundingClientRect()
+    const sheet = this.sheet.getBoundingClientRect()
+    const at = this.viewOf(x + 0.5, y + 0.5)
+    this.sheet.scrollBy(on.left + at.x - sheet.left - this.sheet.clientWidth / 2, on.top + at.y - sheet.top - this.sheet.clientHeight / 2)
+  }
+
   // scrolls so that a rectangle of the page is in sight
   reveal({ left, top, width, height }) {
     const margin = 24
-    const x = left * this.scale
-    const y = top * this.scale
+    const one = this.viewOf(left, top)
+    const other = this.viewOf(left + width, top + height)
     const { scrollLeft, scrollTop, clientWidth, clientHeight } = this.sheet
-    const near = (at, size, from, room) =>
-      at - margin < from ? at - margin : at + size + margin > from + room ? at + size + margin - room : from
-    this.sheet.scrollTo(
-      near(x, width * this.scale, scrollLeft, clientWidth),
-      near(y, height * this.scale, scrollTop, clientHeight),
-    )
+    const near = (a, b, from, room) => {
+      const [at, end] = [Math.min(a, b), Math.max(a, b)]
+      return at - margin < from ? at - margin : end + margin > from + room ? end + margin - room : from
+    }
+    this.sheet.scrollTo(near(one.x, other.x, scrollLeft, clientWidth), near(one.y, other.y, scrollTop, clientHeight))
   }
 }

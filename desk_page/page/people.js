@@ -1,5 +1,6 @@
 // The lead takes people in. The page makes a key, shows it once, and sends its SHA-256: the desks never have the key before
 // its owner comes with it, and nobody can read it out of the matter.
+import { digestOfText } from './digest.js'
 
 const LETTERS = 'abcdefghijkmnpqrstuvwxyz23456789' // 32, without l and o, which look like 1 and 0
 const GROUPS = 5 // of five letters: 125 bits
@@ -9,11 +10,6 @@ const UNKNOWN = 'It isn’t known whether this was done: take the person in once
 function makeKey() {
   const letters = Array.from(crypto.getRandomValues(new Uint8Array(GROUPS * 5)), (byte) => LETTERS[byte & 31])
   return Array.from({ length: GROUPS }, (_, k) => letters.slice(5 * k, 5 * k + 5).join('')).join('-')
-}
-
-async function digestOf(key) {
-  const digest = await crypto.subtle.digest('SHA-256', new TextEncoder().encode(key))
-  return Array.from(new Uint8Array(digest), (byte) => byte.toString(16).padStart(2, '0')).join('')
 }
 
 export class People {
@@ -43,7 +39,7 @@ export class People {
     this.tell('')
     const key = makeKey()
     try {
-      const digest = await digestOf(key)
+      const digest = await digestOfText(key)
       const { staff } = await this.desk.make('/staff', { name: name.value, role: role.value, digest }, UNKNOWN)
       this.tell(`${name.value} is staff ${staff}. Hand this key over; it is shown this once:`, key)
     } catch (why) {

@@ -15,8 +15,9 @@ const spanOf = (production, { first, last }) =>
   first === last ? labelOf(production, first) : `${labelOf(production, first)} to ${labelOf(production, last)}`
 
 export class Productions {
-  constructor(review, { dialog, form, find, told, items, fields, show, close, names, act }) {
-    Object.assign(this, { review, dialog, form, find, told, items, fields, names, act, asked: null })
+  // `known` takes the IDs that were told, `names` gives names of fields to choose from
+  constructor(review, { dialog, form, find, told, items, fields, show, close, known, names, act }) {
+    Object.assign(this, { review, dialog, form, find, told, items, fields, known, names, act, asked: null })
     show.addEventListener('click', () => this.open())
     close.addEventListener('click', () => dialog.close())
     form.addEventListener('submit', this.submitted(() => this.freeze()))
@@ -106,8 +107,17 @@ export class Productions {
     return null
   }
 
+  // the IDs that were told in this window are offered: no call lists productions
+  offerId(id) {
+    if ([...this.known.children].some((option) => option.value === id)) return
+    const option = document.createElement('option')
+    option.value = id
+    this.known.append(option)
+  }
+
   show(production) {
     const { id, volume, items } = production
+    this.offerId(id)
     const documents = items.length === 1 ? '1 document' : `${items.length.toLocaleString('en')} documents`
     this.tell(`${id} stands: ${documents}, ${spanOf(production, production)}. To write its volume ${volume}, end the `
       + `desk, and in the matter’s folder give the command tivrenan press ${id}`)

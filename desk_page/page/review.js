@@ -1,32 +1,39 @@
 // The review as it stands in this window: which document and page are open, and what the desk told of them. It tells the
 // panels by events: `doc` when the open document was looked at, `page` when a page was read, `row` for any document told,
-// `unsure` when a call may have been made or not, and when its document was looked at again.
+// `aged` when what stands was told a while ago, `called` when calls were made, `unsure` when a call may have been made or
+// not, and when its document was looked at again.
+import { changeInWords, isAlike } from './changes.js'
 import { NoAnswer } from './desk.js'
-import { readTiff } from './tiff.js'
 
 // The window isn't ready for what was pressed.
 export class NotNow extends Error {}
 
-// so many pages stay read, so that leafing back asks nothing
-const KEPT_PAGES = 12
+// The document isn't as it was shown any more, so that nothing was sent.
+export class Changed extends NotNow {}
+
+const FRESH = 1000 // milliseconds for which what was told needs no second look
 
 export class Review extends EventTarget {
-  constructor(desk) {
+  constructor(desk, pages) {
     super()
     this.desk = desk
+    this.pages = pages
     this.count = 0
     this.doc = null // the open document, as the desk told it
     this.page = 0 // the open page, from 1
     this.image = null // its pixels, or why they couldn't be read
     this.wanted = null // what is being opened
     this.rows = new Map() // each document told, by its number
+    this.times = new Map() // when it was told
     this.seen = new Map() // the pages that were shown of each document
-    this.pages = new Map() // pages read, the latest last
     this.words = new Map()
+    this.marked = new Set() // the documents that were marked for a call
     this.isShown = false // the open page stands on the screen, so that calls may be made
     this.unsure = new Set() // the documents with a call that may have been made or not
     this.undoing = null // the confirmed document that is about to be edited
+    this.editing = null // the edit that is under way
     this.unsent = () => [] // what a panel holds that wasn't sent
+    this.prepare = async () => {} // has a page ready to be painted
   }
 
   tell(name, detail) {
@@ -56,9 +63,10 @@ export class Review extends EventTarget {
     }
   }
 
-  async lookAt(number) {
-    const doc = await this.desk.see(`/docs/${number}`)
+  async lookAt(number, isBehind = false) {
+    const doc = await this.desk.see(`/docs/${number}`, isBehind)
     this.rows.set(number, doc)
+    this.times.set(number, performance.now())
     this.tell('row', doc)
     if (this.unsure.delete(number)) this.tell('unsure', { docs: [...this.unsure], seen: number })
     return doc
@@ -66,9 +74,17 @@ export class Review extends EventTarget {
 
   // Opens a document at a page. Where another is asked for meanwhile, the last one asked for is opened.
   async open(number, page = 1) {
-    if (number < 1 || number > this.count) return
+    if (number === undefined || number < 1 || number > this.count) return
     if (number !== this.doc?.doc) this.warn(number)
     await this.go({ number, page, known: null })
+  }
+
+  // Opens a document that comes next: where it was fetched ahead it stands at once, and is looked at anew behind.
+  async step(number) {
+    if (number === undefined || number === this.doc?.doc) return
+    this.warn(number)
+    const isAhead = this.pages.known(number, 1) !== undefined
+    await this.go({ number, page: 1, known: isAhead ? this.rows.get(number) ?? null : null, isStep: true })
   }
 
   // What was typed and not sent is left at the second press alone.
@@ -104,10 +120,13 @@ export class Review extends EventTarget {
       const doc = wanted.known ?? (await this.lookAt(wanted.number))
       if (this.wanted !== wanted) return
       const page = Math.min(wanted.page, doc.pages)
-      const image = await this.readPage(wanted.number, page)
+      const image = await this.pages.read(wanted.number, page)
+      if (this.wanted === wanted) await this.prepare(image, wanted.number, page)
       if (this.wanted !== wanted) return
       this.show(doc, page, image)
       this.wanted = null
+      const isOld = performance.now() - this.times.get(doc.doc) > FRESH
+      if (wanted.isStep && isOld) this.tell('aged', doc)
     } catch (why) {
       if (this.wanted !== wanted) return
       this.wanted = null
@@ -127,22 +146,61 @@ export class Review extends EventTarget {
   // the open document once more
   async look() {
     const doc = await this.lookAt(this.doc.doc)
-    if (doc.doc !== this.doc.doc) return
+    if (doc.doc === this.doc.doc) this.showAnew(doc)
+  }
+
+  showAnew(doc) {
     this.doc = doc
     this.tell('doc', doc)
   }
 
-  // Makes a call on the open document, and looks at what it did. A call is for what stands on the screen.
-  async edit(what, members) {
+  // What stands was told a while ago: it is shown anew where it isn't so any more.
+  async refresh() {
+    const shown = this.doc
+    const doc = await this.lookAt(shown.doc, true)
+    if (this.doc === shown && !isAlike(shown, doc)) this.showAnew(doc)
+  }
+
+  // Makes a call on the open document, and looks at what it did: the document before and after. A call is for what stood on
+  // the screen when it was pressed for, and one after another: where one fails, so do those pressed for meanwhile.
+  async edit(what, members, shown = this.doc) {
     if (!this.isShown) throw new NotNow('The document isn’t on the screen yet. Press again.')
-    const { doc } = this.doc
-    this.warnOfConfirmed(what)
-    await this.make(doc, what, members)
+    const own = this.editAfter(this.editing, what, members, shown)
+    this.editing = own
     try {
-      if (this.doc.doc === doc) await this.look()
-      else await this.lookAt(doc)
+      return await own
+    } finally {
+      if (this.editing === own) this.editing = null
+    }
+  }
+
+  async editAfter(before, what, members, shown) {
+    const last = (await before)?.after
+    return this.editAsShown(what, members, last?.doc === shown.doc ? last : shown)
+  }
+
+  // The document is looked at once more just before, and where it isn't as it was shown, it is shown as it is, and nothing
+  // is sent.
+  async editAsShown(what, members, shown) {
+    this.warnOfConfirmed(what, shown)
+    const before = await this.lookAt(shown.doc)
+    if (!isAlike(shown, before)) {
+      if (this.doc.doc === shown.doc) this.showAnew(before)
+      throw new Changed(`Nothing was sent: ${changeInWords(shown, before)} Do it again if it is to be.`)
+    }
+    await this.make(shown.doc, what, members)
+    const after = await this.lookAfter(shown.doc)
+    if (what === 'call') this.tell('called', [{ before, after }])
+    return { before, after }
+  }
+
+  async lookAfter(number) {
+    try {
+      const doc = await this.lookAt(number)
+      if (this.doc.doc === number) this.showAnew(doc)
+      return doc
     } catch (why) {
-      why.message = `It was done, but document ${doc} wasn’t told anew: look again (L). ${why.message}`
+      why.message = `It was done, but document ${number} wasn’t told anew: look again (L). ${why.message}`
       throw why
     }
   }
@@ -158,23 +216,12 @@ export class Review extends EventTarget {
   }
 
   // An edit takes a confirmation away: it is made at the second press alone.
-  warnOfConfirmed(what) {
-    const { doc, confirmer } = this.doc
+  warnOfConfirmed(what, { doc, confirmer }) {
     const isWarned = this.undoing === doc
     this.undoing = null
     if (confirmer === 0 || isWarned || what === 'confirm' || what === 'back') return
     this.undoing = doc
     throw new NotNow(`Document ${doc} is confirmed by staff ${confirmer}, and this would undo it. Do it again to go on.`)
-  }
-
-  async readPage(doc, page) {
-    const path = `/docs/${doc}/pages/${page}`
-    let image = this.pages.get(path)
-    this.pages.delete(path)
-    if (image === undefined) image = readPixels(await this.desk.see(path))
-    this.pages.set(path, image)
-    if (this.pages.size > KEPT_PAGES) this.pages.delete(this.pages.keys().next().value)
-    return image
   }
 
   // the words of the open page
@@ -187,14 +234,5 @@ export class Review extends EventTarget {
   // the words of the open page where they were asked for before
   knownWords() {
     return this.words.get(`/docs/${this.doc.doc}/pages/${this.page}/words`) ?? null
-  }
-}
-
-// { width, height, rows }, or { fault } where the file can't be read
-function readPixels(file) {
-  try {
-    return readTiff(file)
-  } catch (why) {
-    return { fault: why.message }
   }
 }

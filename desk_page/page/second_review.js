@@ -1,11 +1,11 @@
-// Confirm and send back. A call to confirm carries nothing of what was seen, so the document is looked at once more just
-// before, and nothing is confirmed where it isn't as it was shown.
+// Confirm and send back, after one more look at what stands: what the dialog showed is what is confirmed, or nothing is.
 import { TREATMENTS, inFull } from './states.js'
 import { NotNow } from './review.js'
 
 export class SecondReview {
-  constructor(review, { dialog, summary, yes, no, confirm, back, act }) {
-    Object.assign(this, { review, dialog, summary, yes, work: null })
+  // `heldInWords` says what is held back of a document
+  constructor(review, { dialog, summary, yes, no, confirm, back, heldInWords, act }) {
+    Object.assign(this, { review, dialog, summary, yes, heldInWords, work: null })
     confirm.addEventListener('click', act(() => this.askConfirm()))
     back.addEventListener('click', act(() => this.askBack()))
     no.addEventListener('click', () => dialog.close())
@@ -34,7 +34,7 @@ export class SecondReview {
     const lines = [inFull(doc)]
     const boxes = doc.boxes.map(({ num, page, basis }) => `${num} on page ${page} (${basis})`)
     if (boxes.length > 0) lines.push(`Boxes: ${boxes.join(', ')}.`)
-    if (doc.held.length > 0) lines.push(`Held fields: ${doc.held.length}.`)
+    if (doc.held.length > 0) lines.push(`Held back: ${this.heldInWords(doc)}.`)
     if (doc.entry !== null) {
       const { date, author, recipients, description } = doc.entry
       lines.push(`Log entry: ${date}, ${author} to ${recipients}: ${description}`)
@@ -52,31 +52,26 @@ export class SecondReview {
   askConfirm() {
     const { doc, isShown } = this.review
     if (doc === null || !isShown) throw new NotNow('The document isn’t on the screen yet. Press again.')
-    const seen = JSON.stringify(doc)
     const title = `Confirm document ${doc.doc}: ${TREATMENTS[doc.treatment]}?`
-    this.ask(title, this.lines(doc), 'Confirm', () => this.confirm(doc.doc, seen))
+    this.ask(title, this.lines(doc), 'Confirm', () => this.confirm(doc))
   }
 
-  async confirm(number, seen) {
-    if (this.review.doc.doc !== number) return null
-    await this.review.look()
-    if (JSON.stringify(this.review.doc) !== seen) {
-      throw new NotNow('Not confirmed: it was changed since you looked. Look again.')
-    }
-    await this.review.edit('confirm', {})
-    return `Document ${number} is confirmed.`
+  async confirm(doc) {
+    if (this.review.doc.doc !== doc.doc) return null
+    await this.review.edit('confirm', {}, doc)
+    return `Document ${doc.doc} is confirmed.`
   }
 
   askBack() {
     const { doc, isShown } = this.review
     if (doc === null || !isShown) throw new NotNow('The document isn’t on the screen yet. Press again.')
     const lines = [inFull(doc), 'It will be uncalled; its boxes, held fields and log entry stay.']
-    this.ask(`Send document ${doc.doc} back?`, lines, 'Send back', () => this.sendBack(doc.doc))
+    this.ask(`Send document ${doc.doc} back?`, lines, 'Send back', () => this.sendBack(doc))
   }
 
-  async sendBack(number) {
-    if (this.review.doc.doc !== number) return null
-    await this.review.edit('back', {})
-    return `Document ${number} is sent back.`
+  async sendBack(doc) {
+    if (this.review.doc.doc !== doc.doc) return null
+    await this.review.edit('back', {}, doc)
+    return `Document ${doc.doc} is sent back.`
   }
 }

@@ -135,7 +135,9 @@ class Chromium:
             self.log.append(json.dumps(event["params"]["args"]))
         elif event["method"] == "Network.requestWillBeSent":
             self.requests.append(event["params"]["request"])
-            self.under_way.add(event["params"]["requestId"])
+            # of a worker's own scripts the page isn't told the answer
+            if event["params"].get("type") == "Fetch":
+                self.under_way.add(event["params"]["requestId"])
         elif event["method"] in ("Network.responseReceived", "Network.loadingFailed"):
             # the end of an answer that the page doesn't read, as of a 502, is never told
             self.under_way.discard(event["params"]["requestId"])

@@ -36,7 +36,10 @@ class Desk:
 
     def serve(self):
         while True:
-            peer, _ = self.door.accept()
+            try:
+                peer, _ = self.door.accept()
+            except OSError:
+                return  # it was closed
             with peer:
                 request = b""
                 while b"\r\n\r\n" not in request and (piece := peer.recv(65536)):
@@ -48,6 +51,10 @@ class Desk:
                 self.came.append((head.decode(), body))
                 if self.answer:
                     peer.sendall(self.answer)
+
+    def close(self):
+        self.door.shutdown(socket.SHUT_RDWR)
+        self.door.close()
 
     def fields(self):
         """The names of the fields of the last request, and its first line."""
@@ -161,6 +168,45 @@ def try_flood(scratch):
         office.close()
 
 
+def try_two_floods(scratch):
+    """Two people behind one address have a limit each."""
+    desk = Desk()
+    office = Behind(make(scratch, "floods"), [desk])
+    try:
+        trust = ssl._create_unverified_context()
+        peers = [trust.wrap_socket(socket.create_connection(("127.0.0.1", office.port), timeout=60)) for _ in range(FLOOD)]
+        for k, peer in enumerate(peers):
+            peer.sendall(b"GET /desk/docs/1 HTTP/1.1\r\nHost: x\r\nDesk-Key: k%d\r\nConnection: close\r\n\r\n" % (k % 2))
+        statuses = [int(peer.recv(65536).split(b" ")[1]) for peer in peers]
+        check(f"of {FLOOD} requests of two people none is refused", set(statuses) == {200}, statuses.count(429))
+    finally:
+        office.close()
+
+
+def try_first(scratch):
+    """Where a person's own desk isn't open, the first one gets what they ask; where it hung up, nobody does."""
+    desks = [Desk(), Desk(answer=None)]
+    office = Behind(make(scratch, "first"), desks)
+    try:
+        keys = [f"key {k}" for k in range(12)]
+        second = [key for key in keys if office.request(key, "POST", "/desk/docs/1/confirm", {})[0] == 502]
+        check("whose desk hangs up isn't served by another", 0 < len(second) < len(keys) and
+              len(desks[0].came) == len(keys) - len(second) and len(desks[1].came) == len(second), (second, len(desks[0].came)))
+        desks[1].close()
+        before = len(desks[0].came)
+        statuses = {office.request(key, method, path, members)[0] for key in keys
+                    for method, path, members in (("GET", "/desk/docs/1", None), ("POST", "/desk/docs/1/call", {"responsive": True}))}
+        check("whose desk isn't open is at the first", statuses == {200} and len(desks[0].came) == before + 2 * len(keys), statuses)
+        head, body = desks[0].came[-1]
+        check("with the same path, key and body", head.startswith("POST /docs/1/call HTTP/1.1\r\n") and
+              "desk-key: key 11" in head.lower() and body == b'{"responsive": true}', desks[0].came[-1])
+        desks[0].close()
+        status, fields, _ = office.request(keys[0], "GET", "/desk/docs/1")
+        check("without any desk it is 502, as a page of nginx", status == 502 and fields["Content-Type"].startswith("text/html"), status)
+    finally:
+        office.close()
+
+
 def try_keys(scratch):
     desks = [Desk() for _ in range(3)]
     office = Behind(make(scratch, "keys"), desks)
@@ -247,6 +293,8 @@ def main():
     scratch, program = sys.argv[1], sys.argv[2] if len(sys.argv) > 2 else None
     try_fields(scratch)
     try_flood(scratch)
+    try_two_floods(scratch)
+    try_first(scratch)
     try_keys(scratch)
     try_repeats(scratch)
     try_desk(scratch, program)

@@ -154,6 +154,7 @@ class Office:
             "</etc/ssl/certs/review.pem>": f"{self.folder}/cert.pem",
             "</etc/ssl/private/review.key>": f"{self.folder}/key.pem",
             "</srv/desk_page/page>": f"{self.folder}/page",
+            f"proxy_pass http://127.0.0.1:{FIRST_PORT};": f"proxy_pass http://127.0.0.1:{self.ports[0]};",
         }
         for k, line in enumerate(LINES):
             changes[line] = f"    server 127.0.0.1:{self.ports[k]} max_fails=0;\n" if k < len(self.ports) else ""

@@ -5,181 +5,18 @@ mouse, the second review, refusals, what a person does by mistake, and the produ
 
     review.py SCRATCH SHOTS [PROGRAM]     pictures of the screens go into the folder SHOTS
 """
-import hashlib
 import json
 import os
 import subprocess
 import sys
 import time
 
-from chromium import Chromium
 from office import BATCH, ELLIS, LEAD, MARLOW, TOP, Office
+from person import CTRL, Person, canvas_is, check, finish
 
-CTRL, SHIFT = 2, 8
-passed = failed = 0
-
-
-def check(what, holds, more=""):
-    global passed, failed
-    passed, failed = passed + bool(holds), failed + (not holds)
-    print("ok         " if holds else "NOT AS DUE ", what, "" if holds else more, flush=True)
-
-
-# All that the page says, in its order: what stands at a moment may have taken the place of other words just before.
-HEARD = """window.heard = { said: [], denied: [], frozen: [] }
-document.addEventListener('DOMContentLoaded', () => {
-  for (const [place, texts] of Object.entries(heard)) {
-    const note = ({ addedNodes }) => texts.push(...Array.from(addedNodes, (node) => node.textContent))
-    new MutationObserver((all) => all.forEach(note)).observe(document.getElementById(place), { childList: true })
-  }
-})"""
-
-
-class Person(Chromium):
-    """Who works at the page."""
-
-    def __init__(self, *words, **more):
-        super().__init__(*words, **more)
-        self("Page.addScriptToEvaluateOnNewDocument", source=HEARD)
-
-    def enter(self, url, key):
-        self.go(url)
-        self.come(key)
-
-    def come(self, key):
-        self.click("#key")
-        self.type(key)
-        self.key("Enter")
-        self.until("document.getElementById('title').textContent === 'Document 1'")
-
-    def text(self, name):
-        return self.js(f"document.getElementById({name!r}).textContent")
-
-    def heard(self, place="said"):
-        return self.js(f"heard.{place}")
-
-    def does(self, work, words, place="said"):
-        """Does something, and waits until that is said of it."""
-        before = len(self.heard(place))
-        work()
-        self.until(f"heard.{place}.slice({before}).some((text) => text.includes({json.dumps(words)}))")
-
-    def says(self, what, work, words, place="said"):
-        """A check of what is said."""
-        try:
-            self.does(work, words, place)
-            check(what, True)
-        except RuntimeError as why:
-            check(what, False, (why, self.heard(place)[-5:]))
-
-    def press(self, keys):
-        for key in keys:
-            self.key(key)
-
-    def open(self, number):
-        self.key("o")
-        self.type(str(number))
-        self.key("Enter")
-        self.until(f"document.getElementById('title').textContent === 'Document {number}' && "
-                   "document.activeElement.id === 'sheet'")
-
-    def turn(self, page, of, key="ArrowRight"):
-        self.key(key)
-        self.until(f"document.getElementById('place').textContent === 'page {page} of {of}'")
-
-    def decide(self, number, keys, designation=""):
-        self.open(number)
-        if designation:
-            self.key("d")
-            self.type(designation)
-            self.key("Escape")
-        self.does(lambda: self.press(keys), "The call stands.")
-
-    def size(self, value):
-        self.js(f"(() => {{ const it = document.getElementById('size'); it.value = {value!r};"
-                " it.dispatchEvent(new Event('change')) })()")
-
-    def at(self, x, y, sides=(2550, 3300)):
-        """Where a pixel of the page stands in the window."""
-        left, top, width, height = self.js(
-            "(() => { const on = document.getElementById('over').getBoundingClientRect();"
-            " return [on.left, on.top, on.width, on.height] })()")
-        return left + (x + 0.5) * width / sides[0], top + (y + 0.5) * height / sides[1]
-
-    def draw(self, left, top, width, height):
-        self.js("document.getElementById('sheet').scrollTo(0, 0)")
-        self.drag(self.at(left, top), self.at(left + width - 1, top + height - 1))
-
-    def boxes(self):
-        return self.js("Array.from(document.querySelectorAll('#boxes li'), (it) => it.children[0].textContent)")
-
-    def told_box(self, num):
-        """Left and top of a box, by the list."""
-        row = next(row for row in self.boxes() if row.startswith(f"Box {num},"))
-        left, top = row.split(" at ")[1].split(", ")[:2]
-        return int(left), int(top)
-
-    def draft(self):
-        return self.js("(() => { const it = document.querySelector('.draft'); if (it === null) return null;"
-                       " return ['x', 'y', 'width', 'height'].map((name) => Number(it.getAttribute(name))) })()")
-
-    def adjust(self, wanted):
-        """The chosen box by the arrows to where it is wanted: by ten pixels, and then by one."""
-        for is_size, names in ((False, ("ArrowLeft", "ArrowRight", "ArrowUp", "ArrowDown")),
-                               (True, ("ArrowLeft", "ArrowRight", "ArrowUp", "ArrowDown"))):
-            for axis in (0, 1):
-                k = axis + 2 * is_size
-                off = wanted[k] - self.draft()[k]
-                name = names[2 * axis + (off > 0)]
-                for _ in range(abs(off) // 10):
-                    self.key(name, SHIFT * is_size)
-                for _ in range(abs(off) % 10):
-                    self.key(name, SHIFT * is_size | CTRL)
-
-
-def scan(number, page):
-    """The pixels of a page as libtiff reads them: width, height, rows of text with 1 for black."""
-    with open(os.path.join(BATCH, "load.opt"), encoding="utf-8-sig") as file:
-        lines = [line.rstrip("\r\n").split(",") for line in file if line.strip()]
-    starts = [k for k, line in enumerate(lines) if line[3] == "Y"]
-    path = os.path.join(BATCH, lines[starts[number - 1] + page - 1][2].replace("\\", "/"))
-    pnm = subprocess.run(["tifftopnm", "-quiet", path], capture_output=True, check=True).stdout
-    _, sides, rows = pnm.split(b"\n", 2)
-    width, height = map(int, sides.split())
-    stride = (width + 7) // 8
-    row = lambda k: f"{int.from_bytes(rows[k * stride:(k + 1) * stride], 'big'):0{stride * 8}b}"[:width]
-    return width, height, [row(k) for k in range(height)]
-
-
-def grey_of(width, height, rows, across, down):
-    """The bytes of the canvas that the page is due: each cell as dark as the share of its pixels that are black."""
-    columns, lines = [-(-k * width // across) for k in range(across + 1)], [-(-k * height // down) for k in range(down + 1)]
-    out = bytearray()
-    for line in range(down):
-        part = rows[lines[line] : lines[line + 1]]
-        for column in range(across):
-            left, right = columns[column], columns[column + 1]
-            black = sum(row.count("1", left, right) for row in part)
-            # halves are rounded up, as by Math.round
-            out.append(255 - int(255 * black / (len(part) * (right - left)) + 0.5))
-    return bytes(out)
-
-
-CANVAS = """(async () => {
-  const { width, height } = document.getElementById('ink')
-  const { data } = document.getElementById('ink').getContext('2d').getImageData(0, 0, width, height)
-  const grey = data.filter((_, i) => i % 4 === 0)
-  const isGrey = data.every((value, i) => value === (i % 4 === 3 ? 255 : data[i - (i % 4)]))
-  const digest = new Uint8Array(await crypto.subtle.digest('SHA-256', grey))
-  return [width, height, isGrey, Array.from(digest, (byte) => byte.toString(16).padStart(2, '0')).join('')]
-})()"""
-
-
-def canvas_is(what, person, number, page):
-    """The canvas has the scan's pixels, as many of them in a cell as the size says."""
-    across, down, is_grey, digest = person.js(CANVAS)
-    due = hashlib.sha256(grey_of(*scan(number, page), across, down)).hexdigest()
-    check(f"{what}, {across} by {down} cells", is_grey and digest == due, digest)
+with open(os.path.join(BATCH, "load.dat"), encoding="utf-8-sig") as dat:
+    FIELDS = [name.strip("þ") for name in dat.readline().rstrip("\r\n").split("\x14")]
+AUTHOR = [name for name in FIELDS if name not in ("BEGDOC", "ENDDOC", "BEGATTACH", "ENDATTACH")].index("AUTHOR") + 1
 
 
 # ---- what is tried
@@ -281,16 +118,16 @@ def try_boxes(person, shots):
     person.says("moved by the mouse", lambda: person.drag(person.at(350, 2940), person.at(650, 2840)), "Box 3 stands.")
     left, top = person.told_box(3)
     check("by as much as the mouse", abs(left - 500) < 8 and abs(top - 2800) < 8, (left, top))
-    person.says("chosen by the mouse", lambda: press_at(person, person.at(650, 2840)), "Box 3 is chosen")
+    person.says("chosen by the mouse", lambda: person.press_at(person.at(650, 2840)), "Box 3 is chosen")
     person.says("sized at a corner", lambda: person.drag(person.at(left + 300, top + 80), person.at(left + 500, top + 200)), "Box 3 stands.")
-    person.does(lambda: press_at(person, person.at(650, 2840)), "Box 3 is chosen")
+    person.does(lambda: person.press_at(person.at(650, 2840)), "Box 3 is chosen")
     person.says("another basis by a key", lambda: person.key("4"), "Box 3 stands.")
     check("in the list too", person.boxes()[2].startswith("Box 3, TS"), person.boxes())
     person.key("b")
     check("a new box by a key", person.draft() is not None)
     person.key("Escape")
     check("left by Escape", person.draft() is None)
-    person.does(lambda: press_at(person, person.at(650, 2840)), "Box 3 is chosen")
+    person.does(lambda: person.press_at(person.at(650, 2840)), "Box 3 is chosen")
     person.says("dropped by a key", lambda: person.key("Delete"), "Box 3 is dropped")
     person.key("0")
     person.key("t")
@@ -316,11 +153,6 @@ def words_taken():
     return [f"takes {count(box)} words" for box in ((1420, 460, 680, 60), (325, 950, 1900, 180))]
 
 
-def press_at(person, place):
-    person.mouse("mousePressed", *place)
-    person.mouse("mouseReleased", *place)
-
-
 def hold(person, name, basis):
     person.key("h")
     person.type(name)
@@ -329,13 +161,16 @@ def hold(person, name, basis):
 
 
 def try_fields(person):
+    """A held field is told by its number; its name stands beside it where the desk told it here."""
     person.says("a field that isn't there", lambda: hold(person, "Author", "PI"), "no field of this name")
     person.js("document.querySelector('#hold').elements.field.value = ''")
     person.key("Escape")
-    person.says("a field held back", lambda: hold(person, "AUTHOR", "AC"), "AUTHOR is held back.")
-    check("by its name in the list", "AUTHOR: AC" in person.text("held"), person.text("held"))
-    person.says("and freed", lambda: person.click("#held button"), "AUTHOR is freed.")
-    person.does(lambda: hold(person, "AUTHOR", "PI"), "AUTHOR is held back.")
+    person.says("a field held back", lambda: hold(person, "AUTHOR", "AC"), f"AUTHOR is held back, as field {AUTHOR}.")
+    check("by its number and name in the list", f"Field {AUTHOR}, AUTHOR: AC" in person.text("held"), person.text("held"))
+    person.says("and freed", lambda: person.click("#held button"), f"AUTHOR is freed: it was field {AUTHOR}.")
+    person.does(lambda: hold(person, "AUTHOR", "PI"), "AUTHOR is held back")
+    person.key("Escape")
+    person.says("once more it changes nothing", lambda: hold(person, "AUTHOR", "PI"), "Nothing changed: AUTHOR was held back for PI before")
     person.key("Escape")
 
 
@@ -366,17 +201,12 @@ def try_unsent(person):
     check("but at the second press", True)
 
 
-def ask_confirm(person):
-    person.key("c")
-    person.until("document.getElementById('ask').open")
-
-
 def try_second(person, office, shots):
     person.enter(office.url, MARLOW)
     person.open(3)
     # meanwhile Ellis changes it, and back
     call = dict(responsive=True, treatment="Withhold-AC", designation="CONFIDENTIAL")
-    ask_confirm(person)
+    person.ask_confirm()
     office.ask(ELLIS, "POST", "/docs/3/call", dict(call, treatment="Withhold-WP"))
     person.says("what changed since it was seen isn't confirmed", lambda: person.key("Enter"), "changed since you looked")
     check("and is shown as it stands", "Withhold WP" in person.text("state") and "not confirmed" in person.text("state"), person.text("state"))
@@ -386,7 +216,7 @@ def try_second(person, office, shots):
         person.open(number)
         for page in range(2, pages + 1):
             person.turn(page, pages)
-        ask_confirm(person)
+        person.ask_confirm()
         if number == 10:
             person.shot(os.path.join(shots, "confirm.png"))
             check("every page was looked at", "looked" not in person.text("asked"), person.text("asked"))
@@ -396,7 +226,7 @@ def try_second(person, office, shots):
     for page in (3, 2):
         person.turn(page, 4, "ArrowLeft")
     person.js("document.getElementById('sheet').scrollTo(0, 0)")
-    person.does(lambda: press_at(person, person.at(1200, 1000)), "Box 1 is chosen")
+    person.does(lambda: person.press_at(person.at(1200, 1000)), "Box 1 is chosen")
     x, y = person.at(1200, 1000)
     person.says("a click that trembles moves no box", lambda: person.drag((x, y), (x + 2, y + 1)), "Box 1 is chosen")
     person.says("a box that is moved waits too", lambda: person.drag((x, y), (x + 40, y)), "would undo it")
@@ -407,7 +237,7 @@ def try_second(person, office, shots):
     person.says("document 11 sent back", lambda: person.key("Enter"), "is sent back")
     check("it is uncalled", person.text("state") == "○ Not called yet.", person.text("state"))
     person.does(lambda: person.press("yr"), "The call stands.")
-    ask_confirm(person)
+    person.ask_confirm()
     person.says("nobody confirms what they edited last", lambda: person.key("Enter"), "Another person has to confirm it")
     person.does(lambda: person.key("p"), "The call stands.")
     person.open(10)
@@ -425,10 +255,31 @@ HELD = """(() => {
 })()"""
 
 
+CUT_OFF_CALLS = """window.whole = window.fetch
+window.fetch = (path, request) => request.method === 'POST' ? Promise.reject(new TypeError('cut off')) : whole(path, request)"""
+# the looks that come after a call
+CUT_OFF_LOOKS = """(() => {
+  let isMade = false
+  window.whole = window.fetch
+  window.fetch = (path, request) => {
+    isMade ||= request.method === 'POST'
+    return isMade && request.method === 'GET' ? Promise.reject(new TypeError('cut off')) : whole(path, request)
+  }
+})()"""
+
+
+def open_again(office):
+    office.open_desk()
+    if not office.program:
+        office.take_in_all()  # a stand-in forgets
+
+
 UNSURE = "It isn’t known whether a call of yours on document 1 was made: look again (L)."
 
 
 def try_without_desk(person, office):
+    person.go(office.url)
+    person.js("sessionStorage.clear()")
     person.go(office.url)
     person.js(HELD)
     person.come(MARLOW)
@@ -439,11 +290,15 @@ def try_without_desk(person, office):
                 "No desk is open")
     check("and its row tells that it did", row() == "no answer", row())
     person.says("without a desk", lambda: person.key("l"), "No desk is open")
-    person.says("a call without a desk", lambda: person.press("y"), "look again")
+    person.says("a call without a desk isn't sent", lambda: person.press("y"), "No desk is open")
+    check("as the look before it failed: nothing is unsure", "It isn’t known" not in person.text("said"), person.text("said"))
+    open_again(office)
+    person.js(CUT_OFF_CALLS)
+    person.says("a call that is cut off may have been made", lambda: person.press("y"), "look again")
+    person.js("window.fetch = window.whole")
+    office.close_desk()
     try_unsure(person)
-    office.open_desk()
-    if not office.program:
-        office.take_in_all()  # a stand-in forgets
+    open_again(office)
     person.open(2)
     person.says("a desk again", lambda: person.key("l"), "Document 2 as it stands now.")
     check("another document's look leaves the words too", person.text("said").endswith(UNSURE), person.text("said"))
@@ -474,8 +329,7 @@ def try_unsure(person):
 
 def try_no_look(person):
     """A call is made, and then no look comes."""
-    person.js("window.whole = window.fetch; window.fetch = (path, request) =>"
-              " request.method === 'GET' ? Promise.reject(new TypeError('cut off')) : whole(path, request)")
+    person.js(CUT_OFF_LOOKS)
     person.says("a call that was made is told so, though no look follows", lambda: person.press("yp"), "It was done, but document 1")
     person.rest()
     check("it isn't told as unsure", "It isn’t known" not in person.text("said"), person.text("said"))
@@ -667,8 +521,7 @@ def main():
             if person is not None:
                 person.close()
         office.close()
-    print(f"a review by the page: {passed} as due, {failed} not")
-    sys.exit(failed > 0)
+    finish("a review by the page")
 
 
 main()

@@ -1,0 +1,41 @@
+// Where somebody was: in the address, as a link (`#24/3` is document 24, page 3), and by person for the life of the tab.
+import { digestOfText } from './digest.js'
+
+const LINK = /^#([1-9]\d{0,8})(?:\/([1-9]\d{0,8}))?$/
+
+export function placeIn(link) {
+  const found = LINK.exec(link)
+  return found === null ? null : { number: Number(found[1]), page: Number(found[2] ?? 1) }
+}
+
+export class Place {
+  // A person is known here by a piece of their key's digest, which tells two people of a tab apart, and no key.
+  static async of(key) {
+    return new Place(`place ${(await digestOfText(`place ${key}`)).slice(0, 8)}`)
+  }
+
+  constructor(name) {
+    this.name = name
+    this.kept = JSON.parse(sessionStorage.getItem(name) ?? '{}')
+  }
+
+  // where to begin: at the link, else where this person was
+  begin() {
+    return placeIn(window.location.hash) ?? placeIn(this.kept.link ?? '') ?? { number: 1, page: 1 }
+  }
+
+  keep(what) {
+    Object.assign(this.kept, what)
+    sessionStorage.setItem(this.name, JSON.stringify(this.kept))
+  }
+
+  // the open document and page
+  keepLink(doc, page) {
+    const link = `#${doc}/${page}`
+    this.keep({ link })
+    window.history.replaceState(null, '', link)
+  }
+}
+
+// the address without a link, for who comes next
+export const forgetLink = () => window.history.replaceState(null, '', window.location.pathname)

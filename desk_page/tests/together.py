@@ -1,0 +1,359 @@
+#!/usr/bin/env python3
+"""Several people at the page, and much at once: two windows at one document, held fields by their numbers, calls for many
+documents and the last one taken back, a search that is stopped, filters, links, the place that is kept, zoom and turns, the
+system's colours, the names of all controls. Over the program, where it is given, else over the stand-in.
+
+    together.py SCRATCH SHOTS [PROGRAM]     pictures of the screens go into the folder SHOTS
+"""
+import json
+import os
+import sys
+
+from office import ELLIS, LEAD, MARLOW, Office
+from person import Person, canvas_is, check, finish, nameless, scan
+
+PRODUCE = dict(responsive=True, treatment="Produce", designation="")
+
+
+def told(office, number):
+    """What the desk tells of a document."""
+    return office.ask(LEAD, "GET", f"/docs/{number}")
+
+
+# ---- two windows
+
+
+def try_two_windows(ellis, marlow, office, shots):
+    ellis.open(3)
+    marlow.open(3)
+    ellis.does(lambda: ellis.press("ya"), "The call stands.")
+    check("the other window shows what stood before", "Not called" in marlow.text("state"), marlow.text("state"))
+    before = told(office, 3)
+    marlow.press("n")
+    marlow.says("a call over another's is asked for again, and who it was is said", lambda: marlow.press("p"),
+                "Nothing was sent: Document 3 was changed since you looked, last by staff 2 (call)")
+    check("the desk has the first call", told(office, 3) == before, told(office, 3))
+    check("the window shows it", "Withhold AC, responsive; last edited by staff 2" in marlow.text("state"), marlow.text("state"))
+    form = marlow.js("(() => { const { responsive, treatment } = document.getElementById('call').elements;"
+                     " return [responsive.value, treatment.value] })()")
+    check("and so does its form", form == ["yes", "Withhold-AC"], form)
+    marlow.shot(os.path.join(shots, "changed.png"))
+    marlow.says("pressed again it is done", lambda: marlow.key("p"), "The call stands.")
+    check("by the one who pressed", (told(office, 3)["treatment"], told(office, 3)["editor"]) == ("Produce", 3), told(office, 3))
+    # each other edit too: Ellis' window still shows the call of Ellis
+    for what, work in (
+        ("a log entry", lambda: (ellis.js("document.querySelector('#entry').elements.date.value = '2020'"), ellis.click("#entry button"))),
+        ("a field", lambda: (ellis.js("document.querySelector('#hold').elements.field.value = 'AUTHOR'"), ellis.click("#hold form, #hold > button"))),
+    ):
+        office.ask(MARLOW, "POST", "/docs/3/call", dict(PRODUCE, designation=what.upper()))
+        before = told(office, 3)
+        ellis.says(f"{what} isn't put on a document that was changed", work, "last by staff 3")
+        check("nothing was", told(office, 3) == before, told(office, 3))
+    ellis.js("for (const id of ['entry', 'hold']) document.getElementById(id).reset()")
+    try_box_of_two(ellis, marlow, office)
+
+
+def try_box_of_two(ellis, marlow, office):
+    """A box that was drawn on what isn't so any more stands as a draft, until it is put again."""
+    ellis.decide(5, "yr")
+    marlow.open(5)
+    ellis.does(lambda: ellis.draw(400, 900, 500, 200), "Box 1 stands.")
+    ellis.open(6)
+    marlow.says("a box on what was changed isn't put", lambda: marlow.draw(400, 1500, 500, 200), "Enter puts the box.")
+    check("the other's box is shown", len(marlow.boxes()) == 1, marlow.boxes())
+    marlow.says("Enter puts it, under the next number", lambda: marlow.key("Enter"), "Box 2 stands.")
+    check("both stand", [box["num"] for box in told(office, 5)["boxes"]] == [1, 2], told(office, 5)["boxes"])
+    ellis.open(5)
+    marlow.does(lambda: marlow.key("e"), "is chosen")
+    marlow.does(lambda: marlow.key("Delete"), "is dropped")
+    ellis.does(lambda: ellis.key("e"), "is chosen")
+    ellis.says("a box isn't dropped from what was changed", lambda: ellis.key("Delete"), "was changed since you looked")
+
+
+# ---- held fields
+
+
+def try_held(ellis, marlow, office, shots):
+    """Another matter's list of names beside the page gives no name to what is held."""
+    with open(os.path.join(office.folder, "page", "fields.json"), "w", encoding="utf-8") as file:
+        json.dump(["DOCDATE", "DOCTYPE", "RECIPIENT", "AUTHOR"], file)
+    office.ask(ELLIS, "POST", "/docs/10/call", dict(PRODUCE, treatment="Redact"))
+    office.ask(ELLIS, "POST", "/docs/10/hold", dict(field="AUTHOR", basis="PI"))
+    number = told(office, 10)["held"][0]["field"]
+    marlow.enter(office.url, MARLOW)
+    marlow.open(10)
+    check("a held field is shown by its number", marlow.text("held") == f"Field {number}: PI, personal informationFree", marlow.text("held"))
+    marlow.ask_confirm()
+    check("the dialog lists what is held", f"Held back: field {number} (PI)." in marlow.text("asked"), marlow.text("asked"))
+    marlow.shot(os.path.join(shots, "confirm-held.png"))
+    marlow.key("Escape")
+    free = "#held button"
+    marlow.says("to free it a name is wanted", lambda: marlow.click(free), f"Type the name of field {number} below")
+    field = lambda text: marlow.js(f"document.querySelector('#hold').elements.field.value = {text!r}")
+    field("DOCDATE")
+    marlow.says("a name that isn't held frees nothing, and that is said", lambda: marlow.click(free), "Nothing was freed: DOCDATE isn’t held here")
+    check("it is held still", len(told(office, 10)["held"]) == 1, told(office, 10)["held"])
+    office.ask(MARLOW, "POST", "/docs/10/hold", dict(field="DOCDATE", basis="AC"))
+    marlow.does(lambda: marlow.key("l"), "as it stands now")
+    row = next(k for k, it in enumerate(told(office, 10)["held"], 1) if it["field"] == number)
+    field("DOCDATE")
+    marlow.says("another field that was freed is named", lambda: marlow.click(f"#held li:nth-child({row}) button"), f"DOCDATE isn’t field {number}. Freed was field")
+    field("AUTHOR")
+    marlow.says("the right one is freed", lambda: marlow.click(free), f"AUTHOR is freed: it was field {number}.")
+    check("by the desk too", told(office, 10)["held"] == [], told(office, 10)["held"])
+
+
+# ---- many at once
+
+
+def choose(person, **values):
+    for name, value in values.items():
+        person.js(f"document.getElementById('calls').elements.{name}.value = {value!r}")
+
+
+def press_many(person, words):
+    person.does(lambda: person.click("#calls p button"), words, "many_told")
+
+
+def try_many(marlow, office, shots):
+    marlow.open(1)
+    marlow.key("x")
+    marlow.until("document.getElementById('of_family').textContent.includes('3 documents')")
+    marlow.says("what is called is asked first", lambda: marlow.key("Enter"), "Say first whether they are responsive", "many_told")
+    choose(marlow, responsive="yes", treatment="Produce")
+    press_many(marlow, "Call 3 documents: 1, 2, 3? Called before: 3.")
+    marlow.shot(os.path.join(shots, "many.png"))
+    office.ask(ELLIS, "POST", "/docs/2/call", dict(PRODUCE, treatment="Withhold-WP"))
+    press_many(marlow, "2 documents called, 1 refused")
+    check("what was changed meanwhile is listed", "Document 2 was changed since you looked, last by staff 2" in marlow.text("many_refused"),
+          marlow.text("many_refused"))
+    marlow.shot(os.path.join(shots, "many-refused.png"))
+    check("the others are called", [told(office, k)["treatment"] for k in (1, 2, 3)] == ["Produce", "Withhold-WP", "Produce"])
+    marlow.click("#many_refused button")
+    marlow.title(2)
+    marlow.says("many calls are taken back at the second press", lambda: marlow.key("z"), "Take back the calls of 2 documents")
+    marlow.says("by one key", lambda: marlow.key("z"), "2 of 2 calls are taken back")
+    check("as they were", told(office, 1)["editor"] == 0 and told(office, 3)["designation"] == "A FIELD", (told(office, 1), told(office, 3)))
+    for number in (7, 9):
+        marlow.open(number)
+        marlow.does(lambda: marlow.key("m"), "is marked")
+    marlow.key("x")
+    marlow.until("document.getElementById('many').open")
+    check("those marked are offered", marlow.text("of_marked") == "those marked (2)", marlow.text("of_marked"))
+    choose(marlow, responsive="no", treatment="Produce", designation="")
+    press_many(marlow, "Call 2 documents: 7, 9?")
+    press_many(marlow, "2 documents called, 0 refused")
+    marlow.key("Escape")
+    marlow.until("!document.getElementById('many').open")
+    check("and are called", [told(office, k)["responsive"] for k in (7, 9)] == [False, False] and told(office, 9)["editor"] == 3)
+
+
+def try_last(ellis, marlow, office):
+    ellis.decide(12, "yp")
+    ellis.says("a first call is taken back by a second person alone", lambda: ellis.key("z"), "only a second person or the lead")
+    ellis.does(lambda: ellis.press("a"), "The call stands.")
+    ellis.says("a call is taken back", lambda: ellis.key("z"), "The call of document 12 is taken back")
+    check("as it was before", told(office, 12)["treatment"] == "Produce", told(office, 12))
+    ellis.says("and there is none more", lambda: ellis.key("z"), "made no call that could be taken back")
+    ellis.does(lambda: ellis.press("a"), "The call stands.")
+    office.ask(MARLOW, "POST", "/docs/12/call", PRODUCE)
+    ellis.says("nor where another called it since", lambda: ellis.key("z"), "last by staff 3")
+
+
+# ---- the list, links, places
+
+
+def listed(person):
+    return person.js("Array.from(document.querySelectorAll('#tall .row'), (it) => Number(it.dataset.number))")
+
+
+def choose_filter(person, name):
+    person.js(f"(() => {{ const it = document.getElementById('filter'); it.value = {name!r};"
+              " it.dispatchEvent(new Event('change')) })()")
+
+
+def try_list(marlow, office, shots):
+    marlow.rest()
+    marlow.key("f")
+    check("F goes to the filter", marlow.js("document.activeElement.id") == "filter")
+    marlow.key("Escape")
+    choose_filter(marlow, "unresponsive")
+    check("the list shows what a filter takes", listed(marlow) == [7, 9] and marlow.text("count") == "2 of 12 documents", (listed(marlow), marlow.text("count")))
+    marlow.shot(os.path.join(shots, "filter.png"))
+    marlow.open(1)
+    for key, number in (("j", 7), ("j", 9), ("k", 7)):
+        marlow.key(key)
+        marlow.title(number)
+    check("J and K go through it", True)
+    marlow.does(lambda: marlow.press("y"), "The call stands.")
+    marlow.until("document.querySelectorAll('#tall .row').length === 1")
+    check("what a call takes out leaves it", listed(marlow) == [9], listed(marlow))
+    link = marlow.js("location.hash")
+    check("the address is a link", link == "#7/1", link)
+    marlow.go("about:blank")
+    marlow.go(office.url)
+    marlow.come(MARLOW)
+    check("place and filter are kept for the tab", (marlow.text("title"), listed(marlow)) == ("Document 7", [9]) or
+          (marlow.text("title"), marlow.js("document.getElementById('filter').value")) == ("Document 7", "unresponsive"), (marlow.text("title"), listed(marlow)))
+    choose_filter(marlow, "all")
+    marlow.go("about:blank")
+    marlow.go(office.url + "#10/3")
+    marlow.come(MARLOW)
+    check("a link is followed", (marlow.text("title"), marlow.text("place")) == ("Document 10", "page 3 of 4"), marlow.text("place"))
+    marlow.js("location.hash = '#3/2'")
+    marlow.title(3)
+    check("in an open page too", marlow.text("place") == "page 2 of 5", marlow.text("place"))
+    marlow.says("one that leads nowhere is told", lambda: marlow.js("location.hash = '#99'"), "no document of this matter")
+    check("and the address is as it was", marlow.js("location.hash") == "#3/2", marlow.js("location.hash"))
+    marlow.click("#leave")
+    marlow.until("document.getElementById('enter')?.checkVisibility() === true")
+    check("Leave forgets the link", marlow.js("location.hash") == "")
+    marlow.come(ELLIS)
+    check("another person of the tab has a place of their own", marlow.text("title") == "Document 1", marlow.text("title"))
+
+
+SLOW = """window.whole ??= window.fetch
+window.fetch = async (...words) => { await new Promise((go) => setTimeout(go, 300)); return whole(...words) }"""
+
+
+def try_search(person, office):
+    for number in range(1, 13):
+        office.ask(MARLOW, "POST", f"/docs/{number}/back", {})
+        office.ask(MARLOW, "POST", f"/docs/{number}/call", dict(PRODUCE, treatment="Redact" if told(office, number)["boxes"] else "Produce"))
+        for box in told(office, number)["boxes"]:
+            office.ask(MARLOW, "POST", f"/docs/{number}/unbox", dict(num=box["num"]))
+        office.ask(MARLOW, "POST", f"/docs/{number}/call", PRODUCE)
+    person.enter(office.url, ELLIS)
+    person.js(SLOW)
+    person.says("U says how far it is", lambda: person.key("u"), "of 11 documents. Escape stops.")
+    person.says("and stops at Escape", lambda: person.key("Escape"), "Stopped: the ")
+    person.js("window.fetch = window.whole")
+    person.says("else it tells that all are settled", lambda: person.key("u"), "Every other document is settled.")
+
+
+# ---- the view
+
+
+MIDDLE = """(() => { const sheet = document.getElementById('sheet').getBoundingClientRect()
+  const on = document.getElementById('paper').getBoundingClientRect()
+  return [(sheet.top + document.getElementById('sheet').clientHeight / 2 - on.top) / on.height] })()"""
+
+
+def try_view(person, shots):
+    person.open(10)
+    person.js("document.getElementById('sheet').scrollTo(0, 500)")
+    before = person.js(MIDDLE)[0]
+    for key in ("+", "+", "-", "+"):
+        person.key(key)
+        person.until("document.getElementById('ink').dataset.state === 'whole'")
+    after = person.js(MIDDLE)[0]
+    check("zooming keeps the middle of the view", abs(after - before) < 0.02, (before, after))
+    person.key("0")
+    person.until("document.getElementById('ink').dataset.state === 'whole'")
+    width, height, _ = scan(10, 1)
+    for turns in (1, 2, 3):
+        person.key("v")
+        person.until("document.getElementById('ink').dataset.state === 'whole'")
+        wide, high = person.js("(() => { const on = document.getElementById('over').getBoundingClientRect(); return [on.width, on.height] })()")
+        check(f"turned by {90 * turns} degrees", abs(wide / high - (height / width if turns % 2 else width / height)) < 0.01, (wide, high))
+        canvas_is("and its pixels are the scan's", person, 10, 1)
+        if turns == 1:
+            try_turned_box(person, shots)
+    person.says("and upright again", lambda: person.key("v"), "upright again")
+
+
+def try_turned_box(person, shots):
+    """A box drawn on a page that lies on its side stands where it was drawn: the upper left of the view is the lower left."""
+    person.does(lambda: person.press("yr"), "The call stands.")
+    person.size("page")
+    left, top, wide, high = person.js("(() => { const on = document.getElementById('paper').getBoundingClientRect();"
+                                      " return [on.left, on.top, on.width, on.height] })()")
+    person.does(lambda: person.drag((left + wide * 0.1, top + high * 0.2), (left + wide * 0.3, top + high * 0.6)), "Box 1 stands.")
+    x, y = person.told_box(1)
+    check("a box on the turned page", abs(x - 0.2 * 2550) < 8 and abs(y - 0.7 * 3300) < 8, (x, y))
+    drawn = person.js("(() => { const on = document.querySelector('.box').getBoundingClientRect(); return [on.left, on.top] })()")
+    check("is drawn where the mouse was", abs(drawn[0] - left - wide * 0.1) < 4 and abs(drawn[1] - top - high * 0.2) < 4, (drawn, left, top))
+    person.shot(os.path.join(shots, "turned.png"))
+    person.does(lambda: person.key("e"), "is chosen")
+    x, y = person.draft()[:2]
+    person.key("ArrowRight")
+    check("the arrows go as the screen does", person.draft()[:2] == [x, y - 10], (person.draft(), x, y))
+    person.key("Escape")
+    person.does(lambda: person.key("e"), "is chosen")
+    person.does(lambda: person.key("Delete"), "is dropped")
+    person.does(lambda: person.key("p"), "The call stands.")
+    person.key("0")
+
+
+def try_colours(person, shots):
+    person.open(10)
+    for name, features in (("dark", {"prefers-color-scheme": "dark"}), ("contrast", {"prefers-contrast": "more"}), ("forced", {"forced-colors": "active"})):
+        person("Emulation.setEmulatedMedia", features=[dict(name=key, value=value) for key, value in features.items()])
+        person.shot(os.path.join(shots, f"{name}.png"))
+        if name == "forced":
+            outline = person.js("getComputedStyle(document.querySelector('.row.open')).outlineStyle")
+            check("forced colours mark the open row", outline == "solid", outline)
+        canvas_is(f"{name}: the page is black on white", person, 10, 1)
+    person("Emulation.setEmulatedMedia", features=[])
+
+
+def try_names(person):
+    check("every control has a name", nameless(person) == [], nameless(person))
+    for button, dialog in (("#show_people", "people"), ("#show_many", "many"), ("#show_productions", "productions"), ("#show_keys", "keys")):
+        person.click(button)
+        person.until(f"document.getElementById('{dialog}').open")
+        check(f"in the dialog {dialog} too", nameless(person) == [], nameless(person))
+        person.key("Escape")
+        person.until(f"!document.getElementById('{dialog}').open")
+
+
+def try_small(office, shots):
+    person = Person(office.folder, size=(800, 600))
+    try:
+        person.enter(office.url, ELLIS)
+        person.open(10)
+        cut = person.js("[...document.querySelectorAll('body, nav, #bar, aside, aside form, aside fieldset, .head')]"
+                        ".filter((it) => it.scrollWidth > it.clientWidth).map((it) => it.id || it.tagName)")
+        sheet = person.js("[document.getElementById('sheet').clientWidth, document.getElementById('sheet').clientHeight]")
+        check("at 800 by 600 nothing is cut off, and the page has room", cut == [] and sheet[0] > 250 and sheet[1] > 350, (cut, sheet))
+        person.shot(os.path.join(shots, "800x600.png"))
+        for button, dialog in (("#show_many", "many"), ("#show_productions", "productions")):
+            person.click(button)
+            person.until(f"document.getElementById('{dialog}').open")
+            fits = person.js(f"(() => {{ const it = document.getElementById('{dialog}'); const on = it.getBoundingClientRect();"
+                             " return on.left >= 0 && on.right <= innerWidth && on.top >= 0 && on.bottom <= innerHeight && it.scrollWidth <= it.clientWidth })()")
+            check(f"the dialog {dialog} fits", fits)
+            person.shot(os.path.join(shots, f"800x600-{dialog}.png"))
+            person.key("Escape")
+    finally:
+        person.close()
+
+
+def main():
+    scratch, shots = sys.argv[1:3]
+    office = Office(scratch, sys.argv[3] if len(sys.argv) > 3 else None, desks=2)
+    people = []
+    try:
+        people = [Person(scratch), Person(scratch)]
+        ellis, marlow = people
+        ellis.enter(office.url, ELLIS)
+        marlow.enter(office.url, MARLOW)
+        try_two_windows(ellis, marlow, office, shots)
+        try_held(ellis, marlow, office, shots)
+        try_many(marlow, office, shots)
+        try_last(ellis, marlow, office)
+        try_list(marlow, office, shots)
+        try_search(ellis, office)
+        try_view(ellis, shots)
+        try_colours(ellis, shots)
+        try_names(ellis)
+        try_small(office, shots)
+        check("nothing that the browser or its policy refused", not ellis.log and not marlow.log, ellis.log + marlow.log)
+    finally:
+        for person in people:
+            person.close()
+        office.close()
+    finish("several at the page")
+
+
+main()

@@ -2,10 +2,11 @@
 import os
 from dataclasses import dataclass, field
 
-from . import recognized
+from . import recognized, upright
 from .limits import MOST_DOCUMENTS, MOST_PAGES, MOST_PIXELS_IN_ALL
 from .load_files import image_path
 from .pdf_files import PdfFile
+from .picture_files import PictureFile
 from .pictures import bitmap_of, write_tiff
 from .refused import Refused
 from .sources import Source
@@ -26,16 +27,20 @@ class Document:
 
 @dataclass(frozen=True)
 class Page:
-    """A page that was made: its words, where they come from ("text", "read" or "none"), and how many it doesn't show."""
+    """A page that was made: its words, where they come from ("text", "read" or "none"), how many it doesn't show, and how far it was
+    turned, clockwise."""
 
     words: list
     origin: str
     unseen: int
+    turned: int = 0
 
 
 def open_file(source, options, room):
     """The reader of a file, which has looked at it."""
-    return PdfFile(source, options) if source.kind == "PDF" else TiffFile(source, options, room)
+    if source.kind == "PDF":
+        return PdfFile(source, options)
+    return TiffFile(source, options, room) if source.kind == "TIFF" else PictureFile(source, options)
 
 
 def check_limits(documents):
@@ -67,16 +72,18 @@ def make_page(document, page, number, folder, options):
     """Writes the page's image into the batch, and finds its words; `number` counts pages from 0 through the batch."""
     name = document.source.name
     picture = document.file.picture(page)
+    told = [] if options.ocr == "all" else document.file.words[page - 1]
+    turn = upright.turn_of(name, picture.to_read(), picture.resolution) if options.upright and not told else 0
+    if turn:
+        picture = picture.turned(lambda pnm: upright.turned(name, pnm, turn), is_aside=turn != 180)
     bitmap = bitmap_of(name, page, picture.pbm)
     path = os.path.join(folder, image_path(number, document.images[page - 1]))
     os.makedirs(os.path.dirname(path), exist_ok=True)
     write_tiff(name, picture, bitmap.height, path)
-    told = [] if options.ocr == "all" else document.file.words[page - 1]
     if told:
         words, unseen = shown_words(told, bitmap)
         return Page(words, "text", unseen)
     if options.ocr == "none" or bitmap.is_white():
-        return Page([], "none", 0)
-    shown = document.file.picture_to_read(page, picture)
-    read = recognized.read_words(name, shown, picture.resolution, options.language)
-    return Page(inked_words(read, bitmap), "read", 0)
+        return Page([], "none", 0, turn)
+    read = recognized.read_words(name, picture.to_read(), picture.resolution, options.language)
+    return Page(inked_words(read, bitmap), "read", 0, turn)

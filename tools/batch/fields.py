@@ -5,23 +5,26 @@ import os
 
 from .limits import LONGEST_COLUMN, MOST_FIELDS
 from .refused import Gathered, Refused
+from .sources import composed
 
 OWN_COLUMNS = ("BEGDOC", "ENDDOC", "BEGATTACH", "ENDATTACH", "FILENAME")
 SIGNS = {"\u00fe": "þ, which quotes values", "\u00ae": "®, which stands for a newline", "\u0014": "a separator (14 hex)"}
 
 
-def read_fields(path, name, sources):
-    """The fields' names, and for each file of `sources` that has a line its values; refuses what load.dat can't hold."""
+def read_fields(path, name, known):
+    """The fields' names, and for each file of `known` that has a line its values; refuses what load.dat can't hold."""
     rows = rows_of(path, name)
     columns = rows[0][1][1:]
     check_columns(name, columns)
-    known = {source.name for source in sources}
+    capitals = {file.casefold(): file for file in known}
     values, gathered = {}, Gathered()
     for line, row in rows[1:]:
         with gathered:
             file = file_of(name, line, row, columns)
             if file not in known:
-                raise Refused(name, f"line {line}: the folder has no file {file}")
+                other = capitals.get(file.casefold())
+                hint = f"; it has {other}: capitals and small letters differ" if other else ""
+                raise Refused(name, f"line {line}: the folder has no file {file}{hint}")
             if file in values:
                 raise Refused(name, f"line {line}: {file} had a line before")
             values[file] = [value_of(name, line, column, value) for column, value in zip(columns, row[1:])]
@@ -70,7 +73,7 @@ def check_columns(name, columns):
 def file_of(name, line, row, columns):
     if len(row) != len(columns) + 1:
         raise Refused(name, f"line {line}: {len(row)} values under {len(columns) + 1} columns")
-    return os.path.normpath(row[0].strip().replace("\\", "/")) if row[0].strip() else ""
+    return composed(os.path.normpath(row[0].strip().replace("\\", "/"))) if row[0].strip() else ""
 
 
 def value_of(name, line, column, value):

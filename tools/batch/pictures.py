@@ -2,6 +2,7 @@
 import re
 from dataclasses import dataclass
 
+from . import greys
 from .bitmap import Bitmap
 from .limits import LONGEST_FILE, LONGEST_SIDE, MOST_PIXELS
 from .programs import run
@@ -24,11 +25,23 @@ class Resolution:
 
 @dataclass(frozen=True)
 class Picture:
-    """A bilevel page as a raw PBM, and with the grey or coloured picture that it was made of, for reading its words."""
+    """A bilevel page as a raw PBM, the grey or coloured picture that it was made of, and whether greys became dots: then words are
+    read better in the grey."""
 
     pbm: bytes
     original: bytes
     resolution: Resolution | None
+    has_dots: bool = False
+
+    def to_read(self):
+        return self.original if self.has_dots else self.pbm
+
+    def turned(self, turn, is_aside):
+        """The same picture, each of its two forms turned; a page that then lies on its side has its resolutions changed."""
+        told = self.resolution
+        if told and is_aside:
+            told = Resolution(told.down, told.across, told.unit)
+        return Picture(turn(self.pbm), turn(self.original) if self.has_dots else self.pbm, told, self.has_dots)
 
 
 def check_size(file, page, width, height):
@@ -38,13 +51,25 @@ def check_size(file, page, width, height):
         raise Refused(file, f"page {page} would have {width} by {height} pixels, and at most {most}: take a lower --dpi")
 
 
-def bilevel(file, pnm, threshold):
-    """A raw PBM of any raw PNM: greys as dots, always the same ones, or black below the threshold (percent of white)."""
+def grey_of(file, pnm):
+    """A raw PBM as it is, any other raw PNM as a raw PGM of 255."""
     if pnm.startswith(b"P4"):
         return pnm
     grey = run(file, ["ppmtopgm"], pnm)[0] if pnm.startswith(b"P6") else pnm
-    how = ["-fs", "-randomseed=1"] if threshold is None else ["-threshold", f"-value={threshold / 100}"]
-    return run(file, ["pgmtopbm", *how], grey)[0]
+    return grey if greys.GREY_HEAD.match(grey)[3] == b"255" else run(file, ["pamdepth", "255"], grey)[0]
+
+
+def black_and_white(file, pnm, options):
+    """A raw PBM of any raw PNM, and whether it has dots: by a local threshold, with dots for pictures alone; or by one threshold for
+    the whole page (percent of white); or greys as dots all over."""
+    if pnm.startswith(b"P4"):
+        return pnm, False
+    grey = grey_of(file, pnm)
+    if options.threshold is not None:
+        return run(file, ["pgmtopbm", "-threshold", f"-value={options.threshold / 100}"], grey)[0], False
+    if options.dots:
+        return run(file, ["pgmtopbm", "-fs", "-randomseed=1"], grey)[0], True
+    return greys.black_and_white(file, grey)
 
 
 def bitmap_of(file, page, pbm):

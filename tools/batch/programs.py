@@ -9,10 +9,15 @@ PACKAGES = {
     "pdftoppm": "poppler-utils",
     "pdftotext": "poppler-utils",
     "pdfdetach": "poppler-utils",
+    "pdfimages": "poppler-utils",
     "tiffinfo": "libtiff-tools",
     "tiffsplit": "libtiff-tools",
     "tifftopnm": "netpbm",
+    "jpegtopnm": "netpbm",
+    "pngtopam": "netpbm",
     "pamflip": "netpbm",
+    "pamscale": "netpbm",
+    "pamdepth": "netpbm",
     "ppmtopgm": "netpbm",
     "pgmtopbm": "netpbm",
     "pamtotiff": "netpbm",
@@ -29,14 +34,16 @@ def need(tools, what_for):
         raise Refused(", ".join(missing), f"needed {what_for}, and not here: apt install {packages}")
 
 
-def run(file, words, given=None):
-    """What the program writes and what it says, both as bytes; refuses `file` where it fails or never ends."""
+def run(file, words, given=None, what="", hint=""):
+    """What the program writes and what it says, both as bytes; refuses `file` where it fails or never ends: then `what` is the matter
+    with it, and `hint` what to do."""
     try:
         ran = subprocess.run(words, input=given, capture_output=True, timeout=LONGEST_WAIT, check=False)
     except subprocess.TimeoutExpired:
         raise Refused(file, f"{words[0]} didn't end within {LONGEST_WAIT} seconds") from None
     if ran.returncode:
-        raise Refused(file, f"{words[0]} {first_line(ran.stderr) or f'ended with status {ran.returncode}'}")
+        said = f"{words[0]} {first_line(ran.stderr) or f'ended with status {ran.returncode}'}"
+        raise Refused(file, "".join([what and f"{what}, ", said, hint and f"; {hint}"]))
     return ran.stdout, ran.stderr
 
 

@@ -28,12 +28,15 @@ def read_words(file, pnm, resolution, language):
     if min(sides_of(pnm)) < SMALLEST_SIDE:
         return []
     os.environ["OMP_THREAD_LIMIT"] = "1"
-    words = ["tesseract", "stdin", "stdout", "-l", language]
-    inch = resolution and resolution.to_the_inch()
-    if inch and SMALLEST_INCH <= inch <= LARGEST_INCH:
-        words += ["--dpi", str(inch)]
+    words = ["tesseract", "stdin", "stdout", "-l", language, *dpi_words(resolution)]
     told, _ = run(file, [*words, "tsv"], pnm)
     return list(words_in(told.decode(errors="replace")))
+
+
+def dpi_words(resolution):
+    """The resolution as tesseract takes it, where it is one."""
+    inch = resolution and resolution.to_the_inch()
+    return ["--dpi", str(inch)] if inch and SMALLEST_INCH <= inch <= LARGEST_INCH else []
 
 
 def words_in(told):

@@ -1,25 +1,29 @@
-"""The folder that comes in: which files it has, and which of them are a family."""
+"""The folder that comes in: which files it has, and in which order."""
 import os
 import re
+import unicodedata
 from dataclasses import dataclass
 
-from .refused import Gathered, Refused
+from .refused import Refused
 
 LITTER = re.compile(r"\.|~\$|(thumbs\.db|desktop\.ini)$", re.IGNORECASE)
 PDF_HEAD, TIFF_HEADS = b"%PDF-", (b"II*\0", b"MM\0*", b"II+\0", b"MM\0+")
+PNG_HEAD, JPEG_HEAD = b"\x89PNG\r\n\x1a\n", b"\xff\xd8\xff"
 HEAD = 1024  # within so many bytes a PDF begins
 HINTS = {
-    b"\x89PNG": "a PNG picture: img2pdf makes a PDF of it",
-    b"\xff\xd8\xff": "a JPEG picture: img2pdf makes a PDF of it",
-    b"PK\x03\x04": "a ZIP file or an office document: unpack it, or print it to a PDF",
-    b"\xd0\xcf\x11\xe0": "an older office document or a message of Outlook: print it to a PDF",
-    b"%!PS": "PostScript: ps2pdf makes a PDF of it",
+    rb"PK\x03\x04": "a ZIP file or an office document: unpack it, or print it to a PDF",
+    rb"\xd0\xcf\x11\xe0": "an older office document or a message of Outlook: print it to a PDF",
+    rb"%!PS": "PostScript: ps2pdf makes a PDF of it",
+    rb"....ftyp(hei[cfsx]|mif1|msf1)": "an HEIC picture of a telephone: heif-convert makes a JPEG of it",
+    rb"GIF8|BM.{4}\0\0\0\0|RIFF....WEBP": "a GIF, BMP or WebP picture: convert in out.png makes a PNG of it",
+    rb"(From|Received|Return-Path|Subject|Date|MIME-Version|X-\S+): ?": "a message of a mail program: print it to a PDF",
 }
 
 
 @dataclass(frozen=True)
 class Source:
-    """A file that becomes a document: its path, its name below the folder, its family's, and PDF or TIFF."""
+    """A file that becomes a document: its path, its name below the folder (in NFC, as fields.csv may have it from another system), its
+    family's, and PDF, TIFF, PNG or JPEG."""
 
     path: str
     name: str
@@ -27,22 +31,29 @@ class Source:
     kind: str
 
 
-def sources_of(folder, left_out):
-    """The documents in their order: a file that lies right in the folder is its own family, all below a subfolder one."""
+def sources_of(folder, left_out, gathered):
+    """The documents in their order, and the names of all files, also of those that are refused."""
     if not os.path.isdir(folder):
         raise Refused(folder, "there is no such folder")
-    found, gathered = [], Gathered()
+    found, names = [], set()
     for name in names_in(folder, ""):
         for file in files_below(folder, name, gathered):
-            if file == left_out:
+            if composed(file) == composed(left_out):
                 continue
             with gathered:
-                path = os.path.join(folder, file)
-                found.append(Source(path, printable(file), name, kind_of(path, file)))
-    gathered.end()
-    if not found:
-        raise Refused(folder, "there is no PDF and no TIFF file in it")
-    return found
+                path, told = os.path.join(folder, file), printable(file)
+                if told in names:
+                    raise Refused(told, "two files have this name, once with letters and accents apart: give one another name")
+                names.add(told)
+                found.append(Source(path, told, told, kind_of(path, told)))
+    if not names and not gathered.reasons:
+        raise Refused(folder, "there is no PDF, TIFF, PNG or JPEG file in it")
+    return found, names
+
+
+def composed(name):
+    """The name with each letter and its accents as one, as most systems write it; a Mac writes them apart."""
+    return unicodedata.normalize("NFC", name)
 
 
 def names_in(folder, below):
@@ -52,7 +63,7 @@ def names_in(folder, below):
         names = os.listdir(path)
     except OSError as error:
         raise Refused(below or folder, error.strerror) from None
-    return sorted((name for name in names if not LITTER.match(name)), key=by_numbers)
+    return sorted((name for name in names if not LITTER.match(name)), key=lambda name: by_numbers(composed(name)))
 
 
 def by_numbers(name):
@@ -81,11 +92,11 @@ def printable(name):
         raise Refused(name.encode("utf-8", "backslashreplace").decode(), "its name isn't UTF-8: give it another")
     if any(letter in "\u00fe\u00ae" or letter < " " for letter in name):
         raise Refused(repr(name), "its name has a control character, þ or ®: give it another")
-    return name
+    return composed(name)
 
 
 def kind_of(path, name):
-    """PDF or TIFF, by how the file begins: names lie."""
+    """PDF, TIFF, PNG or JPEG, by how the file begins: names lie."""
     try:
         with open(path, "rb") as file:
             head = file.read(HEAD)
@@ -97,5 +108,9 @@ def kind_of(path, name):
         return "PDF"
     if head.startswith(TIFF_HEADS):
         return "TIFF"
-    hint = next((hint for start, hint in HINTS.items() if head.startswith(start)), "neither a PDF nor a TIFF file")
+    if head.startswith(PNG_HEAD):
+        return "PNG"
+    if head.startswith(JPEG_HEAD):
+        return "JPEG"
+    hint = next((hint for start, hint in HINTS.items() if re.match(start, head, re.DOTALL)), "neither a PDF nor a TIFF, PNG or JPEG picture")
     raise Refused(name, hint)

@@ -2,7 +2,7 @@
 import os
 import re
 
-from .pictures import Picture, Resolution, bilevel, check_size, sides_of
+from .pictures import Picture, Resolution, black_and_white, check_size, sides_of
 from .programs import first_line, run
 from .refused import Refused
 
@@ -41,7 +41,7 @@ class TiffFile:
 
     def run(self, words):
         """What a program writes; refused where libtiff complains of the file."""
-        told, said = run(self.source.name, words)
+        told, said = run(self.source.name, words, what="the TIFF is damaged", hint=REPAIR)
         faults = [line for line in said.splitlines() if line.strip() and not HARMLESS.search(line)]
         if faults and not self.options.as_shown:
             raise Refused(self.source.name, f"the TIFF is damaged, {words[0]} {first_line(faults[0])}; {REPAIR}")
@@ -73,15 +73,12 @@ class TiffFile:
             raise Refused(name, f"page {page}: tifftopnm finds other sides than tiffinfo")
         upright = run(name, ["pamflip", f"-xform={turn}"], original)[0] if turn else original
         is_aside = turn is not None and turn.startswith("transpose")
-        return Picture(bilevel(name, upright, self.options.threshold), upright, self.resolution(page, is_aside))
+        pbm, has_dots = black_and_white(name, upright, self.options)
+        return Picture(pbm, upright, self.resolution(page, is_aside), has_dots)
 
     def turn(self, page):
         found = ORIENTATION.search(self.directories[self.places[page - 1]])
         return TURNS[found.groups()] if found else None
-
-    def picture_to_read(self, _page, picture):
-        """The page as it was scanned."""
-        return picture.original
 
     def prepare(self):
         """Makes a file of each page below `room`; libtiff names them in their order."""

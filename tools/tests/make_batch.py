@@ -13,6 +13,7 @@ import os
 import re
 import shutil
 import signal
+import struct
 import subprocess
 import sys
 import tempfile
@@ -195,7 +196,7 @@ class ExampleSources(Case):
             writer = csv.writer(file)
             writer.writerow(["FILE", *fields])
             writer.writerows([names[row["file"]], *(row[field] for field in fields)] for row in reversed(documents))
-        made = self.make("--prefix", "CVI", "--first", "4182", name="CVI_001")
+        made = self.make("--prefix", "CVI", "--first", "4182", "--families", "top", name="CVI_001")
         example = Batch(os.path.join(TOP, "examples", "CVI_001"))
         self.assertEqual([image[0] for image in made.images], [image[0] for image in example.images])
         for ours, theirs in zip(made.records, example.records, strict=True):
@@ -377,7 +378,7 @@ class Scans(Case):
         for name, pnm, how in (("grey", grey, ["-lzw"]), ("colour", sh(["pgmtoppm", "red"], input=grey), ["-flate"])):
             self.write(*how, pnm=pnm)
             shutil.copy(self.scan, self.path(f"{name}.tif"))
-        dots = self.make("--ocr", "none", name="DOTS")
+        dots = self.make("--ocr", "none", "--dots", name="DOTS")
         for at in (0, 1):
             self.assertIn("Bits/Sample: 1", dots.told(at))
         black = dots.pixels(1)[len(b"P4\n200 100\n") :]
@@ -407,6 +408,226 @@ class Scans(Case):
         batch = self.check_pixels("a.tif")
         self.assertEqual(len(batch.images), 2)
         self.assertIn("1 small pictures of pages", self.said)
+
+
+def pgm_of(width, height, grey):
+    """A raw PGM; `grey` tells each row's bytes."""
+    return b"P5\n%d %d\n255\n" % (width, height) + b"".join(grey(y) for y in range(height))
+
+
+def black_share(pbm, left, top, width, height):
+    part = sh(["pamcut", "-left", str(left), "-top", str(top), "-width", str(width), "-height", str(height)], input=pbm)
+    body = part[len(part) - (width + 7) // 8 * height :]
+    rows = [body[at : at + (width + 7) // 8] for at in range(0, len(body), (width + 7) // 8)]
+    spare = -width % 8
+    return sum(bin(int.from_bytes(row, "big") >> spare).count("1") for row in rows) / (width * height)
+
+
+class Greys(Case):
+    """Paper is white and ink black, also in a shadow; photographs and grounds of grey are dots."""
+
+    def setUp(self):
+        super().setUp()
+        self.letter = sh(["tifftopnm", "-quiet", LETTER])
+        # the letter in greys: what a scanner sees of it, ink 40 and paper 230
+        self.grey = sh(["pamfunc", "-multiplier=0.75"], input=sh(["pamdepth", "255"], input=sh(["pgmtopgm"], input=self.as_grey(self.letter))))
+        self.grey = sh(["pamfunc", "-adder=40"], input=self.grey)
+
+    def as_grey(self, pbm):
+        return sh(["pamditherbw", "-threshold"], input=pbm) if False else sh(["pbmtopgm", "1", "1"], input=pbm)
+
+    def page_of(self, pgm, *options, name="OUT"):
+        with open(self.path("a.tif"), "wb") as file:
+            file.write(sh(["pamtotiff", "-lzw", "-xresolution=300", "-yresolution=300"], input=pgm))
+        return self.make(*options, name=name)
+
+    def lit(self, *ramp):
+        """The letter below a light that falls off."""
+        width, height = 2550, 3300
+        light = self.put("../light.pgm", sh(["pgmramp", *ramp, str(width), str(height)]))
+        self.put("../scan.pgm", self.grey)
+        half = self.put("../half.pgm", sh(["pamfunc", "-multiplier=0.5", "-"], input=open(os.path.join(self.room, "light.pgm"), "rb").read()))
+        self.put("../base.pgm", sh(["pgmmake", "0.5", str(width), str(height)]))
+        self.put("../all.pgm", sh(["pamarith", "-add", os.path.join(self.room, "half.pgm"), os.path.join(self.room, "base.pgm")]))
+        return sh(["pamarith", "-multiply", os.path.join(self.room, "scan.pgm"), os.path.join(self.room, "all.pgm")])
+
+    def test_a_shadow_is_no_shadow(self):
+        for at, ramp in enumerate((("-lr",), ("-tb",), ("-diagonal",), ("-ellipse",))):
+            batch = self.page_of(self.lit(*ramp), "--ocr", "none", name=f"OUT{at}")
+            self.assertEqual(batch.pixels(0), self.letter, ramp)
+
+    def test_words_in_a_shadow(self):
+        batch = self.page_of(self.lit("-diagonal"))
+        self.assertIn("Director of Procurement", batch.text(0))
+
+    def test_a_photograph_is_dots(self):
+        """Tones between 60 and 180 beside the letter: as dark in dots as they were, and the letter's ink as it is."""
+        photo = pgm_of(900, 700, lambda y: bytes(60 + (x + y) * 120 // 1600 for x in range(900)))
+        self.put("../letter.pgm", sh(["pbmtopgm", "1", "1"], input=self.letter))
+        pasted = sh(["pnmpaste", "-", "800", "2300", os.path.join(self.room, "letter.pgm")], input=photo)
+        batch = self.page_of(pasted, "--ocr", "none")
+        found = batch.pixels(0)
+        for left, top in ((820, 2320), (1500, 2320), (820, 2800), (1500, 2800)):
+            middle = 60 + (left - 800 + top - 2300 + 150) * 120 // 1600
+            self.assertAlmostEqual(black_share(found, left, top, 150, 150), 1 - middle / 255, delta=0.1)
+        above = lambda pbm: sh(["pamcut", "-height", "2100"], input=pbm)  # noqa: E731
+        self.assertEqual(above(found), above(self.letter))
+
+    def test_a_page_of_tones_is_dots(self):
+        batch = self.page_of(pgm_of(1200, 900, lambda y: bytes(70 + (x * y) % 97 for x in range(1200))), "--ocr", "none")
+        self.assertAlmostEqual(black_share(batch.pixels(0), 100, 100, 900, 600), 1 - 118 / 255, delta=0.15)
+
+    def test_white_letters_on_a_ground_of_grey_stay(self):
+        """As a table's head has them: a threshold alone would drop the letters or the ground."""
+        head = text_at(110, 600, "Amounts owed to tenants", 18)
+        drawn = "0.6 g 90 590 430 34 re f 1 g " + head + "0 g " + text_at(100, 540, TEXT[:60])
+        self.put("a.pdf", pdf_of([drawn]))
+        batch = self.make("--ocr", "all")
+        self.assertIn("Amounts owed to tenants", batch.text(0))
+        self.assertIn(TEXT[:30], batch.text(0))
+
+    def test_a_black_ground_stays_black(self):
+        """However large it is: what it hides is not to come out."""
+        self.put("a.pdf", pdf_of([text_at(150, 400, "secret words below", 40) + "0 g 40 100 530 600 re f " + text_at(100, 740, TEXT[:40])]))
+        batch = self.make()
+        self.assertEqual(batch.text(0), TEXT[:40])
+        self.assertEqual(black_share(batch.pixels(0), 180, 400, 2150, 2400), 1)
+
+    def test_a_page_all_black_or_white(self):
+        for grey, share in ((3, 1), (250, 0), (200, 0)):
+            batch = self.page_of(pgm_of(850, 1100, lambda y, grey=grey: bytes((grey,)) * 850), "--ocr", "none", name=f"OUT{grey}")
+            self.assertEqual(black_share(batch.pixels(0), 0, 0, 850, 1100), share)
+
+    @has("groff", "gs", "img2pdf", *IMAGEMAGICK)
+    def test_pages_of_an_office(self):
+        """The words that were written, in at most half of the bytes that dots take."""
+        sys.path.insert(0, HERE)
+        import batch_times
+
+        shutil.rmtree(self.folder)
+        sh([os.path.join(HERE, "mixed_scans.py"), os.path.join(self.room, "made"), "11"])
+        os.rename(os.path.join(self.room, "made", "in"), self.folder)
+        batch = self.make()
+        truth, found = batch_times.truth_of(os.path.join(self.room, "made")), batch_times.words_of(batch.folder)
+        for name, words in truth.items():
+            self.assertGreaterEqual(batch_times.same(words, found[name]), 0.98 * len(words), name)
+        dots = self.make("--dots", "--ocr", "none", name="DOTS")
+        self.assertLess(2 * batch_times.bytes_of(batch.folder), batch_times.bytes_of(dots.folder))
+
+
+class Pictures(Case):
+    """PNG and JPEG, as scanners and telephones make them."""
+
+    def setUp(self):
+        super().setUp()
+        self.letter = sh(["tifftopnm", "-quiet", LETTER])
+        self.grey = sh(["pbmtopgm", "1", "1"], input=self.letter)
+        self.colour = sh(["pgmtoppm", "rgb:00/00/60-rgb:ff/f4/e0"], input=self.grey)
+
+    def told(self, name="OUT", options=("--ocr", "none")):
+        batch = self.make(*options, name=name)
+        return batch, re.search(r"Resolution: ([0-9]+)", batch.told(0))[1]
+
+    def test_png_in_its_forms(self):
+        for name, pnm, how in (("bits", self.letter, []), ("grey", self.grey, []), ("colour", self.colour, []),
+                               ("deep", sh(["pamdepth", "65535"], input=self.grey), []), ("four", sh(["pamdepth", "15"], input=self.grey), [])):
+            self.put("a.png", sh(["pnmtopng", "-size=11811 11811 1", *how], input=pnm))
+            batch, inch = self.told(name=name)
+            self.assertEqual((batch.pixels(0), inch), (self.letter, "300"), name)
+
+    @has(*IMAGEMAGICK)
+    def test_a_png_that_lets_through(self):
+        """What lies behind is white."""
+        self.put("../in.pgm", self.grey)
+        sh(["convert", os.path.join(self.room, "in.pgm"), "-transparent", "white", "-density", "300", "-units", "PixelsPerInch", self.path("a.png")])
+        batch, _ = self.told()
+        self.assertEqual(batch.pixels(0), self.letter)
+
+    def test_jpeg_with_and_without_its_resolution(self):
+        for how, due in (("-density=300x300dpi", "300"), ("-density=118x118dpcm", "300"), ("-density=1x1", "300"), ("-density=72x72dpi", "300")):
+            self.put("a.jpg", sh(["pnmtojpeg", "--quality=90", how], input=self.colour))
+            batch, inch = self.told(name="J" + str(len(os.listdir(self.room))))
+            self.assertEqual(inch, due, how)
+            self.assertEqual(sh(["pamfile"], input=batch.pixels(0)).split(), sh(["pamfile"], input=self.letter).split())
+
+    def test_a_picture_without_resolution_is_a_sheet(self):
+        for width, height, inch in ((1700, 2200, "200"), (1654, 2339, "200"), (2339, 1654, "200"), (850, 1100, "100")):
+            self.put("a.png", sh(["pnmtopng"], input=sh(["pgmmake", "0.9", str(width), str(height)])))
+            batch, told = self.told(name=f"S{width}")
+            self.assertEqual(told, inch)
+            self.assertIn(f"Image Width: {width} Image Length: {height}", batch.told(0))
+
+    def test_a_fine_picture_is_made_as_fine_as_pages_are(self):
+        """A telephone's 12 million pixels."""
+        self.put("a.jpg", sh(["pnmtojpeg"], input=sh(["pgmmake", "0.9", "3024", "4032"])))
+        batch, told = self.told()
+        self.assertEqual(told, "300")
+        self.assertIn("Image Width: 2475 Image Length: 3300", batch.told(0))
+
+    @has("img2pdf")
+    def test_a_pdf_of_a_picture_without_resolution_is_a_sheet(self):
+        """By img2pdf its page is 17 by 23 inches, or more."""
+        for inch, due in ((200, "200"), (300, "300")):
+            small = sh(["pamscale", f"-width={17 * inch // 2}", f"-height={11 * inch}"], input=self.grey)
+            self.put("a.pdf", sh(["img2pdf"], input=sh(["pnmtopng"], input=small)))
+            batch, told = self.told(name=f"P{inch}", options=())
+            self.assertEqual(told, due)
+            self.assertIn(f"Image Width: {17 * inch // 2} Image Length: {11 * inch}", batch.told(0))
+            self.assertIn("Director of Procurement", batch.text(0))
+
+    def turned_jpeg(self, orientation, order="<"):
+        """A JPEG that its Exif says how to turn."""
+        data = sh(["pnmtojpeg", "--quality=95"], input=self.colour)
+        mark = b"II*\0" if order == "<" else b"MM\0*"
+        entry = struct.pack(order + "HHIHH", 274, 3, 1, orientation, 0)
+        exif = b"Exif\0\0" + mark + struct.pack(order + "IH", 8, 1) + entry + bytes(4)
+        return data[:2] + b"\xff\xe1" + struct.pack(">H", len(exif) + 2) + exif + data[2:]
+
+    @has(*IMAGEMAGICK)
+    def test_a_jpeg_is_turned_as_its_exif_says(self):
+        for orientation in range(1, 9):
+            self.put("a.jpg", self.turned_jpeg(orientation, "<>"[orientation % 2]))
+            batch, _ = self.told(name=f"T{orientation}")
+            upright = sh(["convert", self.path("a.jpg"), "-auto-orient", "-colorspace", "Gray", "-threshold", "50%", "pbm:-"])
+            self.assertEqual(sh(["pamfile"], input=batch.pixels(0)), sh(["pamfile"], input=upright))
+            both = zip(batch.pixels(0)[12:], upright[len(upright) - len(batch.pixels(0)) + 12 :], strict=True)
+            self.assertLess(sum(bin(ours ^ theirs).count("1") for ours, theirs in both), 20_000, orientation)
+
+    def test_words_are_read(self):
+        self.put("a.jpg", sh(["pnmtojpeg", "--quality=70"], input=self.colour))
+        self.assertIn("Director of Procurement", self.make().text(0))
+
+    def test_a_damaged_picture(self):
+        jpeg, png = sh(["pnmtojpeg"], input=self.colour), sh(["pnmtopng"], input=self.grey)
+        self.put("a.jpg", jpeg[: len(jpeg) // 2])
+        self.put("b.png", png[: len(png) // 2])
+        self.put("c.png", png[:40] + b"x" + png[41:])
+        self.put("d.jpg", jpeg[:30])
+        self.refused("a.jpg: the picture is damaged, jpegtopnm says: .*; have it sent once more", "b.png: the picture is damaged, pngtopam",
+                     "c.png: the picture is damaged, pngtopam", "d.jpg: the picture is damaged, its head tells no sides")
+
+
+class Upright(Case):
+    """Pages on their side or head are turned where that is wanted."""
+
+    def test_each_way(self):
+        letter = sh(["tifftopnm", "-quiet", LETTER])
+        for degrees in (90, 180, 270):
+            turned = sh(["pamflip", f"-r{degrees}"], input=letter)
+            self.put(f"{degrees}.tif", sh(["pamtotiff", "-g4", "-xresolution=300", "-yresolution=200"], input=turned))
+        shutil.copy(LETTER, self.path("0.tif"))
+        batch = self.make("--upright")
+        for at in range(4):
+            self.assertEqual(batch.pixels(at), letter, at)
+            self.assertIn("Director of Procurement", batch.text(at))
+        self.assertIn("Resolution: 200, 300", batch.told(1))
+        for degrees in (90, 180, 270):
+            self.assertIn(f"{degrees}.tif: page 1: turned by {degrees} degrees", self.said)
+
+    def test_a_page_with_few_letters_stays(self):
+        self.put("a.tif", sh(["pamtotiff", "-g4"], input=sh(["pbmmake", "-gray", "500", "300"])))
+        self.make("--upright")
+        self.assertNotIn("turned", self.said)
 
 
 def pdf_of(pages, secret="", crop=""):
@@ -490,10 +711,35 @@ class Folders(Case):
             self.page(name)
         self.put(".hidden", "x")
         self.put("mail/Thumbs.db", "x")
+        mail = ["mail/10.PDF", "mail/letter.pdf", "mail/enclosed/1.pdf", "mail/enclosed/2.pdf"]
+        alone = [["9.pdf"], ["10.pdf"], ["b/x.pdf"]]
         batch = self.make("--dpi", "72")
-        self.assertEqual(batch.families(), [["9.pdf"], ["10.pdf"], ["b/x.pdf"],
-                                            ["mail/10.PDF", "mail/letter.pdf", "mail/enclosed/1.pdf", "mail/enclosed/2.pdf"]])
+        self.assertEqual(batch.families(), alone + [[name] for name in mail])
         self.assertEqual([image[0] for image in batch.images][:2], ["OUT-0000001", "OUT-0000002"])
+        self.assertEqual(self.make("--dpi", "72", "--families", "top", name="TOP").families(), alone + [mail])
+        self.assertEqual(self.make("--dpi", "72", "--families", "leaf", name="LEAF").families(), alone + [mail[:2], mail[2:]])
+        self.put("fields.csv", "FILE,MAIL\n10.pdf,m\nmail/10.PDF,m\nmail/enclosed/2.pdf,n\nb/x.pdf,n\n9.pdf, \n")
+        by_column = self.make("--dpi", "72", "--families", "MAIL", name="COLUMN").families()
+        self.assertEqual(by_column, [["9.pdf"], ["10.pdf", "mail/10.PDF"], ["b/x.pdf", "mail/enclosed/2.pdf"],
+                                     ["mail/letter.pdf"], ["mail/enclosed/1.pdf"]])
+
+    def test_a_large_family_is_told(self):
+        for at in range(11):
+            self.page(f"Müller/2019-0{at % 3 + 1}/{at}.pdf")
+        self.make("--dpi", "72", "--families", "leaf", name="LEAF")
+        self.assertEqual(self.said, "")
+        self.make("--dpi", "72", "--families", "top")
+        self.assertEqual(self.said, "make_batch: Müller: a family of 11 documents: each goes out if one of them does\n")
+
+    def test_names_of_another_system(self):
+        """A Mac writes a letter and its accent apart; the table of fields has them as one, or the other way round."""
+        apart, as_one = "Mu\u0308ller.pdf", "Caf\u00e9.pdf"
+        self.page(apart)
+        self.page(as_one)
+        self.put("fields.csv", "FILE,A\nM\u00fcller.pdf,x\nCafe\u0301.pdf,y\n")
+        batch = self.make("--dpi", "72")
+        self.assertEqual([(record["FILENAME"], record["A"]) for record in batch.records], [("Caf\u00e9.pdf", "y"), ("M\u00fcller.pdf", "x")])
+        self.assertEqual(self.said, "")
 
     def test_fields(self):
         for name in ("a.pdf", "b/c.pdf", "d.pdf"):
@@ -531,7 +777,7 @@ class Refusals(Case):
         self.refused("/in: there is no such folder")
 
     def test_nothing_in_it(self):
-        self.refused("/in: there is no PDF and no TIFF file in it")
+        self.refused("/in: there is no PDF, TIFF, PNG or JPEG file in it")
 
     def test_all_files_at_once(self):
         self.page("good.pdf")
@@ -541,8 +787,27 @@ class Refusals(Case):
         self.put("text.tif", "no picture")
         self.put("a®b.pdf", "%PDF-1.4")
         os.symlink(self.room, self.path("link"))
-        self.refused("empty.pdf: the file is empty", "sub/letter.docx: .* print it to a PDF", "sub/photo.jpg: a JPEG",
-                     "text.tif: neither a PDF nor a TIFF file", "its name has a control character, þ or ®", "link: a link")
+        self.put("locked.pdf", pdf_of([text_at(100, 700, "page")])[:-200])
+        self.put("inside.pdf", pdf_of([text_at(100, 700, "page") + "(unended"]))
+        self.put("fields.csv", "FILE,A\nGOOD.pdf,x\nnone.pdf,y\ngood.pdf\n")
+        self.refused("empty.pdf: the file is empty", "sub/letter.docx: .* print it to a PDF", "sub/photo.jpg: the picture is damaged",
+                     "text.tif: neither a PDF nor a TIFF, PNG or JPEG picture", "its name has a control character, þ or ®", "link: a link",
+                     "locked.pdf: the PDF was cut off: it has no end, pdfinfo says: .*; have it sent once more",
+                     "inside.pdf: the PDF is damaged, pdfto.* says: Syntax Error", "line 4: 1 values under 2 columns",
+                     "line 2: the folder has no file GOOD.pdf; it has good.pdf: capitals and small letters differ",
+                     "line 3: the folder has no file none.pdf\n")
+
+    def test_many_of_a_kind_are_counted_last(self):
+        for at in range(12):
+            self.put(f"{at}.docx", b"PK\x03\x04..")
+        self.put("x.pdf", "")
+        self.put("fields.csv", "FILE,A\n" + "".join(f"none{at}.pdf,x\n" for at in range(20)))
+        ran = self.call()
+        said = [line.removeprefix("make_batch: ") for line in ran.stderr.splitlines()]
+        office = "a ZIP file or an office document: unpack it, or print it to a PDF"
+        self.assertEqual(said[:5], ["x.pdf: the file is empty", *(f"{at}.docx: {office}" for at in range(3)), ".. and 9 more likewise, 12 in all"])
+        self.assertEqual(said[5:], [*(f"fields.csv: line {at + 2}: the folder has no file none{at}.pdf" for at in range(3)),
+                                    ".. and 17 more likewise, 20 in all", "no batch was made"])
 
     def test_a_name_that_is_not_utf_8(self):
         self.page("good.pdf")
@@ -567,7 +832,11 @@ class Refusals(Case):
         self.page("../plain.pdf")
         plain = os.path.join(self.room, "plain.pdf")
         sh(["qpdf", "--encrypt", "user", "owner", "256", "--", plain, self.path("locked.pdf")])
-        self.refused("locked.pdf: pdfinfo says: .*[Pp]assword")
+        told = "locked.pdf: the PDF is encrypted, and it wants a password: give it by --password; .* qpdf --decrypt --password=WORD"
+        self.refused(told)
+        self.refused("locked.pdf: the PDF is encrypted, and none of the passwords opens it", options=["--password", "x"])
+        for at, word in enumerate(("user", "owner")):
+            self.assertEqual(self.make("--password", "x", "--password", word, name=f"OUT{at}").text(0), "page")
         sh(["qpdf", "--encrypt", "", "owner", "256", "--print=none", "--", plain, self.path("locked.pdf")])
         self.assertEqual(self.make().text(0), "page")
 
@@ -596,6 +865,7 @@ class Refusals(Case):
         for told, why in {
             "": "it has no line of names",
             "FILE,A\nb.pdf,x\n": "line 2: the folder has no file b.pdf",
+            "FILE,A\nA.PDF,x\n": "line 2: the folder has no file A.PDF; it has a.pdf: capitals and small letters differ",
             "FILE,A\na.pdf,x\n./a.pdf,y\n": "line 3: a.pdf had a line before",
             "FILE,A\na.pdf\n": "line 2: 1 values under 2 columns",
             "FILE,A,A\na.pdf,x,y\n": "column 3: A is there before",
@@ -610,6 +880,17 @@ class Refusals(Case):
             self.refused(f"fields.csv: {re.escape(why)}")
         self.put("fields.csv", b"FILE,A\na.pdf,\xe9\n")
         self.refused("fields.csv: it isn't UTF-8")
+
+    def test_families_by_no_column(self):
+        self.page("a.pdf")
+        self.refused("fields.csv: --families MAIL wants a column of this name; there is no such file", options=["--families", "MAIL"])
+        self.put("fields.csv", "FILE,A,B\na.pdf,x,y\n")
+        self.refused("fields.csv: --families MAIL wants a column of this name; its columns are A, B", options=["--families", "MAIL"])
+
+    def test_two_files_of_one_name(self):
+        self.page("M\u00fcller.pdf")
+        self.page("Mu\u0308ller.pdf")
+        self.refused("M\u00fcller.pdf: two files have this name")
 
     def test_a_batch_that_is_there(self):
         self.page("a.pdf")
@@ -635,20 +916,60 @@ class Refusals(Case):
         for options, name in (([], "a b"), ([], "x" * 33), (["--dpi", "5"], "OUT"), (["--prefix", "a,b"], "OUT"), (["--first", "x"], "OUT")):
             self.assertEqual(self.call(*options, name=name).returncode, 2)
 
-    def test_ended_while_it_works(self):
+    def begun(self, jobs, **more):
+        """The tool at work over 20 letters, once it has begun to write."""
         for at in range(20):
             shutil.copy(LETTER, self.path(f"{at}.tif"))
-        for number in (signal.SIGTERM, signal.SIGINT, signal.SIGHUP):
-            # where the tests run in the background of a shell, SIGINT is ignored by what they start
-            running = subprocess.Popen([MAKE, self.folder, os.path.join(self.room, "OUT"), "--jobs", "1"], stderr=subprocess.PIPE,
-                                       preexec_fn=lambda: signal.signal(signal.SIGINT, signal.SIG_DFL))
-            end = time.monotonic() + 60
-            while not glob.glob(os.path.join(self.room, ".OUT.*", "*")) and running.poll() is None and time.monotonic() < end:
-                time.sleep(0.05)  # until it writes
+        # where the tests run in the background of a shell, SIGINT is ignored by what they start
+        running = subprocess.Popen([MAKE, self.folder, os.path.join(self.room, "OUT"), "--jobs", jobs], stderr=subprocess.PIPE,
+                                   preexec_fn=lambda: signal.signal(signal.SIGINT, signal.SIG_DFL), **more)
+        end = time.monotonic() + 60
+        while not glob.glob(os.path.join(self.room, ".OUT.*", "OUT", "*")) and running.poll() is None and time.monotonic() < end:
+            time.sleep(0.05)
+        return running
+
+    def still_run(self):
+        """The processes whose command line names this test's room, or whose parent is gone and that run tesseract for it."""
+        found = []
+        for path in glob.glob("/proc/[0-9]*"):
+            try:
+                with open(f"{path}/environ", "rb") as file:
+                    if f"ROOM={self.room}".encode() in file.read():
+                        found.append(path)
+            except OSError:
+                pass
+        return found
+
+    def test_ended_while_it_works(self):
+        for number, jobs in ((signal.SIGTERM, "2"), (signal.SIGINT, "2"), (signal.SIGHUP, "1")):
+            running = self.begun(jobs, env={**os.environ, "ROOM": self.room})
+            self.assertGreater(len(self.still_run()), 1)
             running.send_signal(number)
             running.communicate(timeout=60)
             self.assertEqual(running.returncode, 128 + number)
             self.assertEqual(os.listdir(self.room), ["in"])
+            self.assertEqual(self.still_run(), [])
+
+    def test_killed_while_it_works(self):
+        """Nothing can be taken away then, but nothing runs on."""
+        running = self.begun("2", env={**os.environ, "ROOM": self.room})
+        running.kill()
+        running.communicate(timeout=60)
+        end = time.monotonic() + 30
+        while self.still_run() and time.monotonic() < end:
+            time.sleep(0.1)
+        self.assertEqual(self.still_run(), [])
+
+    def test_time_left_is_told_at_a_terminal(self):
+        for at in range(4):
+            self.page(f"{at}.pdf")
+        terminal, inside = os.openpty()
+        subprocess.run([MAKE, self.folder, os.path.join(self.room, "OUT"), "--dpi", "72", "--jobs", "1"], stderr=inside,
+                       stdout=subprocess.DEVNULL, check=True)
+        os.close(inside)
+        said = os.read(terminal, 65536).decode()
+        os.close(terminal)
+        self.assertRegex(said, r"page 4 of 4, about 0 s left")
 
 
 class Limits(unittest.TestCase):

@@ -17,9 +17,10 @@ use Rattle.bp_web.specs.declared.replies.Answer.TheVariants as answers
 use Rattle.bp_web.specs.declared.requests.Asked.{Asked}
 use Rattle.bp_doors.specs.Exchanges.{IsRefusalText, Sent, memory_text, text_of}
 use Rattle.bp_doors.specs.Serving.{RoseBy}
-use Rattle.bp_desk.specs.Exchanges.{Answers, AnswersRead, CallsAt, Deals, ReadsAs, Refuses, answer_from}
+use Rattle.bp_desk.specs.Exchanges.{AltersNow, Answers, AnswersRead, CallsAt, Deals, ReadsAs, Refuses, answer_from}
 use Rattle.bp_desk.specs.Exchanges.Deals.{made_none, made_one}
-use Rattle.bp_desk.specs.History.{AreOthers, HistoryView, asked_by, is_full, sent_for}
+use Rattle.bp_desk.specs.Calls.{AltersOn}
+use Rattle.bp_desk.specs.History.{AreOthers, HistoryView, asked_by, is_full, matter_of, sent_for}
 use Rattle.bp_desk.specs.Served.{Asks, IsEnough, TellsRequest, TextOfNone, WasRead}
 use Rattle.bp_desk.specs.Served.TextOfCall.{no_reply, reply}
 use Rattle.bp_desk.specs.Served.TextOfNone.{fault, no_memory, no_room, refusal}
@@ -52,7 +53,7 @@ deal_refused : (seat : ℕ) (before after : HistoryView) (made : Made) (faults :
     (text : List ℕ) (x : Exchange)
     → made.seat ≡ seat
     → Refuses before made.seat after
-    → TextOfNone (is_full after) after.room [] x text faults
+    → TextOfNone (AltersNow after) (is_full after) after.room [] x text faults
     → Sent x text
     → RoseBy faults before.faults after.faults
     → Deals seat before x after
@@ -84,13 +85,15 @@ deal_fault : (seat : ℕ) (before after : HistoryView) (made : Made) (text : Lis
     → WasRead x
     → Sent x text
     → Refuses before made.seat after × (risen before.faults ≤ after.faults)
+    × AltersOn (matter_of after) made.key made.call
     → (text ≡ reply_text answers.KeeperFault) ⊎ (text ≡ memory_text)
     → Deals seat before x after
 deal_fault seat before after made text x own asks read s is (inl t) =
     deal_refused seat before after made 1 text x own is.0
-    (fault (asked_by made) asks read t) s is.1
+    (fault (asked_by made) asks read is.2 t) s is.1
 deal_fault seat before after made text x own asks read s is (inr t) =
-    deal_refused seat before after made 0 text x own is.0 (no_memory t) s is.0.grew.faults
+    deal_refused seat before after made 0 text x own is.0 (no_memory read.needed t) s
+    is.0.grew.faults
 
 deal_full : (seat : ℕ) (before after : HistoryView) (made : Made) (count : ℕ) (text : List ℕ)
     (x : Exchange)
@@ -106,19 +109,21 @@ deal_full seat before after made count text x own asks read s is (inl t) =
     (no_room (asked_by made) asks read (eq-eqb (length after.calls) after.room is.1) refl
     (t ∙ ap (λ n. reply_text (answers.JournalFull n)) is.2)) s is.0.grew.faults
 deal_full seat before after made count text x own asks read s is (inr t) =
-    deal_refused seat before after made 0 text x own is.0 (no_memory t) s is.0.grew.faults
+    deal_refused seat before after made 0 text x own is.0 (no_memory read.needed t) s
+    is.0.grew.faults
 
 -- either text says that memory ran out
 deal_lacking : (seat : ℕ) (before after : HistoryView) (made : Made) (text : List ℕ) (x : Exchange)
     → made.seat ≡ seat
+    → WasRead x
     → Sent x text
     → Refuses before made.seat after
     → (text ≡ memory_text) ⊎ (text ≡ memory_text)
     → Deals seat before x after
-deal_lacking seat before after made text x own s is (inl t) =
-    deal_refused seat before after made 0 text x own is (no_memory t) s is.grew.faults
-deal_lacking seat before after made text x own s is (inr t) =
-    deal_refused seat before after made 0 text x own is (no_memory t) s is.grew.faults
+deal_lacking seat before after made text x own read s is (inl t) =
+    deal_refused seat before after made 0 text x own is (no_memory read.needed t) s is.grew.faults
+deal_lacking seat before after made text x own read s is (inr t) =
+    deal_refused seat before after made 0 text x own is (no_memory read.needed t) s is.grew.faults
 
 deal_given : (seat : ℕ) (before after : HistoryView) (made : Made)
     (given : Result Reply DeskRefusal) (text : List ℕ) (x : Exchange)
@@ -138,7 +143,7 @@ deal_given seat before after made (Err desk_refusals.KeeperFault) text x own ask
 deal_given seat before after made (Err (desk_refusals.JournalFull count)) text x own asks read s is t =
     deal_full seat before after made count text x own asks read s is t
 deal_given seat before after made (Err desk_refusals.OutOfMemory) text x own asks read s is t =
-    deal_lacking seat before after made text x own s is t
+    deal_lacking seat before after made text x own read s is t
 
 text_is : (answer : Answer) (result : Result (List ℕ) OutOfMemory)
     → IfOk result (λ text. text ≡ reply_text answer)
@@ -177,7 +182,7 @@ pub answer_refusal : (seat : ℕ) (history : HistoryView) (why : WebRefusal) (te
     → IsRefusalText why text
     → AnswersRead seat history (Err why) text history
 answer_refusal seat history why text (inl t) x reads stopped s =
-    made_none [] 0 text tt (λ _. refl) (no_memory t) s (grew_not history)
+    made_none [] 0 text tt (λ _. refl) (no_memory stopped.needed t) s (grew_not history)
     (grew_not history).faults
 answer_refusal seat history why text (inr t) x reads stopped s =
     made_none [] 0 text tt (λ _. refl)

@@ -17,7 +17,7 @@ use Rattle.bp_doors.specs.Exchanges.Sent.{cut, whole}
 use Rattle.bp_desk.specs.Served.{Asks, Served, TextOfCall, TextOfNone}
 use Rattle.bp_desk.specs.Served.Served.{called, nobody, uncalled}
 use Rattle.bp_desk.specs.Served.TextOfCall.{no_reply, reply}
-use Rattle.bp_desk.specs.Served.TextOfNone.{fault, no_memory, no_room, refusal}
+use Rattle.bp_desk.specs.Served.TextOfNone.{fault, no_memory, no_read, no_room, refusal}
 use Rattle.bp_desk.specs.Serving.{AreAnswered, IsAnswered}
 use Rattle.bp_desk.specs.declared.history.Made.{Made}
 use Rattle.bp_desk.proofs.HistoryLemmas.{turns_of-append}
@@ -25,80 +25,93 @@ use Rattle.bp_desk.proofs.HistoryLemmas.{turns_of-append}
 no_more : (left more : List Turn) → left ≡ [] → more ≡ [] → left ++ more ≡ []
 no_more left more l m = ap (λ turns. turns ++ more) l ∙ m
 
-pub text_later : (full full' : Bool) (room : ℕ) (left more : List Turn) (x : Exchange)
-    (text : List ℕ) (here : ℕ)
+pub text_later : (A B : Asked → Type 0) (full full' : Bool) (room : ℕ) (left more : List Turn)
+    (x : Exchange) (text : List ℕ) (here : ℕ)
+    → ((asked : Asked) → A asked → B asked)
     → (full ≡ true → full' ≡ true)
     → (full ≡ true → more ≡ [])
-    → TextOfNone full room left x text here
-    → TextOfNone full' room (left ++ more) x text here
-text_later full full' room left more x text here up none (refusal why is read t) =
+    → TextOfNone A full room left x text here
+    → TextOfNone B full' room (left ++ more) x text here
+text_later A B full full' room left more x text here wider up none (refusal why is read t) =
     refusal why is read t
-text_later full full' room left more x text here up none (no_room asked asks read f l t) =
+text_later A B full full' room left more x text here wider up none (no_room asked asks read f l t) =
     no_room asked asks read (up f) (no_more left more l (none f)) t
-text_later full full' room left more x text here up none (fault asked asks read t) =
-    fault asked asks read t
-text_later full full' room left more x text here up none (no_memory t) = no_memory t
+text_later A B full full' room left more x text here wider up none (fault asked asks read alters t) =
+    fault asked asks read (wider asked alters) t
+text_later A B full full' room left more x text here wider up none (no_memory needed t) =
+    no_memory needed t
+text_later A B full full' room left more x text here wider up none (no_read short was t) =
+    no_read short was t
+
+pub fuller : (A B : Asked → Type 0) (full full' : Bool) (room : ℕ) (left : List Turn) (x : Exchange)
+    (text : List ℕ) (here : ℕ)
+    → ((asked : Asked) → A asked → B asked)
+    → (full ≡ true → full' ≡ true)
+    → TextOfNone A full room left x text here
+    → TextOfNone B full' room left x text here
+fuller A B full full' room left x text here wider up (refusal why is read t) = refusal why is read t
+fuller A B full full' room left x text here wider up (no_room asked asks read f l t) =
+    no_room asked asks read (up f) l t
+fuller A B full full' room left x text here wider up (fault asked asks read alters t) =
+    fault asked asks read (wider asked alters) t
+fuller A B full full' room left x text here wider up (no_memory needed t) = no_memory needed t
+fuller A B full full' room left x text here wider up (no_read short was t) = no_read short was t
+
+-- the same exchanges, when the history is full, and where more calls alter what is kept
+pub served_later : (A B : Asked → Type 0) (full full' : Bool) (room : ℕ) (turns : List Turn) (n : ℕ)
+    (xs : List Exchange)
+    → ((asked : Asked) → A asked → B asked)
+    → (full ≡ true → full' ≡ true)
+    → Served A full room turns n xs
+    → Served B full' room turns n xs
+served_later A B full full' room turns n xs wider up nobody = nobody
+served_later A B full full' room turns n xs wider up (called turn left faults x others text h t s rest) =
+    called turn left faults x others text h t s
+    (served_later A B full full' room left faults others wider up rest)
+served_later A B full full' room turns n xs wider up (uncalled left here faults x others text h t s rest) =
+    uncalled left here faults x others text h
+    (fuller A B full full' room left x text here wider up t) s
+    (served_later A B full full' room left faults others wider up rest)
 
 -- exchanges that go on, over a history that goes on
-pub served_append : (full full' : Bool) (room : ℕ) (turns more : List Turn) (n k : ℕ)
-    (xs ys : List Exchange)
+pub served_append : (A B C : Asked → Type 0) (full full' : Bool) (room : ℕ) (turns more : List Turn)
+    (n k : ℕ) (xs ys : List Exchange)
+    → ((asked : Asked) → A asked → C asked)
+    → ((asked : Asked) → B asked → C asked)
     → (full ≡ true → full' ≡ true)
     → (full ≡ true → more ≡ [])
-    → Served full room turns n xs
-    → Served full' room more k ys
-    → Served full' room (turns ++ more) (n + k) (xs ++ ys)
-served_append full full' room turns more n k xs ys up none nobody after =
-    let P : ℕ → Type 0 = λ count. Served full' room more count ys in subst P (sym (zero-add k)) after
-served_append full full' room turns more n k xs ys up none (called turn left faults x others text h t s rest) after =
+    → Served A full room turns n xs
+    → Served B full' room more k ys
+    → Served C full' room (turns ++ more) (n + k) (xs ++ ys)
+served_append A B C full full' room turns more n k xs ys wider others' up none nobody after =
+    let P : ℕ → Type 0 = λ count. Served C full' room more count ys in
+    subst P (sym (zero-add k))
+    (served_later B C full' full' room more k ys others' (λ is. is) after)
+served_append A B C full full' room turns more n k xs ys wider others' up none (called turn left faults x others text h t s rest) after =
     called turn (left ++ more) (faults + k) x (others ++ ys) text h t s
-    (served_append full full' room left more faults k others ys up none rest after)
-served_append full full' room turns more n k xs ys up none (uncalled left here faults x others text h t s rest) after =
-    let P : ℕ → Type 0 = λ count. Served full' room (left ++ more) count (x ∷ (others ++ ys)) in
+    (served_append A B C full full' room left more faults k others ys wider others' up none rest after)
+served_append A B C full full' room turns more n k xs ys wider others' up none (uncalled left here faults x others text h t s rest) after =
+    let P : ℕ → Type 0 = λ count. Served C full' room (left ++ more) count (x ∷ (others ++ ys)) in
     subst P (sym (add_assoc here faults k))
     (uncalled (left ++ more) here (faults + k) x (others ++ ys) text h
-    (text_later full full' room left more x text here up none t) s
-    (served_append full full' room left more faults k others ys up none rest after))
-
-fuller : (full full' : Bool) (room : ℕ) (left : List Turn) (x : Exchange) (text : List ℕ)
-    (here : ℕ)
-    → (full ≡ true → full' ≡ true)
-    → TextOfNone full room left x text here
-    → TextOfNone full' room left x text here
-fuller full full' room left x text here up (refusal why is read t) = refusal why is read t
-fuller full full' room left x text here up (no_room asked asks read f l t) =
-    no_room asked asks read (up f) l t
-fuller full full' room left x text here up (fault asked asks read t) = fault asked asks read t
-fuller full full' room left x text here up (no_memory t) = no_memory t
-
--- the same exchanges, when the history is full
-pub served_later : (full full' : Bool) (room : ℕ) (turns : List Turn) (n : ℕ)
-    (xs : List Exchange)
-    → (full ≡ true → full' ≡ true)
-    → Served full room turns n xs
-    → Served full' room turns n xs
-served_later full full' room turns n xs up nobody = nobody
-served_later full full' room turns n xs up (called turn left faults x others text h t s rest) =
-    called turn left faults x others text h t s
-    (served_later full full' room left faults others up rest)
-served_later full full' room turns n xs up (uncalled left here faults x others text h t s rest) =
-    uncalled left here faults x others text h
-    (fuller full full' room left x text here up t) s
-    (served_later full full' room left faults others up rest)
+    (text_later A C full full' room left more x text here wider up none t) s
+    (served_append A B C full full' room left more faults k others ys wider others' up none rest after))
 
 -- by a history of which the seat had seen a beginning, with all of its calls
-pub served_history : (seat : ℕ) (opening : Matter) (seen rest : List Made) (full full' : Bool)
-    (room n : ℕ) (xs : List Exchange)
+pub served_history : (A B : Asked → Type 0) (seat : ℕ) (opening : Matter) (seen rest : List Made)
+    (full full' : Bool) (room n : ℕ) (xs : List Exchange)
+    → ((asked : Asked) → A asked → B asked)
     → (full ≡ true → full' ≡ true)
     → turns_of seat (run_calls opening seen) rest ≡ []
-    → Served full room (turns_of seat opening seen) n xs
-    → Served full' room (turns_of seat opening (seen ++ rest)) n xs
-served_history seat opening seen rest full full' room n xs up none served =
-    let P : List Turn → Type 0 = λ turns. Served full' room turns n xs in
+    → Served A full room (turns_of seat opening seen) n xs
+    → Served B full' room (turns_of seat opening (seen ++ rest)) n xs
+served_history A B seat opening seen rest full full' room n xs wider up none served =
+    let P : List Turn → Type 0 = λ turns. Served B full' room turns n xs in
     let all : turns_of seat opening seen ≡ turns_of seat opening (seen ++ rest) =
     sym (turns_of-append seat opening seen rest
     ∙ ap (λ turns. turns_of seat opening seen ++ turns) none
     ∙ append-nil (turns_of seat opening seen)) in
-    subst P all (served_later full full' room (turns_of seat opening seen) n xs up served)
+    subst P all (served_later A B full full' room (turns_of seat opening seen) n xs wider up served)
 
 -- ---- completeness
 
@@ -130,21 +143,24 @@ ok_or_err : (asked : Asked) (why : WebRefusal) (x : Exchange)
 ok_or_err asked why x asks refused =
     let same : Ok asked ≡ Err why = reads_once x.read (Ok asked) (Err why) asks refused in cc
 
-none_answered : (room : ℕ) (left : List Turn) (x : Exchange) (text : List ℕ) (here : ℕ)
-    (asked : Asked) → here ≡ 0
-    → TextOfNone false room left x text here
+none_answered : (A : Asked → Type 0) (room : ℕ) (left : List Turn) (x : Exchange) (text : List ℕ)
+    (here : ℕ) (asked : Asked) → here ≡ 0
+    → TextOfNone A false room left x text here
     → Asks x asked
+    → (WasRefused x → ⊥)
     → x.written ≡ text
     → x.written ≢ memory_text
     → IsAnswered left x
-none_answered room left x text here asked zero_is (refusal why is read t) asks w other =
+none_answered A room left x text here asked zero_is (refusal why is read t) asks un w other =
     absurd (ok_or_err asked why x asks is)
-none_answered room left x text here asked zero_is (no_room a q read f l t) asks w other =
+none_answered A room left x text here asked zero_is (no_room a q read f l t) asks un w other =
     absurd (false≢true f)
-none_answered room left x text here asked zero_is (fault a q read t) asks w other =
+none_answered A room left x text here asked zero_is (fault a q read alters t) asks un w other =
     absurd (omega (arith, zero_is))
-none_answered room left x text here asked zero_is (no_memory t) asks w other =
+none_answered A room left x text here asked zero_is (no_memory needed t) asks un w other =
     absurd (other (w ∙ t))
+none_answered A room left x text here asked zero_is (no_read short was t) asks un w other =
+    absurd (un was)
 
 later_answered : (turn : Turn) (left : List Turn) (x : Exchange)
     → IsAnswered left x
@@ -160,26 +176,26 @@ later_answered turn left x is =
     }
 
 -- where the history isn't full and no exchange was answered that the keeper failed
-pub served_complete : (full : Bool) (room : ℕ) (turns : List Turn) (n : ℕ) (xs : List Exchange)
+pub served_complete : (A : Asked → Type 0) (full : Bool) (room : ℕ) (turns : List Turn) (n : ℕ) (xs : List Exchange)
     → full ≡ false
     → n ≡ 0
-    → Served full room turns n xs
+    → Served A full room turns n xs
     → AreAnswered turns xs
-served_complete full room turns n xs unfull zero_is nobody k x asked at asks f l other = cc
-served_complete full room turns n xs unfull zero_is (called turn left faults y others text h t s rest) zero x asked at asks f l other =
+served_complete A full room turns n xs unfull zero_is nobody k x asked at asks f l other = cc
+served_complete A full room turns n xs unfull zero_is (called turn left faults y others text h t s rest) zero x asked at asks f l other =
     let same : y ≡ x = cc in
     let P : Exchange → Type 0 = λ z. TextOfCall turn z text in
     let Q : Exchange → Type 0 = λ z. Sent z text in
     call_answered turn left x text (subst P same t) (sent_whole x text f l (subst Q same s)) other
-served_complete full room turns n xs unfull zero_is (called turn left faults y others text h t s rest) (suc k) x asked at asks f l other =
+served_complete A full room turns n xs unfull zero_is (called turn left faults y others text h t s rest) (suc k) x asked at asks f l other =
     later_answered turn left x
-    (served_complete full room left faults others unfull zero_is rest k x asked at asks f l other)
-served_complete full room turns n xs unfull zero_is (uncalled left here faults y others text h t s rest) zero x asked at asks f l other =
+    (served_complete A full room left faults others unfull zero_is rest k x asked at asks f l other)
+served_complete A full room turns n xs unfull zero_is (uncalled left here faults y others text h t s rest) zero x asked at asks f l other =
     let same : y ≡ x = cc in
-    let P : Exchange → Type 0 = λ z. TextOfNone full room left z text here in
+    let P : Exchange → Type 0 = λ z. TextOfNone A full room left z text here in
     let Q : Exchange → Type 0 = λ z. Sent z text in
-    let R : Bool → Type 0 = λ b. TextOfNone b room left x text here in
-    none_answered room left x text here asked (omega (arith, zero_is))
-    (subst R unfull (subst P same t)) asks (sent_whole x text f l (subst Q same s)) other
-served_complete full room turns n xs unfull zero_is (uncalled left here faults y others text h t s rest) (suc k) x asked at asks f l other =
-    served_complete full room left faults others unfull (omega (arith, zero_is)) rest k x asked at asks f l other
+    let R : Bool → Type 0 = λ b. TextOfNone A b room left x text here in
+    none_answered A room left x text here asked (omega (arith, zero_is))
+    (subst R unfull (subst P same t)) asks (unrefused x f l) (sent_whole x text f l (subst Q same s)) other
+served_complete A full room turns n xs unfull zero_is (uncalled left here faults y others text h t s rest) (suc k) x asked at asks f l other =
+    served_complete A full room left faults others unfull (omega (arith, zero_is)) rest k x asked at asks f l other

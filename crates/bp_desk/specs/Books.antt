@@ -1,5 +1,5 @@
 -- What the calls of a book do.
-use Rattle.std.specs.Prelude.{Bool, true, false, if◌then◌else◌, ◌≡◌, ◌≢◌, ◌<◌, ℕ, List, [], ◌∷◌, ◌++◌, length, Result, Ok, Err, Some, IfSome, IsOkAnd, IsTrue, is_some}
+use Rattle.std.specs.Prelude.{Bool, true, false, if◌then◌else◌, ◌≡◌, ◌<◌, ℕ, List, [], ◌∷◌, ◌++◌, length, Result, Ok, Err, Some, IfSome, IsTrue, is_some}
 use Rattle.bp_core.specs.Counts.{risen}
 use Rattle.bp_core.specs.declared.rules.Rule.{Rule}
 use Rattle.bp_keep.specs.Keeper.{KeeperView}
@@ -10,7 +10,7 @@ use Rattle.bp_rules.specs.Loading.{LoadsTables}
 use Rattle.bp_rules.specs.Steps.{AtMostOnce}
 use Rattle.bp_rules.specs.declared.refusals.MatterRefusal.{MatterRefusal}
 use Rattle.bp_rules.specs.declared.refusals.MatterRefusal.TheVariants as stops
-use Rattle.bp_desk.specs.Calls.{answer_to, step_with}
+use Rattle.bp_desk.specs.Calls.{AltersOn, answer_to}
 use Rattle.bp_desk.specs.Shown.{BookView, tables_of}
 use Rattle.bp_desk.specs.declared.history.Made.{Made}
 use Rattle.bp_desk.specs.declared.refusals.DeskRefusal.{DeskRefusal}
@@ -61,8 +61,7 @@ pub record Full (before : BookView) (count : ℕ) (after : BookView) : Type 0 wh
 
 -- the call breaks no rule, and changes the matter
 abbrev pub Alters : BookView → Made → Type 0
-Alters before made =
-    IsOkAnd (step_with (tables_of before) made) (λ stepped. stepped.matter ≢ tables_of before)
+Alters before made = AltersOn (tables_of before) made.key made.call
 
 -- what a call gives: the answer at the end of the journal; or a fault of the keeper at a call that
 -- alters the matter, a full journal, or want of memory, after which the call doesn't stand in it

@@ -1,5 +1,5 @@
 -- A history of calls: what each is answered, and what it makes of a matter.
-use Rattle.std.specs.Prelude.{ℕ, List, [], ◌∷◌, Result, Ok, Err}
+use Rattle.std.specs.Prelude.{◌≢◌, ℕ, List, [], ◌∷◌, ◌++◌, ◌≡◌, Result, Ok, Err, IsOkAnd}
 use Rattle.bp_core.specs.declared.rules.Rule.{Rule}
 use Rattle.bp_matter.specs.Matter.{Matter}
 use Rattle.bp_matter.specs.declared.calls.Call.{Call}
@@ -29,6 +29,10 @@ step_with m made = step_of m made.key made.call
 abbrev pub answer_to : Matter → Made → Result Reply Rule
 answer_to m made = answer_by (step_with m made)
 
+-- the call breaks no rule on this matter, and changes it
+abbrev pub AltersOn : Matter → List ℕ → Call → Type 0
+AltersOn m key call = IsOkAnd (step_of m key call) (λ stepped. stepped.matter ≢ m)
+
 -- the matter after a call
 abbrev pub matter_with : Matter → Made → Matter
 matter_with m made = matter_by m (step_with m made)
@@ -37,3 +41,10 @@ matter_with m made = matter_by m (step_with m made)
 abbrev pub run_calls : Matter → List Made → Matter
 run_calls m [] = m
 run_calls m (made ∷ more) = run_calls (matter_with m made) more
+
+-- it does so behind some beginning of these calls
+pub record AltersAmong (m : Matter) (made : List Made) (key : List ℕ) (call : Call) : Type 0 where
+  pub before : List Made
+  pub behind : List Made
+  pub all : made ≡ before ++ behind
+  pub alters : AltersOn (run_calls m before) key call

@@ -13,12 +13,14 @@ use Rattle.bp_web.specs.declared.refusals.WebRefusal.TheVariants as web_refusals
 use Rattle.bp_web.specs.declared.replies.Answer.{Answer}
 use Rattle.bp_web.specs.declared.replies.Answer.TheVariants as answers
 use Rattle.bp_web.specs.declared.requests.Asked.{Asked}
-use Rattle.bp_desk.specs.Calls.{answer_to, run_calls}
+use Rattle.bp_desk.specs.Calls.{AltersOn, answer_to, run_calls}
 use Rattle.bp_desk.specs.History.{AreOthers, Grew, HistoryView, is_full, matter_of, turn_of}
-use Rattle.bp_doors.specs.Exchanges.{Sent, memory_text}
+use Rattle.bp_doors.specs.Exchanges.{Sent, WasCut, memory_text}
+use Rattle.bp_doors.specs.Exchanges.Sent.{whole}
+use Rattle.bp_doors.specs.Exchanges.WasCut.{no_read as cut_read, no_room as cut_room}
 use Rattle.bp_doors.specs.Serving.{RoseBy}
-use Rattle.bp_desk.specs.Served.{TextOfCall, TextOfNone, WasRead}
-use Rattle.bp_desk.specs.Served.TextOfNone.{no_memory}
+use Rattle.bp_desk.specs.Served.{TellsRequest, TextOfCall, TextOfNone, WasRead}
+use Rattle.bp_desk.specs.Served.TextOfNone.{no_memory, no_read}
 use Rattle.bp_desk.specs.declared.history.Made.{Made}
 use Rattle.bp_desk.specs.declared.refusals.DeskRefusal.{DeskRefusal}
 use Rattle.bp_desk.specs.declared.refusals.DeskRefusal.TheVariants as desk_refusals
@@ -42,12 +44,13 @@ pub record Refuses (before : HistoryView) (seat : ℕ) (after : HistoryView) : T
   pub within : length after.calls ≤ after.room
 
 -- what a call gives: a reply or a broken rule is the answer at its place; each other refusal leaves
--- the calls of this seat
+-- the calls of this seat. The keeper failed at a call that alters the matter
 abbrev pub CallsAt : HistoryView → Made → Result Reply DeskRefusal → HistoryView → Type 0
 CallsAt before made (Ok reply) after = Answers before made (Ok reply) after
 CallsAt before made (Err (desk_refusals.Rule rule)) after = Answers before made (Err rule) after
 CallsAt before made (Err desk_refusals.KeeperFault) after =
     Refuses before made.seat after × (risen before.faults ≤ after.faults)
+    × AltersOn (matter_of after) made.key made.call
 CallsAt before made (Err (desk_refusals.JournalFull count)) after =
     Refuses before made.seat after × (length after.calls ≡ after.room) × (count ≡ after.room)
 CallsAt before made (Err desk_refusals.OutOfMemory) after = Refuses before made.seat after
@@ -68,6 +71,10 @@ ReadsAs bytes request = request ≢ Err web_refusals.OutOfMemory → HttpReads b
 
 -- ---- an exchange
 
+-- a call for what was asked alters the matter after this history
+abbrev pub AltersNow : HistoryView → Asked → Type 0
+AltersNow history asked = AltersOn (matter_of history) asked.key asked.call
+
 -- what an exchange did: it made one call, behind calls of others, or none
 pub data Deals (seat : ℕ) (before : HistoryView) (x : Exchange) (after : HistoryView)
     : Type 0 where
@@ -77,22 +84,30 @@ pub data Deals (seat : ℕ) (before : HistoryView) (x : Exchange) (after : Histo
       → Grew before (others ++ made ∷ []) after → Deals seat before x after
   made_none : (others : List Made) (faults : ℕ) (text : List ℕ)
       → AreOthers seat others → (is_full before ≡ true → others ≡ [])
-      → TextOfNone (is_full after) after.room [] x text faults → Sent x text
+      → TextOfNone (AltersNow after) (is_full after) after.room [] x text faults → Sent x text
       → Grew before others after → RoseBy faults before.faults after.faults
       → Deals seat before x after
 
--- what is sent to nobody, or says that memory ran out, leaves all
-pub deal_memory : (seat : ℕ) (history : HistoryView) (x : Exchange)
-    → Sent x memory_text
-    → Deals seat history x history
-deal_memory seat history x s =
-    let same : history.faults ≤ history.faults = le_refl history.faults in
-    made_none [] 0 memory_text tt (λ _. refl) (no_memory refl) s (record {
+-- a history in which nothing came
+pub grew_none : (history : HistoryView) → Grew history [] history
+grew_none history =
+    record {
       opening = refl;
       calls = sym (append-nil history.calls);
       room = refl;
-      faults = same;
-    }) same
+      faults = le_refl history.faults;
+    }
+
+-- an exchange that came to no answer leaves all
+pub deal_cut : (seat : ℕ) (history : HistoryView) (x : Exchange)
+    → WasCut TellsRequest x
+    → Deals seat history x history
+deal_cut seat history x (cut_room needed s) =
+    made_none [] 0 memory_text tt (λ _. refl) (no_memory needed refl) s (grew_none history)
+    (grew_none history).faults
+deal_cut seat history x (cut_read short refused none) =
+    made_none [] 0 [] tt (λ _. refl) (no_read short refused refl) (whole none) (grew_none history)
+    (grew_none history).faults
 
 -- an answer to what was read of bytes deals so in every exchange that read them whole and was sent
 -- it

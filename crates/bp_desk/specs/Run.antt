@@ -4,6 +4,8 @@ use Rattle.std.specs.Option.{option_map}
 use Rattle.bp_matter.specs.Matter.{Matter}
 use Rattle.bp_outside.specs.Door.{DoorView}
 use Rattle.bp_outside.specs.declared.exchange.Exchange.{Exchange}
+use Rattle.bp_web.specs.declared.requests.Asked.{Asked}
+use Rattle.bp_desk.specs.Calls.{AltersAmong}
 use Rattle.bp_desk.specs.History.{AreOthers, HistoryView, turns_of}
 use Rattle.bp_desk.specs.Served.{Served}
 use Rattle.bp_desk.specs.Serving.{AreAnswered, Returned, ServesDoor, raised}
@@ -13,9 +15,13 @@ use Rattle.bp_desk.specs.declared.history.Made.{Made}
 abbrev pub fills : List Made → ℕ → Bool
 fills history room = length history == room
 
+-- a call for what was asked alters the matter behind some beginning of a history
+abbrev pub AltersIn : Matter → List Made → Asked → Type 0
+AltersIn opening history asked = AltersAmong opening history asked.key asked.call
+
 -- A door was served for its seat: so many accepts were tried, or the last of fewer found it closed;
 -- its new exchanges use up the calls of the seat in the history, and so many of them were answered
--- that the keeper failed. Where the history isn't full and there were none of these, each exchange
+-- that the keeper failed, each at a call that alters the matter at some place of the history. Where the history isn't full and there were none of these, each exchange
 -- that was not cut or out of memory was answered.
 pub record DoorServed (opening : Matter) (history : List Made) (room seat connections faults : ℕ)
     (door door' : DoorView) : Type 0 where
@@ -24,7 +30,8 @@ pub record DoorServed (opening : Matter) (history : List Made) (room seat connec
   pub told : door'.exchanges ≡ option_map (λ old. old ++ exchanges) door.exchanges
   pub accepts : door'.accepts ≡ raised tried door.accepts
   pub returned : Returned connections tried door'
-  pub served : Served (fills history room) room (turns_of seat opening history) faults exchanges
+  pub served : Served (AltersIn opening history) (fills history room) room
+      (turns_of seat opening history) faults exchanges
   pub complete : fills history room ≡ false → faults ≡ 0
       → AreAnswered (turns_of seat opening history) exchanges
 

@@ -7,7 +7,8 @@ use Rattle.bp_web.specs.Requests.{HttpReads, IsWhole, ReadAlike}
 use Rattle.bp_web.specs.declared.refusals.WebRefusal.{WebRefusal}
 use Rattle.bp_web.specs.declared.replies.Answer.TheVariants as answers
 use Rattle.bp_web.specs.declared.requests.Asked.{Asked}
-use Rattle.bp_doors.specs.Exchanges.{Sent, WasRead as WasReadBy, memory_text}
+use Rattle.bp_doors.specs.Exchanges.{Sent, WasRead as WasReadBy, WasRefused, memory_text}
+use Rattle.bp_outside.specs.Input.{WasNeeded}
 use Rattle.bp_desk.specs.History.{Turn}
 
 -- whatever bytes follow these, they are read as the same request
@@ -19,7 +20,8 @@ abbrev pub TellsRequest : List ℕ → Bool → Type 0
 TellsRequest bytes true = IsEnough bytes
 TellsRequest bytes false = ¬ (IsWhole bytes) × ¬ (NeverBegins (start_of bytes))
 
--- reading stopped because the bytes were enough, or at the end of input
+-- reading stopped because the bytes were enough, or at the end of input, and went on no further than
+-- was needed
 abbrev pub WasRead : Exchange → Type 0
 WasRead x = WasReadBy TellsRequest x
 
@@ -33,31 +35,36 @@ pub data TextOfCall (turn : Turn) (x : Exchange) (text : List ℕ) : Type 0 wher
   no_reply : Asks x turn.asked → WasRead x → text ≡ memory_text → TextOfCall turn x text
 
 -- What may be sent in one that made no call: why the bytes are no request; that the history is
--- full, where no call of the seat is left; that the keeper failed, which counts as one; or that
--- memory ran out.
-pub data TextOfNone (full : Bool) (room : ℕ) (left : List Turn) (x : Exchange) (text : List ℕ)
-    : ℕ → Type 0 where
+-- full, where no call of the seat is left; that the keeper failed, at a call that alters what is
+-- kept, which counts as one; that memory ran out; or nothing, where a read was refused that was still
+-- needed.
+pub data TextOfNone (Alters : Asked → Type 0) (full : Bool) (room : ℕ) (left : List Turn)
+    (x : Exchange) (text : List ℕ) : ℕ → Type 0 where
   refusal : (why : WebRefusal) → HttpReads x.read (Err why) → WasRead x
-      → text ≡ reply_text (answers.Web why) → TextOfNone full room left x text 0
+      → text ≡ reply_text (answers.Web why) → TextOfNone Alters full room left x text 0
   no_room : (asked : Asked) → Asks x asked → WasRead x
       → full ≡ true → left ≡ []
-      → text ≡ reply_text (answers.JournalFull room) → TextOfNone full room left x text 0
-  fault : (asked : Asked) → Asks x asked → WasRead x
-      → text ≡ reply_text answers.KeeperFault → TextOfNone full room left x text 1
-  no_memory : text ≡ memory_text → TextOfNone full room left x text 0
+      → text ≡ reply_text (answers.JournalFull room) → TextOfNone Alters full room left x text 0
+  fault : (asked : Asked) → Asks x asked → WasRead x → Alters asked
+      → text ≡ reply_text answers.KeeperFault → TextOfNone Alters full room left x text 1
+  no_memory : WasNeeded TellsRequest x.read → text ≡ memory_text
+      → TextOfNone Alters full room left x text 0
+  no_read : TellsRequest x.read false → WasRefused x → text ≡ []
+      → TextOfNone Alters full room left x text 0
 
 -- The exchanges of a door, in order, use up the calls of its seat, in order, and none is left over.
--- Each was hung up. So many were answered that the keeper failed. The history is full or not, and
--- has this room.
-pub data Served (full : Bool) (room : ℕ) : List Turn → ℕ → List Exchange → Type 0 where
-  nobody : Served full room [] 0 []
+-- Each was hung up. So many were answered that the keeper failed, each at a call that alters what is
+-- kept. The history is full or not, and has this room.
+pub data Served (Alters : Asked → Type 0) (full : Bool) (room : ℕ)
+    : List Turn → ℕ → List Exchange → Type 0 where
+  nobody : Served Alters full room [] 0 []
   called : (turn : Turn) (left : List Turn) (faults : ℕ) (x : Exchange) (others : List Exchange)
       (text : List ℕ)
       → x.hung_up ≡ true → TextOfCall turn x text → Sent x text
-      → Served full room left faults others
-      → Served full room (turn ∷ left) faults (x ∷ others)
+      → Served Alters full room left faults others
+      → Served Alters full room (turn ∷ left) faults (x ∷ others)
   uncalled : (left : List Turn) (here faults : ℕ) (x : Exchange) (others : List Exchange)
       (text : List ℕ)
-      → x.hung_up ≡ true → TextOfNone full room left x text here → Sent x text
-      → Served full room left faults others
-      → Served full room left (here + faults) (x ∷ others)
+      → x.hung_up ≡ true → TextOfNone Alters full room left x text here → Sent x text
+      → Served Alters full room left faults others
+      → Served Alters full room left (here + faults) (x ∷ others)

@@ -1,5 +1,5 @@
 // The tables of a matter with their keeper and the journal of calls.
-ghost use Rattle.std.specs.Prelude.{◌≡◌, ◌≤◌, ◌<◌, length, vec_capacity, vec_len, IfErr, IfOk};
+ghost use Rattle.std.specs.Prelude.{◌≡◌, ◌≤◌, ◌<◌, ◌^◌, length, vec_capacity, vec_len, IfErr, IfOk};
 ghost use Rattle.bp_rules.specs.Loading.{LoadsTables};
 ghost use Rattle.bp_rules.specs.Steps.{KeepsRows};
 ghost use Rattle.bp_desk.specs.Books.{BookCalls, Opens, StaysWith, answer_of_step, entered_if, is_made};
@@ -103,7 +103,7 @@ impl<K: Keeper> Book<K> {
         ensures keeper { StaysWith self.old.keeper self.new.keeper }
         ensures rose { self.old.keeper.faults ≤ self.new.keeper.faults }
     {
-        let _before = self.keeper.faults();
+        know_faults(&self.keeper);
         if self.journal.len() as u64 >= self.room {
             return Err(DeskRefusal::JournalFull { count: self.room });
         }
@@ -124,14 +124,6 @@ impl<K: Keeper> Book<K> {
         ensures { result ≡ self.now.keeper.faults }
     {
         self.keeper.faults()
-    }
-
-    /// How many calls the journal may have.
-    pub fn room(&self) -> u64
-        ensures is { result ≡ self.now.room }
-        ensures most { result ≤ MOST_CALLS }
-    {
-        self.room
     }
 
     /// The keeper, the tables after all calls, and the calls.
@@ -155,6 +147,13 @@ impl<K: Keeper> Book<K> {
             history: History::from_vec(journal),
         }
     }
+}
+
+// A keeper's count of faults is a u64.
+fn know_faults<K: Keeper>(keeper: &K)
+    ensures { (K.shows keeper.now).faults < 2 ^ 64 }
+{
+    let _count = keeper.faults();
 }
 
 // The call as the journal has it.

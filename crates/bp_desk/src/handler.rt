@@ -32,13 +32,13 @@ impl<'a, C> Enough for CallHandler<'a, C> {
 }
 
 impl<'a, S, C: Caller<S>> Handler<S, ()> for CallHandler<'a, C> {
-    ghost use Rattle.bp_desk.specs.Exchanges.{Deals as CallDeals, deal_memory};
+    ghost use Rattle.bp_desk.specs.Exchanges.{Deals as CallDeals, deal_cut};
 
     ghost Keeps = { λ h v. C.Keeps h.caller.now v.0 };
 
     ghost Deals = { λ h v x _ w. CallDeals (C.seat h.caller.now) (C.knows v.0) x (C.knows w.0) };
 
-    ghost cut_off = { λ h v x sent_. deal_memory (C.seat h.caller.now) (C.knows v.0) x sent_ };
+    ghost cut_off = { λ h v x was_cut. deal_cut (C.seat h.caller.now) (C.knows v.0) x was_cut };
 
     fn answer(&self, alloc: Global, at: &mut S, _by: &mut (), bytes: &[u8]) -> Answered {
         let request = read_by(alloc, self.routes.as_ref(), bytes);

@@ -1,12 +1,16 @@
 -- Worked examples of the definitions in specs/, each run by the check: texts sent whole, cut and not,
 -- counts up to their end, and a handler that counts what it makes.
-use Rattle.std.proofs.Common.{◌≡◌, ℕ, ◌+◌, ◌-◌, ◌^◌, Bool, true, false, List, [], ◌∷◌, codes, refl, arith, inl, inr}
+use Rattle.std.proofs.Common.{◌≡◌, ◌⊎◌, ℕ, ◌+◌, ◌-◌, ◌^◌, ◌<◌, nat_le, Bool, true, false, List, [], ◌∷◌, length, codes, refl, ap, arith, inl, inr, length-append}
 use Rattle.std.specs.Prelude.{Some, None, Ok, Err}
+use Rattle.std.proofs.lemmas.Bool.Decides.{nat_tests}
 use Rattle.bp_outside.specs.Door.{DoorView}
+use Rattle.bp_outside.specs.Input.{WasNeeded}
+use Rattle.bp_outside.specs.declared.input.TheConstants.{INPUT_CHUNK}
 use Rattle.bp_outside.specs.declared.exchange.Exchange.{Exchange}
 use Rattle.bp_web.specs.declared.refusals.WebRefusal.TheVariants as refusals
-use Rattle.bp_doors.specs.Exchanges.{AnswersBytes, IsRefusalText, Sent, Talks, WasRead, memory_text, text_of}
+use Rattle.bp_doors.specs.Exchanges.{AnswersBytes, IsRefusalText, Sent, WasCut, WasRead, memory_text, text_of}
 use Rattle.bp_doors.specs.Exchanges.Sent.{cut, whole}
+use Rattle.bp_doors.specs.Exchanges.WasCut.{no_read, no_room}
 use Rattle.bp_doors.specs.Serving.{InTurn, Returned, RoseBy, Serves, ServesDoor, count_if, made_in, raised}
 use Rattle.bp_doors.specs.Serving.InTurn.{next, nobody}
 
@@ -30,11 +34,60 @@ never_enough bytes true = ⊥
 never_enough bytes false = Unit {0}
 
 to_the_end : WasRead never_enough (exchanged (codes "a") [])
-to_the_end = inr refl
+to_the_end =
+    record {
+      stopped = inr refl;
+      needed = record {
+        front = [];
+        last = codes "a";
+        all = refl;
+        few = omega arith;
+        needed = inr tt;
+      };
+    }
 
 not_to_the_end : WasRead never_enough (record (exchanged (codes "a") []) { ended = false }) → ⊥
-not_to_the_end (inl told) = told
-not_to_the_end (inr ended) = absurd cc
+not_to_the_end read = neither read.stopped
+  where
+    neither : ⊥ ⊎ (false ≡ true) → ⊥
+    neither (inl told) = told
+    neither (inr ended) = absurd cc
+
+-- one byte is enough
+abbrev one_is_enough : List ℕ → Bool → Type 0
+one_is_enough bytes told = told ≡ nat_le 1 (length bytes)
+
+none_of : (n : ℕ) → false ≡ nat_le 1 n → n ≡ 0
+none_of n short = grind (arith, nat_tests, short)
+
+-- more bytes than one read gives, behind those that were enough, weren't needed
+not_read_on : (bytes : List ℕ) → INPUT_CHUNK < length bytes → WasNeeded one_is_enough bytes → ⊥
+not_read_on bytes many read = too_many read.needed
+  where
+    too_many : (bytes ≡ []) ⊎ one_is_enough read.front false → ⊥
+    too_many (inl none) = absurd (omega (arith, many, ap length none))
+    too_many (inr short) =
+        absurd (omega (
+          arith,
+          many,
+          none_of (length read.front) short,
+          read.few,
+          ap length read.all,
+          length-append read.front read.last,
+        ))
+
+-- nor is an exchange cut off behind them
+not_cut_off : (bytes written : List ℕ)
+    → INPUT_CHUNK < length bytes
+    → WasCut one_is_enough (exchanged bytes written)
+    → ⊥
+not_cut_off bytes written many (no_room needed sent_) = not_read_on bytes many needed
+not_cut_off bytes written many (no_read short refused none) =
+    absurd (omega (arith, many, none_of (length bytes) short))
+
+-- a read that was refused before anything came
+cut_off : WasCut one_is_enough (record (exchanged [] []) { failed = true })
+cut_off = no_read refl (inl refl) refl
 
 sent_whole : Sent (exchanged (codes "a") (codes "bc")) (codes "bc")
 sent_whole = whole refl

@@ -6,7 +6,7 @@ use Rattle.std.proofs.lemmas.List.{take-append-drop}
 use Rattle.bp_core.specs.declared.refusals.OutOfMemory.{OutOfMemory}
 use Rattle.bp_outside.proofs.DoorLemmas.{told_changed}
 use Rattle.bp_outside.specs.Door.{DoorView, Sends, after_refusal, changed, fresh, hung, refused, to_last, took, wrote}
-use Rattle.bp_outside.specs.Input.{StopsAt, TakesPart, TakesWhole}
+use Rattle.bp_outside.specs.Input.{StopsAt, TakesPart, TakesWhole, WasNeeded}
 use Rattle.bp_outside.specs.declared.exchange.Exchange.{Exchange}
 use Rattle.bp_outside.specs.declared.refusals.DoorRefusal.{DoorRefusal}
 use Rattle.bp_outside.specs.declared.refusals.DoorRefusal.TheVariants as door_refusals
@@ -14,8 +14,9 @@ use Rattle.bp_web.specs.Replies.{reply_text}
 use Rattle.bp_web.specs.declared.refusals.WebRefusal.{WebRefusal}
 use Rattle.bp_web.specs.declared.refusals.WebRefusal.TheVariants as web_refusals
 use Rattle.bp_web.specs.declared.replies.Answer.TheVariants as answers
-use Rattle.bp_doors.specs.Exchanges.{AnswersBytes, Changes, IsRefusalText, Sent, Talks, WasRead, memory_text, text_of}
+use Rattle.bp_doors.specs.Exchanges.{AnswersBytes, Changes, IsRefusalText, Sent, Talks, WasCut, WasRead, memory_text, text_of}
 use Rattle.bp_doors.specs.Exchanges.Sent.{cut, whole}
+use Rattle.bp_doors.specs.Exchanges.WasCut.{no_read, no_room}
 
 -- ---- what passes in an exchange
 
@@ -95,49 +96,57 @@ talk_sent Deals w w' made door between after bytes ended text (Err door_refusals
     }
 
 -- memory ran out before all was read
-pub talk_memory : {W : Type 0} (Deals : W → Exchange → Bool → W → Type 0) (w : W)
+pub talk_memory : {W : Type 0} (Tells : List ℕ → Bool → Type 0)
+    (Deals : W → Exchange → Bool → W → Type 0) (w : W)
     (door between after : DoorView) (said : List ℕ) (result : Result (Unit {0}) DoorRefusal)
-    → ((x : Exchange) → Sent x memory_text → Deals w x false w)
-    → TakesPart door between
+    → ((x : Exchange) → WasCut Tells x → Deals w x false w)
+    → TakesPart Tells door between
     → said ≡ memory_text
     → Sends between said result after
     → Talks Deals w door false w after
-talk_memory Deals w door between after said result cut_off part spoken sent_ =
+talk_memory Tells Deals w door between after said result cut_off part spoken sent_ =
     let P : List ℕ → Type 0 = λ t. Sends between t result after in
     talk_sent Deals w w false door between after part.some false memory_text result part.read
-    (subst P spoken sent_) (λ x r e s. cut_off x s)
+    (subst P spoken sent_)
+    (λ x r e s. cut_off x (no_room (subst (WasNeeded Tells) (sym r) part.needed) s))
 
 -- a read was refused
-pub talk_refused : {W : Type 0} (Deals : W → Exchange → Bool → W → Type 0) (w : W)
-    (door after : DoorView) (why : DoorRefusal)
-    → ((x : Exchange) → Sent x memory_text → Deals w x false w)
-    → StopsAt door why after
+pub talk_refused : {W : Type 0} (Tells : List ℕ → Bool → Type 0)
+    (Deals : W → Exchange → Bool → W → Type 0) (w : W) (door after : DoorView) (why : DoorRefusal)
+    → ((x : Exchange) → WasCut Tells x → Deals w x false w)
+    → StopsAt Tells door why after
     → Talks Deals w door false w after
-talk_refused Deals w door after door_refusals.Failed cut_off stop =
+talk_refused Tells Deals w door after door_refusals.Failed cut_off stop =
     let bytes = stop.some in
     record {
       change = λ x. refused door_refusals.Failed (took bytes false x);
       changes = changes_refused (took bytes false) door_refusals.Failed door after stop.read;
       deals = cut_off (hung (refused door_refusals.Failed (took bytes false fresh)))
-          (cut (inl refl) memory_text refl);
+          (no_read stop.short (inl refl) refl);
     }
-talk_refused Deals w door after door_refusals.OutOfMemory cut_off stop =
+talk_refused Tells Deals w door after door_refusals.OutOfMemory cut_off stop =
     let bytes = stop.some in
     record {
       change = λ x. refused door_refusals.OutOfMemory (took bytes false x);
       changes = changes_refused (took bytes false) door_refusals.OutOfMemory door after stop.read;
       deals = cut_off (hung (refused door_refusals.OutOfMemory (took bytes false fresh)))
-          (cut (inr refl) memory_text refl);
+          (no_read stop.short (inr refl) refl);
     }
 
 was_read : (Tells : List ℕ → Bool → Type 0) (x : Exchange) (bytes : List ℕ) (ended : Bool)
     → x.read ≡ bytes
     → x.ended ≡ ended
     → Tells bytes true ⊎ (ended ≡ true)
+    → WasNeeded Tells bytes
     → WasRead Tells x
-was_read Tells x bytes ended r e (inl enough) =
-    let P : List ℕ → Type 0 = λ b. Tells b true in inl (subst P (sym r) enough)
-was_read Tells x bytes ended r e (inr all) = inr (e ∙ all)
+was_read Tells x bytes ended r e (inl enough) needed =
+    let P : List ℕ → Type 0 = λ b. Tells b true in
+    record {
+      stopped = inl (subst P (sym r) enough);
+      needed = subst (WasNeeded Tells) (sym r) needed;
+    }
+was_read Tells x bytes ended r e (inr all) needed =
+    record { stopped = inr (e ∙ all); needed = subst (WasNeeded Tells) (sym r) needed }
 
 -- the bytes were read whole
 pub talk_whole : {W : Type 0} (Tells : List ℕ → Bool → Type 0)
@@ -152,7 +161,7 @@ pub talk_whole : {W : Type 0} (Tells : List ℕ → Bool → Type 0)
     → Talks Deals w door made w' after
 talk_whole Tells Deals w w' made door between after bytes seen text said result all is answers_ spoken sent_ =
     let stopped : (x : Exchange) → x.read ≡ bytes → x.ended ≡ all.ended → WasRead Tells x =
-    λ x r e. was_read Tells x bytes all.ended r e all.whole in
+    λ x r e. was_read Tells x bytes all.ended r e all.whole all.needed in
     let P : List ℕ → Type 0 = λ t. Sends between t result after in
     talk_sent Deals w w' made door between after bytes all.ended text result all.read
     (subst P spoken sent_) (λ x r e s. answers_ x (r ∙ sym is) (stopped x r e) s)

@@ -1,8 +1,9 @@
 -- One exchange at a door: whether it was read whole, what was sent in it, and what it comes to.
-use Rattle.std.specs.Prelude.{◌≡◌, ◌⊎◌, ℕ, Bool, true, List, ◌++◌, Result, Ok, Err}
+use Rattle.std.specs.Prelude.{◌≡◌, ◌⊎◌, ℕ, Bool, true, false, List, [], ◌++◌, Result, Ok, Err}
 use Rattle.std.specs.Option.{option_map}
 use Rattle.bp_core.specs.declared.refusals.OutOfMemory.{OutOfMemory}
 use Rattle.bp_outside.specs.Door.{DoorView, fresh, hung, to_last}
+use Rattle.bp_outside.specs.Input.{WasNeeded}
 use Rattle.bp_outside.specs.declared.exchange.Exchange.{Exchange}
 use Rattle.bp_web.specs.Replies.{reply_text}
 use Rattle.bp_web.specs.declared.refusals.WebRefusal.{WebRefusal}
@@ -11,9 +12,11 @@ use Rattle.bp_web.specs.declared.replies.Answer.TheVariants as answers
 
 -- ---- what passed
 
--- reading stopped because the bytes were told to be enough, or at the end of input
-abbrev pub WasRead : (List ℕ → Bool → Type 0) → Exchange → Type 0
-WasRead Tells x = Tells x.read true ⊎ (x.ended ≡ true)
+-- reading stopped because the bytes were told to be enough, or at the end of input; and the last read
+-- was still needed
+pub record WasRead (Tells : List ℕ → Bool → Type 0) (x : Exchange) : Type 0 where
+  pub stopped : Tells x.read true ⊎ (x.ended ≡ true)
+  pub needed : WasNeeded Tells x.read
 
 -- a read or a write was refused
 abbrev pub WasRefused : Exchange → Type 0
@@ -40,6 +43,12 @@ abbrev pub IsRefusalText : WebRefusal → List ℕ → Type 0
 IsRefusalText refusal text =
     (text ≡ memory_text)
     ⊎ ((refusal ≡ web_refusals.OutOfMemory → ⊥) × (text ≡ reply_text (answers.Web refusal)))
+
+-- an exchange came to no answer: memory ran out for its bytes, and that is sent; or a read was
+-- refused that was still needed, and nothing is
+pub data WasCut (Tells : List ℕ → Bool → Type 0) (x : Exchange) : Type 0 where
+  no_room : WasNeeded Tells x.read → Sent x memory_text → WasCut Tells x
+  no_read : Tells x.read false → WasRefused x → x.written ≡ [] → WasCut Tells x
 
 -- ---- what it did
 

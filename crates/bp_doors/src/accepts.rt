@@ -1,5 +1,5 @@
 // Serving a door, accept by accept.
-ghost use Rattle.std.specs.Prelude.{◌≡◌, ◌+◌, ◌<◌, ◌^◌, None, true};
+ghost use Rattle.std.specs.Prelude.{◌≡◌, ◌+◌, ◌<◌, ◌^◌, IfSome, None, false, true};
 ghost use Rattle.bp_doors.specs.Serving.{Serves, ServesDoor, count_if, made_in};
 
 use crate::exchanges::converse;
@@ -10,8 +10,27 @@ use std::alloc::Global;
 /// Serves a door by a handler: the request of each peer is read and answered (RFC 9112), and the
 /// exchange hung up. Answers in how many exchanges something was made. It returns only where an
 /// accept found the door closed, or so many accepts were tried, and may wait for ever for a peer. A
-/// refusal of the door ends its exchange alone; what was made stays made.
+/// refusal of the door ends its exchange alone; what was made stays made. At its end the door is left.
 pub fn serve<S, T, H: Handler<S, T>, D: Door>(
+    alloc: Global,
+    handler: &H,
+    at: &mut S,
+    by: &mut T,
+    door: &mut D,
+    connections: u32,
+) -> u32
+    requires { H.Keeps handler.now (at.old, by.old) }
+    ensures served { ServesDoor (H.Deals handler.now) connections (at.old, by.old)
+        (D.shows door.old) result (at.new, by.new) (D.shows door.new) }
+    ensures keeps { H.Keeps handler.now (at.new, by.new) }
+{
+    let count = serve_peers(alloc, handler, at, by, door, connections);
+    door.leave();
+    count
+}
+
+// The same, and the door isn't left.
+fn serve_peers<S, T, H: Handler<S, T>, D: Door>(
     alloc: Global,
     handler: &H,
     at: &mut S,
@@ -50,6 +69,7 @@ fn serve_next<S, T, H: Handler<S, T>, D: Door>(
         (made_in result) (at.new, by.new) (D.shows door.new) }
     ensures keeps { H.Keeps handler.now (at.new, by.new) }
     ensures closed { result ≡ None → (D.shows door.new).closed ≡ true }
+    ensures open { IfSome result (λ _. (D.shows door.new).closed ≡ false) }
 {
     match door.accept(alloc) {
         Ok(true) => {

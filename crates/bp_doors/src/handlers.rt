@@ -17,7 +17,7 @@ pub struct Answered {
 pub trait Handler<S, T>: Enough {
     ghost use Rattle.std.specs.Prelude.{Bool, false};
     ghost use Rattle.bp_outside.specs.declared.exchange.Exchange.{Exchange};
-    ghost use Rattle.bp_doors.specs.Exchanges.{AnswersBytes, Sent, memory_text, text_of};
+    ghost use Rattle.bp_doors.specs.Exchanges.{AnswersBytes, WasCut, text_of};
 
     // What holds of both before each answer, and after it.
     ghost Keeps: { Self → (S × T) → Type 0 };
@@ -34,6 +34,6 @@ pub trait Handler<S, T>: Enough {
         ensures keeps { Keeps self.now (at.new, by.new) };
 
     // An exchange that was cut off before it was answered, or for which memory ran out, leaves both.
-    ghost cut_off: { (h : Self) (w : S × T) (x : Exchange) → Sent x memory_text
+    ghost cut_off: { (h : Self) (w : S × T) (x : Exchange) → WasCut (Self.Tells h) x
         → Deals h w x false w };
 }

@@ -142,18 +142,21 @@ deals-failed h k event keeper keeper' text x fits f (inl t) asks read s =
     (keeps-stays h k keeper keeper' (risen keeper.faults) f.desk (omega (arith, fits)) f.stays)
 deals-failed h k event keeper keeper' text x fits f (inr t) asks read s =
     let count = f.stays.faults in
-    made_none 0 text (desk_view k keeper') f.desk (no_memory t) s (omega (arith, count, fits))
+    made_none 0 text (desk_view k keeper') f.desk (no_memory read.needed t) s
+    (omega (arith, count, fits))
     (keeps-stays h k keeper keeper' (risen keeper.faults) f.desk (omega (arith, fits)) f.stays)
 
 -- memory ran out, and nothing was made
 deals-lacked : (h k : Holding) (keeper keeper' : KeeperView) (text : List ℕ) (x : Exchange)
     → EventLacked h keeper k keeper'
     → text ≡ memory_text
+    → WasReadEvent x
     → Sent x text
     → EventDeals (desk_view h keeper) x false (desk_view k keeper')
-deals-lacked h k keeper keeper' text x f t s =
+deals-lacked h k keeper keeper' text x f t read s =
     let count = f.stays.faults in
-    made_none 0 text (desk_view k keeper') f.desk (no_memory t) s (omega (arith, count))
+    made_none 0 text (desk_view k keeper') f.desk (no_memory read.needed t) s
+    (omega (arith, count))
     (keeps-stays h k keeper keeper' keeper.faults f.desk (omega arith) f.stays)
 
 text-is : (wanted : List ℕ) (result : Result (List ℕ) OutOfMemory)
@@ -190,7 +193,7 @@ event-answers h k event keeper keeper' (Err stops.KeeperFault) result fits e t x
     deals-failed h k event keeper keeper' (text_of result) x fits e (text-is _ result t)
     (was-asked x.read event reads) read s
 event-answers h k event keeper keeper' (Err stops.OutOfMemory) result fits e t x reads read s =
-    deals-lacked h k keeper keeper' (text_of result) x e (lacking _ (text-is _ result t)) s
+    deals-lacked h k keeper keeper' (text_of result) x e (lacking _ (text-is _ result t)) read s
 
 -- the same where what was told of it is equal
 pub event-answers-as : (h k : Holding) (event : Event) (keeper keeper' : KeeperView)
@@ -216,7 +219,7 @@ pub refusal-answers : (d : DeskView) (why : WebRefusal) (text : List ℕ)
     → IsRefusalText why text
     → AnswersEvent d (Err why) text false d
 refusal-answers d why text (inl t) x reads read s =
-    made_none 0 text d refl (no_memory t) s (omega arith) (keeps-itself d)
+    made_none 0 text d refl (no_memory read.needed t) s (omega arith) (keeps-itself d)
 refusal-answers d why text (inr t) x reads read s =
     made_none 0 text d refl (refusal why (was-refused x.read why t.0 reads) read t.1) s
     (omega arith) (keeps-itself d)

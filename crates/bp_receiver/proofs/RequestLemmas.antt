@@ -10,16 +10,16 @@ use Rattle.httparse.specs.Grammar.{ReadsRequest, RequestHead, print_request}
 use Rattle.httparse.specs.Spans.{IsRequestWithin, header_bytes, span_bytes}
 use Rattle.sha2.specs.Sha256.{sha256}
 use Rattle.bp_web.specs.Heads.{BeginsWith, BeginsWithNone, Field, NeverBegins, after_head, fields_of, start_of, value_of}
-use Rattle.bp_web.specs.Requests.{HttpReads, IsWhole, ReadAlike, asking_of as call_asking_of, headless, of_head, of_none, whole, ◌>>=◌}
+use Rattle.bp_web.specs.Requests.{HttpReads, IsWhole, ReadAlike, asking_of as call_asking_of, crowded, headless, of_head, of_none, whole, ◌>>=◌}
 use Rattle.bp_web.specs.declared.heads.TheConstants.{HEAD_LIMIT}
 use Rattle.bp_web.specs.declared.refusals.WebRefusal.{WebRefusal}
 use Rattle.bp_web.specs.declared.refusals.WebRefusal.TheVariants as refusals
 use Rattle.bp_web.specs.declared.requests.Asked.{Asked}
 use Rattle.bp_web.specs.declared.requests.TheConstants.{MAX_BODY, MAX_REQUEST}
-use Rattle.bp_web.proofs.RequestLemmas.{Found, after_same, begins_more, begins_there, head_fits, one_head, reads_once, small_given}
+use Rattle.bp_web.proofs.RequestLemmas.{Found, after_same, begins_more, begins_there, crowded_none, head_fits, one_head, reads_once, small_given}
 use Rattle.bp_receiver.specs.DeskRoutes.{desk_route_of, has_body}
 use Rattle.bp_receiver.specs.EventBodies.{event_at, said_at}
-use Rattle.bp_receiver.specs.EventRequests.{EventReadAlike, EventReads, IsWholeEvent, OwnWhole, ReadsOwn, as_review, asked_of, asking_at, asking_of, body_length, event_request_of, headless as headless_event, is_no_route, of_call, of_desk, wanted_by, whole as whole_event}
+use Rattle.bp_receiver.specs.EventRequests.{EventReadAlike, EventReads, IsWholeEvent, OwnWhole, ReadsOwn, as_review, asked_of, asking_at, asking_of, body_length, crowded as crowded_event, event_request_of, headless as headless_event, is_no_route, of_call, of_desk, wanted_by, whole as whole_event}
 use Rattle.bp_receiver.specs.declared.events.Event.{Event}
 use Rattle.bp_receiver.specs.declared.events.Event.TheVariants as events
 use Rattle.bp_receiver.specs.declared.requests.Asking.{Asking}
@@ -305,6 +305,7 @@ pub call-whole : (bytes : List ℕ) → IsWholeEvent bytes → IsWhole bytes
 call-whole bytes (whole_event head begins fits) =
     whole head begins (omega (arith, fits, call-wanted (call_asking_of head) (asking_of head)))
 call-whole bytes (headless_event none long) = headless none long
+call-whole bytes (crowded_event head rest reads many) = crowded head rest reads many
 
 pub own-whole : (bytes : List ℕ) (told : Bool)
     → OwnWhole bytes told
@@ -313,6 +314,8 @@ pub own-whole : (bytes : List ℕ) (told : Bool)
 own-whole bytes told own (whole_event head begins fits) =
     own.of_head head begins ∙ le-leb _ _ (omega (arith, fits, own-wanted head))
 own-whole bytes told own (headless_event none long) = own.of_none none
+own-whole bytes told own (crowded_event head rest reads many) =
+    own.of_none (crowded_none (start_of bytes) head rest reads many)
 
 pub own-never : (bytes : List ℕ) (told : Bool)
     → OwnWhole bytes told

@@ -1,7 +1,8 @@
 -- Worked examples of serving a door, each run by the check: an exchange of each case, and what fits
 -- none.
-use Rattle.std.proofs.Common.{◌≡◌, ℕ, true, false, List, [], ◌∷◌, refl, subst, inl, inr}
+use Rattle.std.proofs.Common.{◌≡◌, ℕ, true, false, List, [], ◌∷◌, refl, subst, inl, inr, arith}
 use Rattle.std.specs.Prelude.{Ok, Err}
+use Rattle.bp_outside.specs.Input.{WasNeeded}
 use Rattle.bp_outside.specs.declared.exchange.Exchange.{Exchange}
 use Rattle.bp_rules.specs.declared.refusals.MatterRefusal.TheVariants as stops
 use Rattle.bp_web.specs.Replies.{reply_text}
@@ -9,10 +10,10 @@ use Rattle.bp_web.specs.declared.refusals.WebRefusal.{WebRefusal}
 use Rattle.bp_web.specs.declared.replies.Answer.TheVariants as answers
 use Rattle.bp_doors.specs.Exchanges.{memory_text}
 use Rattle.bp_doors.specs.Exchanges.Sent.{cut, whole}
-use Rattle.bp_receiver.specs.Delivered.{AsksFor, Delivered, EventTurn, TextOfNoEvent, event_turn, event_turns}
+use Rattle.bp_receiver.specs.Delivered.{AsksFor, Delivered, EventTurn, TellsEvent, TextOfNoEvent, event_turn, event_turns}
 use Rattle.bp_receiver.specs.Delivered.Delivered.{made, nobody, unmade}
 use Rattle.bp_receiver.specs.Delivered.TextOfEvent.{given, not_given}
-use Rattle.bp_receiver.specs.Delivered.TextOfNoEvent.{fault, no_memory, refusal}
+use Rattle.bp_receiver.specs.Delivered.TextOfNoEvent.{fault, no_memory, no_read, refusal}
 use Rattle.bp_receiver.specs.Delivering.{IsReview}
 use Rattle.bp_receiver.specs.EventReplies.{event_text}
 use Rattle.bp_receiver.specs.EventRequests.{EventReads}
@@ -40,32 +41,41 @@ exchanged read written =
 abbrev answered : Holding → Event → List ℕ
 answered h event = event_text (event_of h event).given
 
+none_needed : WasNeeded TellsEvent []
+none_needed = record { front = []; last = []; all = refl; few = omega arith; needed = inl refl }
+
 -- An event and its answer; bytes that are no request; a call at which the keeper failed; want of
--- memory, with an event and with none; and an event whose answer was cut off.
+-- memory, with an event and with none; a peer that was silent; and an event whose answer was cut off.
 each_case : (h : Holding) (event call : Event) (why : WebRefusal) (a b c : List ℕ)
     → EventReads a (Ok event)
     → IsReview call
     → EventReads b (Ok call)
     → EventReads c (Err why)
+    → WasNeeded TellsEvent a
+    → WasNeeded TellsEvent b
+    → WasNeeded TellsEvent c
+    → TellsEvent [] false
     → Delivered (event_turns h (event ∷ event ∷ event ∷ [])) 1
     (exchanged a (answered h event)
     ∷ exchanged c (reply_text (answers.Web why))
     ∷ exchanged b (reply_text answers.KeeperFault)
     ∷ exchanged [] memory_text
+    ∷ record (exchanged [] []) { failed = true }
     ∷ exchanged a memory_text
     ∷ record (exchanged a []) { failed = true }
     ∷ [])
-each_case h event call why a b c asks review calls refused =
+each_case h event call why a b c asks review calls refused needs_a needs_b needs_c nothing_yet =
     let then : Holding = (event_of h event).after in
     let last : Holding = (event_of then event).after in
-    made (event_turn h event) _ 1 _ _ _ refl (given asks (inr refl) refl) (whole refl)
-    (unmade _ 0 1 _ _ _ refl (refusal why refused (inr refl) refl) (whole refl)
-    (unmade _ 1 0 _ _ _ refl (fault call review calls (inr refl) refl) (whole refl)
-    (unmade _ 0 0 _ _ memory_text refl (no_memory refl) (whole refl)
-    (made (event_turn then event) _ 0 _ _ memory_text refl (not_given asks (inr refl) refl)
-    (whole refl)
-    (made (event_turn last event) [] 0 _ [] (answered last event) refl (given asks (inr refl) refl)
-    (cut (inl refl) (answered last event) refl) nobody)))))
+    made (event_turn h event) _ 1 _ _ _ refl (given asks (record { stopped = inr refl; needed = needs_a }) refl) (whole refl)
+    (unmade _ 0 1 _ _ _ refl (refusal why refused (record { stopped = inr refl; needed = needs_c }) refl) (whole refl)
+    (unmade _ 1 0 _ _ _ refl (fault call review calls (record { stopped = inr refl; needed = needs_b }) refl) (whole refl)
+    (unmade _ 0 0 _ _ memory_text refl (no_memory none_needed refl) (whole refl)
+    (unmade _ 0 0 _ _ [] refl (no_read nothing_yet (inl refl) refl) (whole refl)
+    (made (event_turn then event) _ 0 _ _ memory_text refl
+    (not_given asks (record { stopped = inr refl; needed = needs_a }) refl) (whole refl)
+    (made (event_turn last event) [] 0 _ [] (answered last event) refl
+    (given asks (record { stopped = inr refl; needed = needs_a }) refl) (cut (inl refl) (answered last event) refl) nobody))))))
 
 -- no event is left over
 none_left : (turns : List EventTurn) (count : ℕ) (xs : List Exchange) (turn : EventTurn)

@@ -6,7 +6,8 @@ use Rattle.bp_web.specs.Heads.{NeverBegins, start_of}
 use Rattle.bp_web.specs.Replies.{reply_text}
 use Rattle.bp_web.specs.declared.refusals.WebRefusal.{WebRefusal}
 use Rattle.bp_web.specs.declared.replies.Answer.TheVariants as answers
-use Rattle.bp_doors.specs.Exchanges.{Sent, WasRead, memory_text}
+use Rattle.bp_outside.specs.Input.{WasNeeded}
+use Rattle.bp_doors.specs.Exchanges.{Sent, WasRead, WasRefused, memory_text}
 use Rattle.bp_receiver.specs.Delivering.{IsReview}
 use Rattle.bp_receiver.specs.EventReplies.{event_text}
 use Rattle.bp_receiver.specs.EventRequests.{EventReadAlike, EventReads, IsWholeEvent}
@@ -22,7 +23,8 @@ abbrev pub TellsEvent : List ℕ → Bool → Type 0
 TellsEvent bytes true = (more : List ℕ) → EventReadAlike (bytes ++ more) bytes
 TellsEvent bytes false = ¬ (IsWholeEvent bytes) × ¬ (NeverBegins (start_of bytes))
 
--- reading stopped because the bytes were enough, or at the end of input
+-- reading stopped because the bytes were enough, or at the end of input, and went on no further than
+-- was needed
 abbrev pub WasReadEvent : Exchange → Type 0
 WasReadEvent x = WasRead TellsEvent x
 
@@ -56,13 +58,15 @@ pub data TextOfEvent (turn : EventTurn) (x : Exchange) (text : List ℕ) : Type 
       → TextOfEvent turn x text
 
 -- What may be sent in one that made no event: why the bytes are no request; that the keeper failed at
--- a call, which counts as one; or that memory ran out.
+-- a call, which counts as one; that memory ran out; or nothing, where a read was refused that was
+-- still needed.
 pub data TextOfNoEvent (x : Exchange) (text : List ℕ) : ℕ → Type 0 where
   refusal : (why : WebRefusal) → EventReads x.read (Err why) → WasReadEvent x
       → text ≡ reply_text (answers.Web why) → TextOfNoEvent x text 0
   fault : (event : Event) → IsReview event → AsksFor x event → WasReadEvent x
       → text ≡ reply_text answers.KeeperFault → TextOfNoEvent x text 1
-  no_memory : text ≡ memory_text → TextOfNoEvent x text 0
+  no_memory : WasNeeded TellsEvent x.read → text ≡ memory_text → TextOfNoEvent x text 0
+  no_read : TellsEvent x.read false → WasRefused x → text ≡ [] → TextOfNoEvent x text 0
 
 -- Delivered: the exchanges of a door, in order, use up these events, in order, and none is left over.
 -- Each was hung up. So many were answered that the keeper failed.

@@ -1,11 +1,11 @@
 -- What the bytes of a request ask of the desk, or the first refusal in its order.
-use Rattle.std.specs.Prelude.{◌≡◌, ◌≢◌, ◌↔◌, ◌≤◌, ℕ, nat_le, Bool, true, false, List, length, take, codes, Option, Result, Ok, Err, if◌then◌else◌}
+use Rattle.std.specs.Prelude.{◌≡◌, ◌≢◌, ◌↔◌, ◌≤◌, ◌<◌, ℕ, nat_le, Bool, true, false, List, length, take, codes, Option, Result, Ok, Err, if◌then◌else◌}
 use Rattle.std.specs.Option.{ok_or, option_and_then}
-use Rattle.httparse.specs.Grammar.{RequestHead}
+use Rattle.httparse.specs.Grammar.{ReadsRequest, RequestHead}
 use Rattle.sha2.specs.Sha256.{sha256}
 use Rattle.bp_web.specs.Heads.{BeginsWith, BeginsWithNone, Field, after_head, fields_of, start_of, value_of}
 use Rattle.bp_web.specs.Requests.{HttpReads, ◌>>=◌, asking_of as call_asking_of, demand, given_length, wanted_by as call_wanted_by}
-use Rattle.bp_web.specs.declared.heads.TheConstants.{HEAD_LIMIT}
+use Rattle.bp_web.specs.declared.heads.TheConstants.{HEAD_LIMIT, MAX_FIELDS}
 use Rattle.bp_web.specs.declared.refusals.WebRefusal.{WebRefusal}
 use Rattle.bp_web.specs.declared.refusals.WebRefusal.TheVariants.{BodyRefused, KeyMissing, NoRoute}
 use Rattle.bp_web.specs.declared.requests.Asked.{Asked}
@@ -83,12 +83,16 @@ abbrev pub wanted_of : Result CallAsking WebRefusal → Result Asking WebRefusal
 wanted_of (Err NoRoute) own = wanted_by own
 wanted_of asking own = call_wanted_by asking
 
--- the bytes hold a whole request, or as many as a head may have and no head
+-- the bytes hold a whole request, or as many as a head may have and no head, or a head of more fields
+-- than it may have
 pub data IsWholeEvent (bytes : List ℕ) : Type 0 where
   whole : (head : RequestHead) → BeginsWith (start_of bytes) head
       → wanted_of (call_asking_of head) (asking_of head) ≤ length (after_head head bytes)
       → IsWholeEvent bytes
   headless : BeginsWithNone (start_of bytes) → HEAD_LIMIT ≤ length bytes → IsWholeEvent bytes
+  crowded : (head : RequestHead) (rest : List ℕ) → ReadsRequest (start_of bytes) head rest
+      → MAX_FIELDS < length head.fields
+      → IsWholeEvent bytes
 
 -- ---- for private clauses
 

@@ -1,5 +1,5 @@
 -- Serving a door of the receiver's desk, exchange by exchange.
-use Rattle.std.specs.Prelude.{◌≡◌, ◌≢◌, ℕ, ◌≤◌, Bool, true, false, List, ◌++◌, length, Result, Ok, Err, refl}
+use Rattle.std.specs.Prelude.{◌≡◌, ◌≢◌, ℕ, ◌≤◌, Bool, true, false, List, [], ◌++◌, length, Result, Ok, Err, refl}
 use Rattle.std.specs.Option.{option_map}
 use Rattle.std.proofs.Math.Nat.{le_refl}
 use Rattle.bp_keep.specs.Keeper.{KeeperView}
@@ -13,10 +13,12 @@ use Rattle.bp_web.specs.Replies.{reply_text}
 use Rattle.bp_web.specs.declared.refusals.WebRefusal.{WebRefusal}
 use Rattle.bp_web.specs.declared.refusals.WebRefusal.TheVariants as refusals
 use Rattle.bp_web.specs.declared.replies.Answer.TheVariants as answers
-use Rattle.bp_doors.specs.Exchanges.{Sent, memory_text}
+use Rattle.bp_doors.specs.Exchanges.{Sent, WasCut, memory_text}
+use Rattle.bp_doors.specs.Exchanges.Sent.{whole}
+use Rattle.bp_doors.specs.Exchanges.WasCut.{no_read as cut_read, no_room as cut_room}
 use Rattle.bp_doors.specs.Serving.{Returned, RoseBy, raised}
-use Rattle.bp_receiver.specs.Delivered.{Delivered, TextOfEvent, TextOfNoEvent, WasReadEvent, event_turn, event_turns}
-use Rattle.bp_receiver.specs.Delivered.TextOfNoEvent.{no_memory}
+use Rattle.bp_receiver.specs.Delivered.{Delivered, TellsEvent, TextOfEvent, TextOfNoEvent, WasReadEvent, event_turn, event_turns}
+use Rattle.bp_receiver.specs.Delivered.TextOfNoEvent.{no_memory, no_read}
 use Rattle.bp_receiver.specs.EventReplies.{given_message}
 use Rattle.bp_receiver.specs.EventRequests.{EventReads}
 use Rattle.bp_receiver.specs.Events.{Holding, event_of, run_of}
@@ -58,16 +60,17 @@ pub data EventDeals (before : DeskView) (x : Exchange) : Bool → DeskView → T
       → RoseBy faults before.keeper.faults after.keeper.faults → KeepsOn before after
       → EventDeals before x false after
 
--- what is sent to nobody, or says that memory ran out, leaves all
-pub cut-off : (d : DeskView) (x : Exchange) → Sent x memory_text → EventDeals d x false d
-cut-off d x s =
-    let same : d.keeper.faults ≤ d.keeper.faults = le_refl d.keeper.faults in
-    made_none 0 memory_text d refl (no_memory refl) s same (record {
-      kept = λ rows. rows;
-      loads = refl;
-      sure = refl;
-      faults = same;
-    })
+-- a desk at which nothing was made
+pub keeps-all : (d : DeskView) → KeepsOn d d
+keeps-all d =
+    record { kept = λ rows. rows; loads = refl; sure = refl; faults = le_refl d.keeper.faults }
+
+-- an exchange that came to no answer leaves all
+pub cut-off : (d : DeskView) (x : Exchange) → WasCut TellsEvent x → EventDeals d x false d
+cut-off d x (cut_room needed s) =
+    made_none 0 memory_text d refl (no_memory needed refl) s (keeps-all d).faults (keeps-all d)
+cut-off d x (cut_read short was none) =
+    made_none 0 [] d refl (no_read short was refl) (whole none) (keeps-all d).faults (keeps-all d)
 
 -- ---- what answers a request
 

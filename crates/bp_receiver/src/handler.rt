@@ -40,7 +40,7 @@ impl<K: Keeper> Handler<Delivery, K> for EventHandler {
     ghost Deals = { λ _ v x made w. EventDeals (desk_view v.0 (K.shows v.1)) x made
         (desk_view w.0 (K.shows w.1)) };
 
-    ghost cut_off = { λ _ w x sent_. cut-off (desk_view w.0 (K.shows w.1)) x sent_ };
+    ghost cut_off = { λ _ w x was_cut. cut-off (desk_view w.0 (K.shows w.1)) x was_cut };
 
     fn answer(&self, alloc: Global, at: &mut Delivery, by: &mut K, bytes: &[u8]) -> Answered {
         let read = read_by(alloc, self.routes.as_ref(), bytes);

@@ -7,7 +7,7 @@ use Rattle.bp_core.specs.declared.rules.Rule.{Rule}
 use Rattle.bp_matter.specs.Matter.{Matter}
 use Rattle.bp_matter.specs.declared.calls.Reply.{Reply}
 use Rattle.bp_desk.proofs.HistoryLemmas.{run_calls-append}
-use Rattle.bp_desk.specs.Calls.{answer_to}
+use Rattle.bp_desk.specs.Calls.{AltersOn, answer_to, run_calls}
 use Rattle.bp_desk.specs.Exchanges.{Answers, CallsAt, Refuses}
 use Rattle.bp_desk.specs.History.{AreOthers}
 use Rattle.bp_desk.specs.declared.history.Made.{Made}
@@ -125,7 +125,11 @@ module _ (v w : View) (made : Made) (by : made.seat ≡ v.number) (within : v.ra
   calls_at (Ok reply) c = answers_at (Ok reply) c
   calls_at (Err (refusals.Rule rule)) c = answers_at (Err rule) c
   calls_at (Err refusals.KeeperFault) c =
-      (refuses_at c.0 (let f = c.2 in omega arith), own_rises v w within c.0.turn c.1)
+      let P : Matter → Type 0 = λ m. AltersOn (run_calls m w.seen) made.key made.call in (
+        refuses_at c.0 (let f = c.2 in omega arith),
+        own_rises v w within c.0.turn c.1,
+        subst P (sym c.0.same.opening) c.3,
+      )
   calls_at (Err (refusals.JournalFull count)) c = (
     refuses_at c.0 (let f = c.2 in omega arith),
     c.2

@@ -1,5 +1,5 @@
 -- What contracts see of a desk and of its seats.
-use Rattle.std.specs.Prelude.{◌≡◌, ◌≢◌, ℕ, ◌+◌, ◌-◌, ◌<◌, ◌≤◌, Bool, false, List, [], ◌∷◌, ◌++◌, length, Option, Some, None, Result, Ok, Err, IsOkAnd, if◌then◌else◌, ◌⊎◌, All, map}
+use Rattle.std.specs.Prelude.{◌≡◌, ℕ, ◌+◌, ◌-◌, ◌<◌, ◌≤◌, Bool, false, List, [], ◌∷◌, ◌++◌, length, Option, Some, None, Result, Ok, Err, if◌then◌else◌, ◌⊎◌, All, map}
 use Rattle.std.specs.List.{range_with_len}
 use Rattle.bp_core.specs.Counts.{risen}
 use Rattle.bp_core.specs.declared.rules.Rule.{Rule}
@@ -9,7 +9,7 @@ use Rattle.bp_matter.specs.declared.calls.Reply.{Reply}
 use Rattle.atomic_table.specs.Seated.{TableId}
 use Rattle.atomic_table.specs.Table.{Me}
 use Rattle.bp_rules.specs.Steps.{KeepsRows}
-use Rattle.bp_desk.specs.Calls.{answer_to, run_calls, step_with}
+use Rattle.bp_desk.specs.Calls.{AltersOn, answer_to, run_calls}
 use Rattle.bp_desk.specs.History.{AreOthers}
 use Rattle.bp_seats.specs.Calls.{Begins, calls_by}
 use Rattle.bp_desk.specs.Books.{Opens, StaysWith}
@@ -153,9 +153,7 @@ pub record Uncalled (v w : View) : Type 0 where
 
 -- after these calls the call breaks no rule, and changes the matter
 abbrev pub AltersAfter : Matter → List Made → Made → Type 0
-AltersAfter opening seen made =
-    IsOkAnd (step_with (run_calls opening seen) made)
-    (λ stepped. stepped.matter ≢ run_calls opening seen)
+AltersAfter opening seen made = AltersOn (run_calls opening seen) made.key made.call
 
 -- what a call of a seat gives. The keeper failed at a call that changes the matter. A full journal has
 -- as many calls as there is room for; after a fault of the keeper and want of memory there is room for

@@ -23,7 +23,7 @@ use Rattle.bp_web.specs.Requests.{HttpReads, asked_of, asking_at, asking_of, bod
 use Rattle.bp_web.specs.Routes.{fits, get, next_of, post, route_of}
 use Rattle.bp_web.specs.declared.heads.TheConstants.{HEAD_LIMIT, MAX_FIELDS}
 use Rattle.bp_web.specs.declared.members.TheConstants.{DIGEST_BYTES, MAX_NUMBER, MAX_WIDTH}
-use Rattle.bp_web.specs.declared.numbers.TheConstants.{MOST_DIGITS}
+use Rattle.bp_core.specs.declared.digits.TheConstants.{MOST_DIGITS}
 use Rattle.bp_web.specs.declared.refusals.WebRefusal.TheVariants as refusals
 use Rattle.bp_web.specs.declared.requests.TheConstants.{MAX_BODY, MAX_REQUEST}
 use Rattle.bp_web.specs.declared.routes.Route.TheVariants as routes

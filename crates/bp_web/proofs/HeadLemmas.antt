@@ -6,9 +6,9 @@ use Rattle.httparse.specs.declared.Status.{Status}
 use Rattle.httparse.specs.declared.Status.TheVariants.{Complete, Partial}
 use Rattle.httparse.specs.declared.spans.HeaderSpan.{HeaderSpan}
 use Rattle.httparse.specs.declared.spans.RequestSpans.{RequestSpans}
-use Rattle.httparse.specs.Grammar.{Field, MayBecomeRequest}
-use Rattle.httparse.specs.Outcome.{IfComplete, IsCompleteAnd, OnPartial}
-use Rattle.httparse.specs.Spans.{AreFieldsAt, FindsRequest, IsRequestAt, IsRequestOf, IsRequestWithin, RequestOverflows, header_bytes, name_and_value}
+use Rattle.httparse.specs.Grammar.{Field, HasNoRequest, MayBecomeRequest}
+use Rattle.httparse.specs.Outcome.{IfComplete, OnPartial}
+use Rattle.httparse.specs.Spans.{AreFieldsAt, IsRequestOf, IsRequestWithin, RequestOverflows, header_bytes, name_and_value}
 use Rattle.bp_web.specs.Heads.{BeginsWithNone, HasHead}
 use Rattle.bp_web.specs.declared.heads.TheConstants.{HEAD_LIMIT, MAX_FIELDS}
 
@@ -44,27 +44,19 @@ pub head_within : (start : List ℕ) (headers : List HeaderSpan) (status : Statu
     → IsRequestWithin start headers spans
 head_within start headers status spans is given = subst (λ s. IfComplete {E = Error} (Ok s) (IsRequestWithin start headers)) is given
 
--- a head would have been found
-head_missing : (start : List ℕ) (room : ℕ) (headers : List HeaderSpan)
-    → (result : Result (Status RequestSpans) Error)
-    → room ≡ MAX_FIELDS
-    → FindsRequest start room headers result
-    → ((P : RequestSpans → Type 0) → ¬ (IsCompleteAnd result P))
-    → BeginsWithNone start
-head_missing start room headers result is_room finds incomplete head has =
-    incomplete (λ spans. IsRequestAt start headers spans head) (finds head has.rest has.reads (omega (arith, has.few)))
-
-pub open_found : (start : List ℕ) (room : ℕ) (headers : List HeaderSpan)
-    → (status : Status RequestSpans)
-    → room ≡ MAX_FIELDS
+pub open_found : (start : List ℕ) (status : Status RequestSpans)
     → status ≡ Partial
-    → FindsRequest start room headers (Ok status)
+    → OnPartial {E = Error} (Ok status) (HasNoRequest start)
     → OnPartial {E = Error} (Ok status) (MayBecomeRequest start)
-    → BeginsWithNone start × MayBecomeRequest start
-open_found start room headers status is_room is finds may = (
-  head_missing start room headers (Ok Partial) is_room (subst (λ s. FindsRequest start room headers (Ok s)) is finds) (λ P x. x),
+    → HasNoRequest start × MayBecomeRequest start
+open_found start status is none may = (
+  subst (λ s. OnPartial {E = Error} (Ok s) (HasNoRequest start)) is none,
   subst (λ s. OnPartial {E = Error} (Ok s) (MayBecomeRequest start)) is may,
 )
+
+-- no head, so none with few fields
+pub none_begins : (start : List ℕ) → HasNoRequest start → BeginsWithNone start
+none_begins start none head has = none head has.rest has.reads
 
 -- a head that could still come has too many fields
 pub closed_found : (start more : List ℕ) (room : ℕ)

@@ -3,7 +3,6 @@ mod Examples
 pub mod FieldLemmas
 pub mod HeadLemmas
 pub mod MemberLemmas
-mod NumberLemmas
 pub mod PlacedLemmas
 pub mod ReplyExamples
 pub mod ReplyLemmas

@@ -8,7 +8,7 @@ use Rattle.std.proofs.lemmas.List.{append-nil, length-take, length-drop, length-
 use Rattle.std.proofs.lemmas.List.Elements.{All-weaker}
 use Rattle.httparse.specs.declared.spans.HeaderSpan.{HeaderSpan}
 use Rattle.httparse.specs.declared.spans.RequestSpans.{RequestSpans}
-use Rattle.httparse.specs.Grammar.{MayBecomeRequest, ReadsRequest, RequestHead, print_request}
+use Rattle.httparse.specs.Grammar.{HasNoRequest, MayBecomeRequest, ReadsRequest, RequestHead, print_request}
 use Rattle.httparse.specs.Spans.{IsHeaderWithin, IsRequestWithin, IsSectionWithin, header_bytes, span_bytes}
 use Rattle.httparse.proofs.GrammarLemmas.{ReadsRequest-append, request_unique}
 use Rattle.bp_matter.specs.declared.calls.Call.{Call}
@@ -16,9 +16,9 @@ use Rattle.bp_web.specs.Calls.{call_of}
 use Rattle.sha2.specs.Sha256.{sha256}
 use Rattle.bp_web.specs.Heads.{BeginsWith, BeginsWithNone, HasHead, NeverBegins, after_head, fields_of, has_field, start_of, value_of}
 use Rattle.bp_web.specs.Numbers.{number_of}
-use Rattle.bp_web.specs.Requests.{EndsAt, HttpReads, IsOpen, IsWhole, ReadAlike, asked_of, asking_at, asking_of, body_length, data_of, demand, given_length, headless, of_head, of_none, request_of, wanted_by, whole, ◌>>=◌}
+use Rattle.bp_web.specs.Requests.{EndsAt, HttpReads, IsOpen, IsWhole, ReadAlike, asked_of, asking_at, asking_of, body_length, crowded, data_of, demand, given_length, headless, of_head, of_none, request_of, wanted_by, whole, ◌>>=◌}
 use Rattle.bp_web.specs.Routes.{is_get, route_of}
-use Rattle.bp_web.specs.declared.heads.TheConstants.{HEAD_LIMIT}
+use Rattle.bp_web.specs.declared.heads.TheConstants.{HEAD_LIMIT, MAX_FIELDS}
 use Rattle.bp_web.specs.declared.refusals.WebRefusal.{WebRefusal}
 use Rattle.bp_web.specs.declared.refusals.WebRefusal.TheVariants as refusals
 use Rattle.bp_web.specs.declared.requests.Asked.{Asked}
@@ -323,6 +323,29 @@ alike_none a b none other outcome = (
   ],
 )
 
+-- a head that has too many fields is the only one
+pub crowded_none : (start : List ℕ) (head : RequestHead) (rest : List ℕ)
+    → ReadsRequest start head rest
+    → MAX_FIELDS < length head.fields
+    → BeginsWithNone start
+crowded_none start head rest reads many other begins =
+    let same = (request_unique start other head begins.rest rest begins.reads reads).0 in
+    let few : length head.fields ≤ MAX_FIELDS =
+    subst (λ h. length h.fields ≤ MAX_FIELDS) same begins.few in
+    absurd (omega (arith, few, many))
+
+-- and stays so
+crowded_more : (bytes more : List ℕ) (head : RequestHead) (rest : List ℕ)
+    → ReadsRequest (start_of bytes) head rest
+    → MAX_FIELDS < length head.fields
+    → BeginsWithNone (start_of (bytes ++ more))
+crowded_more bytes more head rest reads many =
+    let s = start_more bytes more in
+    let longer : ReadsRequest (start_of (bytes ++ more)) head (rest ++ s.0) =
+    subst (λ t. ReadsRequest t head (rest ++ s.0)) (sym s.1)
+    (ReadsRequest-append (start_of bytes) head rest s.0 reads) in
+    crowded_none (start_of (bytes ++ more)) head (rest ++ s.0) longer many
+
 -- a whole request is read alike however it goes on
 alike : (bytes more : List ℕ) → IsWhole bytes → ReadAlike (bytes ++ more) bytes
 alike bytes more (whole head begins fits) outcome = (
@@ -341,6 +364,9 @@ alike bytes more (whole head begins fits) outcome = (
 )
 alike bytes more (headless none long) outcome =
     alike_none (bytes ++ more) bytes (subst BeginsWithNone (sym (none_more bytes more long)) none) none outcome
+alike bytes more (crowded head rest reads many) outcome =
+    alike_none (bytes ++ more) bytes (crowded_more bytes more head rest reads many)
+    (crowded_none (start_of bytes) head rest reads many) outcome
 
 -- ---- how many bytes are enough
 
@@ -361,6 +387,8 @@ ends_at bytes start room spans f n is = record {
         subst (λ h. wanted_by (asking_of h) ≤ length (after_head h (bytes ++ more))) one fits in
         omega (arith, is, len, wants, head_fits bytes head begins, length-append bytes more, length-drop (length (print_request head)) (bytes ++ more))
     | headless none long ↦ absurd (none head (begins_more bytes more head begins))
+    | crowded k rest reads many ↦
+        absurd (crowded_none (start_of (bytes ++ more)) k rest reads many head (begins_more bytes more head begins))
   ];
   never = λ never. absurd (never.never [] head begins.rest (subst (λ t. ReadsRequest t head begins.rest) (sym (append-nil (start_of bytes))) begins.reads));
 }
@@ -423,12 +451,12 @@ most_headless bytes start same = omega (arith, ap length same, length-take HEAD_
 -- a head may still come
 pub waits_for_head : (bytes start : List ℕ)
     → start ≡ start_of bytes
-    → BeginsWithNone start
+    → HasNoRequest start
     → MayBecomeRequest start
     → length bytes < HEAD_LIMIT
     → IsOpen bytes
 waits_for_head bytes start same none may short = record {
-  none = subst BeginsWithNone same none;
+  none = subst HasNoRequest same none;
   short = short;
   may = subst MayBecomeRequest same may;
 }
@@ -450,7 +478,8 @@ first_here bytes n ends w =
     omega (arith, ends.first [] (subst IsWhole (sym nil) w), ap length nil)
 
 pub not_whole : (bytes : List ℕ) → IsOpen bytes → ¬ (IsWhole bytes)
-not_whole bytes waits (whole head begins fits) = waits.none head begins
+not_whole bytes waits (whole head begins fits) = waits.none head begins.rest begins.reads
+not_whole bytes waits (crowded head rest reads many) = waits.none head rest reads
 not_whole bytes waits (headless none long) = absurd (omega (arith, waits.short, long))
 
 pub not_never : (bytes : List ℕ) → IsOpen bytes → ¬ (NeverBegins (start_of bytes))

@@ -5,7 +5,7 @@ use Rattle.std.specs.List.{filter, list_any}
 use Rattle.std.specs.Str.{str_eq_ignore_ascii_case}
 use Rattle.httparse.specs.declared.spans.HeaderSpan.{HeaderSpan}
 use Rattle.httparse.specs.declared.spans.RequestSpans.{RequestSpans}
-use Rattle.httparse.specs.Grammar.{EndsInTarget, MayBecomeRequest, NeverHasRequest, ReadsRequest, RequestHead, print_request}
+use Rattle.httparse.specs.Grammar.{EndsInTarget, HasNoRequest, MayBecomeRequest, NeverHasRequest, ReadsRequest, RequestHead, print_request}
 use Rattle.httparse.specs.Spans.{IsRequestAt, IsRequestWithin, name_and_value}
 use Rattle.bp_web.specs.declared.heads.Begin.{Begin}
 use Rattle.bp_web.specs.declared.heads.Begin.TheVariants as begins
@@ -71,10 +71,11 @@ pub record HasHead (start : List ℕ) (room : List HeaderSpan) (spans : RequestS
   pub begins : BeginsWith start head
   pub at : IsRequestAt start room spans head
 
--- a head; or none, which more bytes may make; or none, whatever follows
+-- a head; or none, however many fields it may have, which more bytes may make; or none, whatever
+-- follows
 abbrev pub Finds : List ℕ → List HeaderSpan → Begin → Type 0
 Finds start room (begins.Head spans) = HasHead start room spans
-Finds start room begins.Open = BeginsWithNone start × MayBecomeRequest start
+Finds start room begins.Open = HasNoRequest start × MayBecomeRequest start
 Finds start room begins.Closed = (more : List ℕ) → BeginsWithNone (start ++ more)
 
 -- the spans lie within the bytes

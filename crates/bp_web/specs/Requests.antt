@@ -1,7 +1,7 @@
 -- What the bytes of a request ask for, or the first refusal in its order.
 use Rattle.std.specs.Prelude.{ℕ, ◌≡◌, ◌≤◌, ◌<◌, ◌↔◌, ◌++◌, nat_le, not, Bool, List, take, length, codes, Option, Some, Result, Ok, Err, if◌then◌else◌}
 use Rattle.std.specs.Option.{ok_or, option_and_then}
-use Rattle.httparse.specs.Grammar.{MayBecomeRequest, RequestHead}
+use Rattle.httparse.specs.Grammar.{HasNoRequest, MayBecomeRequest, ReadsRequest, RequestHead}
 use Rattle.serde_json.specs.Data.{Data, null}
 use Rattle.sha2.specs.Sha256.{sha256}
 use Rattle.bp_web.specs.Calls.{call_of}
@@ -9,7 +9,7 @@ use Rattle.bp_web.specs.Heads.{BeginsWith, BeginsWithNone, Field, NeverBegins, a
 use Rattle.bp_web.specs.Members.{object_of}
 use Rattle.bp_web.specs.Numbers.{number_of}
 use Rattle.bp_web.specs.Routes.{is_get, route_of}
-use Rattle.bp_web.specs.declared.heads.TheConstants.{HEAD_LIMIT}
+use Rattle.bp_web.specs.declared.heads.TheConstants.{HEAD_LIMIT, MAX_FIELDS}
 use Rattle.bp_web.specs.declared.requests.Asked.{Asked}
 use Rattle.bp_web.specs.declared.requests.Asking.{Asking}
 use Rattle.bp_web.specs.declared.requests.TheConstants.{MAX_BODY}
@@ -95,12 +95,16 @@ abbrev pub wanted_by : Result Asking WebRefusal → ℕ
 wanted_by (Ok a) = a.length
 wanted_by (Err refusal) = 0
 
--- the bytes hold a whole request, or as many as a head may have and no head
+-- the bytes hold a whole request, or as many as a head may have and no head. A head that is there
+-- with more fields than it may have is whole, since it is refused whatever follows
 pub data IsWhole (bytes : List ℕ) : Type 0 where
   whole : (head : RequestHead) → BeginsWith (start_of bytes) head
       → wanted_by (asking_of head) ≤ length (after_head head bytes)
       → IsWhole bytes
   headless : BeginsWithNone (start_of bytes) → HEAD_LIMIT ≤ length bytes → IsWhole bytes
+  crowded : (head : RequestHead) (rest : List ℕ) → ReadsRequest (start_of bytes) head rest
+      → MAX_FIELDS < length head.fields
+      → IsWhole bytes
 
 -- However the bytes go on: from n bytes on, more are read as these are; and with fewer the request
 -- isn't whole. Where no head can come, no more bytes are waited for.
@@ -110,8 +114,9 @@ pub record EndsAt (bytes : List ℕ) (n : ℕ) : Type 0 where
   pub first : (more : List ℕ) → IsWhole (bytes ++ more) → n ≤ length (bytes ++ more)
   pub never : NeverBegins (start_of bytes) → n ≤ length bytes
 
--- no head is there, fewer bytes than one may have came, and more may make one
+-- no head is there, whatever its number of fields, fewer bytes than one may have came, and more may
+-- make one
 pub record IsOpen (bytes : List ℕ) : Type 0 where
-  pub none : BeginsWithNone (start_of bytes)
+  pub none : HasNoRequest (start_of bytes)
   pub short : length bytes < HEAD_LIMIT
   pub may : MayBecomeRequest (start_of bytes)

@@ -15,11 +15,10 @@ use crate::heads::{
     Begin, HEAD_LIMIT, MAX_FIELDS, after, begin_of, has_named, only_named, start_of,
 };
 use crate::members::object_in;
-use crate::numbers::number_in;
 use crate::refusals::WebRefusal;
 use crate::router::RouteTable;
 use crate::routes::{Route, route_in};
-use bp_core::OutOfMemory;
+use bp_core::{OutOfMemory, number_in};
 use bp_matter::Call;
 use httparse::spans::{EMPTY_HEADER_SPAN, HeaderSpan};
 use serde_json::Value;

@@ -2,9 +2,8 @@
 ghost use Rattle.std.specs.Prelude.{◌≡◌, IfOk, drop};
 ghost use Rattle.bp_web.specs.Calls.{characters_of, doc_in as doc_spec, fourth_part as fourth, name_in as name_spec, next_part as next, page_in as page_spec, second_part as second};
 
-use crate::numbers::number_in;
 use crate::routes::split_part;
-use bp_core::{DocNo, OutOfMemory, PageNo, Text};
+use bp_core::{DocNo, OutOfMemory, PageNo, Text, number_in};
 use std::alloc::Global;
 
 /// A target without its first byte.

@@ -10,12 +10,12 @@ returns-in-Ok-clause-talks g c =
 pub returns-in-Err-LackedMemory-clause-talks : goal.returns-in-Err-LackedMemory-clause-talks
 returns-in-Err-LackedMemory-clause-talks g c =
     let read = rw c.in-Err-LackedMemory.field-0-is at c.in-Err-LackedMemory.ensures.takes in
-    talk_memory (g.H.Handler.Deals c.args.handler.now) _ _ _ _ _ _
+    talk_memory (g.H.Enough.Tells c.args.handler.now) (g.H.Handler.Deals c.args.handler.now) _ _ _ _ _ _
     (g.met.H.Handler.cut_off c.args.handler.now _) read c.no_memory.ensures
     c.send-in-Err-LackedMemory.ensures
 
 pub returns-in-Err-Refused-clause-talks : goal.returns-in-Err-Refused-clause-talks
 returns-in-Err-Refused-clause-talks g c =
     let read = rw c.in-Err-Refused.field-0-is at c.in-Err-Refused.ensures.takes in
-    talk_refused (g.H.Handler.Deals c.args.handler.now) _ _ _ _
+    talk_refused (g.H.Enough.Tells c.args.handler.now) (g.H.Handler.Deals c.args.handler.now) _ _ _ _
     (g.met.H.Handler.cut_off c.args.handler.now _) read

@@ -14,8 +14,8 @@ returns-in-Ok-Complete-clause-within c =
 
 pub returns-in-Ok-Partial-clause-found : goal.returns-in-Ok-Partial-clause-found
 returns-in-Ok-Partial-clause-found c =
-    open_found c.args.start.now _ c.parse_request.new.headers c.in-Ok-Partial.field-0
-    c.requires c.in-Ok-Partial.field-0-is c.in-Ok-Partial.ensures.found c.in-Ok-Partial.ensures.unfinished
+    open_found c.args.start.now c.in-Ok-Partial.field-0 c.in-Ok-Partial.field-0-is
+    c.in-Ok-Partial.ensures.partial c.in-Ok-Partial.ensures.unfinished
 
 pub returns-in-Err-clause-found : goal.returns-in-Err-clause-found
 returns-in-Err-clause-found c more = closed_found c.args.start.now more _ c.requires c.in-Err.ensures.no_room

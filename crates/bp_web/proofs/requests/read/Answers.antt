@@ -1,4 +1,5 @@
 use Rattle.std.proofs.Common.{sym, ap, ◌∙◌}
+use Rattle.bp_web.proofs.HeadLemmas.{none_begins}
 use Rattle.bp_web.proofs.RequestLemmas.{Found, asking_found, reads_asked, reads_never, reads_none, reads_refused, spans_fit, target_utf8}
 use Rattle.bp_web.specs.Requests.{asked_of}
 use Rattle.bp_web.proofs.requests.read.Goals as goal
@@ -33,7 +34,8 @@ returns-in-Err c not_memory =
 
 pub returns-in-Open : goal.returns-in-Open
 returns-in-Open c not_memory =
-    reads_none c.args.bytes.now c.start_of-start.result.now c.start_of-start.ensures c.in-Open.ensures.found.0
+    reads_none c.args.bytes.now c.start_of-start.result.now c.start_of-start.ensures
+    (none_begins c.start_of-start.result.now c.in-Open.ensures.found.0)
 
 pub returns-in-Closed : goal.returns-in-Closed
 returns-in-Closed c not_memory =

@@ -1,4 +1,5 @@
 use Rattle.std.proofs.Common.{◌≤◌, arith, subst}
+use Rattle.bp_web.proofs.HeadLemmas.{none_begins}
 use Rattle.bp_web.proofs.RequestLemmas.{Found, ends_at, ends_headless, ends_here, most_bytes, most_headless, small_wanted, waits_for_head, wanted_found}
 use Rattle.bp_web.specs.declared.requests.TheConstants.{MAX_BODY}
 use Rattle.bp_web.proofs.requests.whole_length.Goals as goal
@@ -33,7 +34,8 @@ returns-in-Head-clause-most c =
 
 pub returns-then-bytes-ge-HEAD_LIMIT-clause-ends : goal.returns-then-bytes-ge-HEAD_LIMIT-clause-ends
 returns-then-bytes-ge-HEAD_LIMIT-clause-ends c =
-    ends_headless c.args.bytes.now c.start_of-start.result.now c.start_of-start.ensures c.in-Open.ensures.found.0 c.if-bytes-ge-HEAD_LIMIT.true
+    ends_headless c.args.bytes.now c.start_of-start.result.now c.start_of-start.ensures
+    (none_begins c.start_of-start.result.now c.in-Open.ensures.found.0) c.if-bytes-ge-HEAD_LIMIT.true
 
 pub returns-else-bytes-ge-HEAD_LIMIT-clause-waits : goal.returns-else-bytes-ge-HEAD_LIMIT-clause-waits
 returns-else-bytes-ge-HEAD_LIMIT-clause-waits c =

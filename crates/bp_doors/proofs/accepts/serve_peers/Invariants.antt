@@ -1,6 +1,6 @@
 use Rattle.std.proofs.Common.{◌-◌, ◌≤◌}
 use Rattle.bp_doors.specs.Serving.{Serves}
-use Rattle.bp_doors.proofs.accepts.serve.Given as goal
+use Rattle.bp_doors.proofs.accepts.serve_peers.Given as goal
 
 abbrev pub invariant-serving : goal.invariant-serving
 invariant-serving g l =

@@ -1,7 +1,7 @@
 use Rattle.std.proofs.Common.{◌≡◌, ◌+◌, arith, refl}
 use Rattle.std.specs.Prelude.{None}
 use Rattle.bp_doors.proofs.ServingLemmas.{serves_none, serves_counted, serves_shut}
-use Rattle.bp_doors.proofs.accepts.serve.Goals as goal
+use Rattle.bp_doors.proofs.accepts.serve_peers.Goals as goal
 
 pub serving-init : goal.serving-init
 serving-init g c =

@@ -21,8 +21,9 @@ AltersIn opening history asked = AltersAmong opening history asked.key asked.cal
 
 -- A door was served for its seat: so many accepts were tried, or the last of fewer found it closed;
 -- its new exchanges use up the calls of the seat in the history, and so many of them were answered
--- that the keeper failed, each at a call that alters the matter at some place of the history. Where the history isn't full and there were none of these, each exchange
--- that was not cut or out of memory was answered.
+-- that the keeper failed, each at a call that alters the matter at some place of the history. Where
+-- the history isn't full and there were none of these, each exchange that was not cut or out of
+-- memory was answered.
 pub record DoorServed (opening : Matter) (history : List Made) (room seat connections faults : ℕ)
     (door door' : DoorView) : Type 0 where
   pub exchanges : List Exchange

@@ -1,13 +1,13 @@
 #!/bin/sh
-# Refuses each allocation of `burn` in turn, the first, the second and so on, by the kit's runner of programs that aren't
+# Refuses each allocation of `burn` in turn, the first, the second and so on, or each so many'th, by the kit's runner of programs that aren't
 # proved yet. Each run must end with 0 and the line of the whole file, or with 6: that memory ran out is never told as bad
 # words, a broken rule or a fault. Ends with a status other than 0 where one doesn't. A run can end with 0 though one of
 # its allocations was refused, where it does without; so the script ends after four runs in a row that end with 0.
-# Words: the form to read and the one to write, plain or g4; `plain` where none is given.
+# Words: the form to read and the one to write, plain or g4; `plain` where none is given. A third: how many allocations each run goes on.
 # Needs rt; each run takes about 20 seconds.
 set -eu
 cd "$(dirname "$0")/../crates/bp_main"
-from=${1:-plain} to=${2:-plain}
+from=${1:-plain} to=${2:-plain} step=${3:-1}
 case $to in
     plain) length=187 ;;
     g4) length=204 ;;
@@ -44,5 +44,5 @@ while [ "$ended_well" -lt 4 ]; do
             ;;
         *) printf 'allocation %s refused: status %s\n%s\n' "$at" "$status" "$said"; exit 1 ;;
     esac
-    at=$((at + 1))
+    at=$((at + step))
 done

@@ -57,7 +57,7 @@ PARTS = {
     "check": Part("examples/check.sh", 10, OFFICE, desks=1),
     "claw": Part("examples/claw.sh", 10, OFFICE, desks=1),
     "demo": Part("examples/demo.sh", 10, program=True),
-    "refusals": Part("examples/refusals.sh", 10, [("tifftopnm", "netpbm")], program=True),
+    "refusals": Part("examples/refusals.sh", 15, [("tifftopnm", "netpbm")], program=True),
     "clerk": Part("examples/clerk.sh", 5, [("sqlite3", "sqlite3")], program=True),
     "compare": Part("examples/compare.sh", 5, [("tifftopnm", "netpbm")], program=True),
     "stops": Part("examples/stops.sh 20", 10, [("sqlite3", "sqlite3")], program=True),
@@ -71,6 +71,9 @@ PARTS = {
     "page": Part("desk_page/tests/run.sh", 20),
     "guide": Part("examples/guide.py", 15),
     "desks": Part("examples/desks.sh", 15, desks=16),
+    "doors": Part("examples/doors.sh", 10, [("curl", "curl"), ("rt", "the kit, which has rt,")], desks=1),
+    # every seventh allocation, since each takes 20 seconds
+    "allocations": Part("examples/allocations.sh plain g4 7", 20, [("rt", "the kit, which has rt,")]),
 }
 
 

@@ -16,6 +16,7 @@ from .tables import read_table
 
 # which file a rule speaks of
 IS_DAT, IS_OPT, IS_MANIFEST, IS_IMAGE, IS_TEXT, IS_LISTED = range(6)
+SMALL = 4096  # bytes of a page file, as tests have them
 MOST_TOLD = 1000  # of the lines of a load file that aren't of its form
 
 
@@ -54,9 +55,17 @@ class Read:
     records: int = 0
 
 
-@functools.lru_cache(maxsize=5000)
 def page_rule(data):
-    """The rule that the reader of pages finds in these bytes, None where they are a page."""
+    """The rule that the reader of pages finds in these bytes, None where they are a page. Small ones are kept in mind."""
+    return (small_page_rule if len(data) <= SMALL else rule_of_page)(data)
+
+
+@functools.lru_cache(maxsize=5000)
+def small_page_rule(data):
+    return rule_of_page(data)
+
+
+def rule_of_page(data):
     try:
         read_tiff(data)
     except Rule as rule:

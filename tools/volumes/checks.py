@@ -9,7 +9,7 @@ from . import columns as names
 from . import profile
 from .folder import Unreadable
 from .image_lists import OPT, read_images
-from .letters import UTF_16, decoded
+from .letters import UTF_16, WINDOWS, decoded
 from .page_files import read_tiff
 from .rule import Rule
 from .tables import read_table
@@ -175,7 +175,8 @@ class Check:
             except Rule as rule:
                 bad += 1
                 if bad <= (1 if is_other else MOST_TOLD):
-                    yield Fault(rule, self.paths[1], shown(line), meant.form if meant.form != OPT else meant.letters if is_other else opt_kind(line))
+                    kind = meant.form if meant.form != OPT else meant.letters if is_other else opt_kind(line)
+                    yield Fault(rule, self.paths[1], shown(line), kind)
         if bad:
             self.volume.lines = [(image.line, image.id, image.volume, image.path, image.begins, False, False, image.told, image.text)
                                  for image in meant.images]
@@ -437,6 +438,10 @@ def dat_kind(text, columns):
 
 
 def opt_kind(line):
+    try:
+        line.decode("utf-8")
+    except UnicodeDecodeError:
+        return WINDOWS
     fields = shown(line).split(",")
     if not 3 <= len(fields) <= 7:
         return "fields"

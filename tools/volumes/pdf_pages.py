@@ -156,7 +156,8 @@ def put_font(pdf, glyph, letters):
 def unicode_map(letters):
     rows = [f"<{code:02x}> <{letter.encode('utf-16-be', 'replace').hex()}>" for code, letter in enumerate(letters, 1)]
     parts = [rows[at : at + 100] for at in range(0, len(rows), 100)]
-    head = ("/CIDInit /ProcSet findresource begin\n12 dict begin\nbegincmap\n/CIDSystemInfo << /Registry (Adobe) /Ordering (UCS) /Supplement 0 >> def\n"
+    head = ("/CIDInit /ProcSet findresource begin\n12 dict begin\nbegincmap\n"
+            "/CIDSystemInfo << /Registry (Adobe) /Ordering (UCS) /Supplement 0 >> def\n"
             "/CMapName /Text def\n/CMapType 2 def\n1 begincodespacerange\n<00> <ff>\nendcodespacerange\n")
     body = "".join(f"{len(part)} beginbfchar\n" + "\n".join(part) + "\nendbfchar\n" for part in parts)
     return (head + body + "endcmap\nCMapName currentdict /CMap defineresource pop\nend\nend").encode("ascii")

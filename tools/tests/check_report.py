@@ -178,6 +178,22 @@ class Habits(Case):
             self.assertIn(why, told)
         self.assertIn("due:   BegBates for BEGDOC", told)
 
+    def test_lists_in_utf_16(self):
+        """An OPT and a manifest as PowerShell writes them."""
+        volume = checked_volumes.ByCsv()
+        files = volume.files()
+        _, opt, manifest = volume.words()
+        files[manifest] = files[manifest].decode().encode("utf-16")
+        self.put(files)
+        told = self.report(volume.words(), 1)
+        self.assertIn("tivrenan check: refused 115 ManifestShape 1 0 0\n1 fault of 1 kind;", told)
+        self.assertIn("UTF-16, as PowerShell's > writes it", told)
+        files[opt] = files[opt].decode().encode("utf-16")
+        self.put(files)
+        told = self.report(volume.words()[:2], 1)
+        self.assertIn("tivrenan check: refused 53 OptShape 1 0 0\n1 fault of 1 kind; 3 records, 6 images", told)
+        self.assertIn("The OPT is UTF-16", told)
+
     def test_control_characters_stay_in_the_file(self):
         volume = checked_volumes.ByCsv()
         files = volume.files()

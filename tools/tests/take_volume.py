@@ -45,7 +45,7 @@ def read_opt(path):
 
 def rows_of(pbm, count=None):
     """The first rows of a raw PBM, or all, each a number, without the bits past its width."""
-    head = re.match(rb"P4\s+(\d+)\s+(\d+)\s", pbm)
+    head = re.match(rb"P4\s+(?:#.*\n)*(\d+)\s+(\d+)\s", pbm)
     width, height = int(head[1]), int(head[2])
     size = (width + 7) // 8
     return [int.from_bytes(pbm[at : at + size], "big") >> -width % 8 for at in range(head.end(), head.end() + size * (count or height), size)]
@@ -89,7 +89,8 @@ class Rounds(unittest.TestCase):
                                                                        for _ in range(first, last + 1)])
         for number, image in enumerate(images):
             path = os.path.join(batch, image[2].replace("\\", "/"))
-            self.assertEqual(sh(["tifftopnm", "-quiet", path]), volume.due_pixels(number), image)
+            if volume.is_exact:
+                self.assertEqual(sh(["tifftopnm", "-quiet", path]), volume.due_pixels(number), image)
             self.assertIn("CCITT Group 4", sh(["tiffinfo", path]).decode())
         self.words_of(volume, batch)
         return batch
@@ -126,6 +127,7 @@ class Rounds(unittest.TestCase):
         out = os.path.dirname(written)
         sh([AS, "VOL001", "FORMS", "dat", "csv", "lfp", "pdf", "log", "--letters", "utf-16", "--jobs", "4"], folder=out)
         sh(["sha256sum", "--quiet", "--strict", "-c", "FORMS/MANIFEST.TXT"], folder=out)
+        came = [sh(["tifftopnm", "-quiet", os.path.join(batch, image[2].replace("\\", "/"))]) for image in read_opt(os.path.join(batch, "load.opt"))]
         records = read_dat(os.path.join(written, "DATA", "VOL001.DAT"))
         self.assertEqual([record["CUSTODIAN"] for record in records], volume.fields["CUSTODIAN"][: len(records)])
         with open(os.path.join(out, "FORMS", "DATA", "VOL001.CSV"), encoding="utf-8-sig", newline="") as file:
@@ -133,7 +135,8 @@ class Rounds(unittest.TestCase):
         images = read_opt(os.path.join(written, "DATA", "VOL001.OPT"))
         for number, image in enumerate(images):
             path = os.path.join(out, image[2].replace("\\", "/"))
-            self.assertEqual(rows_of(sh(["tifftopnm", "-quiet", path]), vendors.HEIGHT), rows_of(volume.due_pixels(number)))
+            due = rows_of(volume.due_pixels(number) if volume.is_exact else came[number])
+            self.assertEqual(rows_of(sh(["tifftopnm", "-quiet", path]), len(due)), due)
         for record in records:
             same_as_pdf(self, out, record, images)
 

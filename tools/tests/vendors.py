@@ -95,7 +95,7 @@ def comma_separated(rows, delimiter=","):
 class Volume:
     """Right in all of the profile but, perhaps, names and forms that a subclass gives."""
 
-    root, words, options = "ACME001", "text", ()
+    root, words, options, is_exact = "ACME001", "text", (), True
     as_volume = "checked documents 4 images 6 files 12"  # what a check says of its copy in the profile
     titles = {"BEGDOC": "BEGDOC", "ENDDOC": "ENDDOC", "BEGATTACH": "BEGATTACH", "ENDATTACH": "ENDATTACH", "TEXTPATH": "TEXTPATH"}
     fields = {"CUSTODIAN": ["Müller, Jürgen", "Ng", "Ortiz", ""], "NOTE": ["one\ntwo", "a, \"b\"", "c;d", "e|f"]}
@@ -405,6 +405,19 @@ class PdfByNumber(Pdf):
         return Volume.record(self, at)
 
 
+class PdfOfText(Pdf):
+    """PDFs with a text, by ghostscript: words come from it, where they stand. Another program paints their pages than read them."""
+    words, is_exact = "read", False
+
+    def image_files(self):
+        return {f"NATIVES/{self.label(pages[0])}.pdf": printed(pages) for pages in self.documents}
+
+
+def printed(numbers):
+    points = (f"-dDEVICEWIDTHPOINTS={WIDTH * 72 // INCH}", f"-dDEVICEHEIGHTPOINTS={HEIGHT * 72 // INCH}", "-dFIXEDMEDIA")
+    return sh(["gs", "-q", "-dNOPAUSE", "-dBATCH", "-sDEVICE=pdfwrite", *points, "-sOutputFile=-", "-"], b"\n".join(map(post_script, numbers)))
+
+
 class Range(Volume):
     """Families by a range in one column."""
     titles = {"BEGDOC": "BEGDOC", "ENDDOC": "ENDDOC", "ATTACHRANGE": "Attachment Range", "TEXTPATH": "TEXTPATH"}
@@ -510,5 +523,5 @@ def turned(data):
 
 
 ALL = [Plain, Utf16, Utf16Bare, Windows, Carets, Tabs, Commas, Semicolons, Lfp, LfpOfPages, OneLine, SeveralLines, Drive, Share, Capitals,
-       OtherRoot, Lzw, Group3, Group3Of2, PackBits, Tiles, Strips, Grey, Jpeg, Png, Pdf, PdfByNumber, Range, Parent, Group, NoBreaks,
+       OtherRoot, Lzw, Group3, Group3Of2, PackBits, Tiles, Strips, Grey, Jpeg, Png, Pdf, PdfByNumber, PdfOfText, Range, Parent, Group, NoBreaks,
        Suffixes, NativesAlone, Mapped, PageTexts, Read, Turned]

@@ -21,6 +21,7 @@ TOP = os.path.dirname(os.path.dirname(HERE))
 sys.path.insert(0, HERE)
 sys.path.insert(0, os.path.join(TOP, "tools"))
 import matter_day  # noqa: E402
+from take_volume import rows_of, same_as_pdf  # noqa: E402
 from volumes import page_files, pdf_pages  # noqa: E402
 
 AS = os.path.join(TOP, "tools", "volume_as")
@@ -97,7 +98,6 @@ class Out(unittest.TestCase):
     # ---- PDFs
 
     def test_a_pdf_has_the_images_and_the_text(self):
-        from take_volume import same_as_pdf
         images = self.images()
         for record, _ in self.pdfs():
             same_as_pdf(self, self.out, record, images)
@@ -204,9 +204,22 @@ class Letters(unittest.TestCase):
 
     def test_letters(self):
         text = "Straße ÆØÅ\nпривет мир\n日本語 テキスト\nna\u0301ive \U0001f600 ok\n" + "long " * 300
+        text += "".join(f"{chr(0x4e00 + k)}{' ' if k % 9 == 8 else ''}" for k in range(600))
         with tempfile.TemporaryDirectory() as room:
             told = sh(["pdftotext", "-raw", self.pdf(self.tiff(), text, room), "-"]).decode()
         self.assertEqual(told.split(), text.split())
+
+    def test_readers_show_the_page_as_it_is(self):
+        """ghostscript and mutool paint at the page's own resolution the pixels that libtiff reads."""
+        with tempfile.TemporaryDirectory() as room:
+            path = self.pdf(self.tiff(), "some words", room)
+            with open(os.path.join(room, "in.tif"), "wb") as file:
+                file.write(self.tiff())
+            due = rows_of(sh(["tifftopnm", "-quiet", "in.tif"], room))
+            for words in (["gs", "-q", "-dNOPAUSE", "-dBATCH", "-sDEVICE=pbmraw", "-r200", "-sOutputFile=-", path],
+                          ["mutool", "draw", "-q", "-r", "200", "-c", "mono", "-F", "pbm", "-o", "-", path]):
+                if shutil.which(words[0]):
+                    self.assertTrue(rows_of(sh(words)) == due, words[0])
 
     def tiff(self):
         import fuzz_pages
@@ -236,10 +249,11 @@ def streams(pdf):
 
 
 def drawn(pdf):
-    """The text that is drawn, by the codes' own table in the file."""
-    told = {code: bytes.fromhex(letter.decode()).decode("utf-16-be") for code, letter in re.findall(rb"<([0-9a-f]{4})> <([0-9a-f]+)>", pdf)}
+    """The text that is drawn, by the codes' own table in the file, which has one font."""
+    told = {code: bytes.fromhex(letter.decode()).decode("utf-16-be") for code, letter in re.findall(rb"<([0-9a-f]{2})> <([0-9a-f]{4,})>", pdf)}
     lines = re.findall(rb"<([0-9a-f]+)> Tj", pdf)
-    return "\n".join("".join(told[line[at : at + 4]] for at in range(0, len(line), 4)) for line in lines)
+    assert pdf.count(b"/Subtype /Type3") == 1
+    return "\n".join("".join(told[line[at : at + 2]] for at in range(0, len(line), 2)) for line in lines)
 
 
 def setUpModule():

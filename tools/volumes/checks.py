@@ -9,13 +9,14 @@ from . import columns as names
 from . import profile
 from .folder import Unreadable
 from .image_lists import OPT, read_images
-from .letters import UTF_16, decoded
+from .letters import UTF_16, WINDOWS, decoded
 from .page_files import read_tiff
 from .rule import Rule
 from .tables import read_table
 
 # which file a rule speaks of
 IS_DAT, IS_OPT, IS_MANIFEST, IS_IMAGE, IS_TEXT, IS_LISTED = range(6)
+SMALL = 4096  # bytes of a page file, as tests have them
 MOST_TOLD = 1000  # of the lines of a load file that aren't of its form
 
 
@@ -54,9 +55,17 @@ class Read:
     records: int = 0
 
 
-@functools.lru_cache(maxsize=5000)
 def page_rule(data):
-    """The rule that the reader of pages finds in these bytes, None where they are a page."""
+    """The rule that the reader of pages finds in these bytes, None where they are a page. Small ones are kept in mind."""
+    return (small_page_rule if len(data) <= SMALL else rule_of_page)(data)
+
+
+@functools.lru_cache(maxsize=5000)
+def small_page_rule(data):
+    return rule_of_page(data)
+
+
+def rule_of_page(data):
     try:
         read_tiff(data)
     except Rule as rule:
@@ -166,7 +175,8 @@ class Check:
             except Rule as rule:
                 bad += 1
                 if bad <= (1 if is_other else MOST_TOLD):
-                    yield Fault(rule, self.paths[1], shown(line), meant.form if meant.form != OPT else meant.letters if is_other else opt_kind(line))
+                    kind = meant.form if meant.form != OPT else meant.letters if is_other else opt_kind(line)
+                    yield Fault(rule, self.paths[1], shown(line), kind)
         if bad:
             self.volume.lines = [(image.line, image.id, image.volume, image.path, image.begins, False, False, image.told, image.text)
                                  for image in meant.images]
@@ -428,6 +438,10 @@ def dat_kind(text, columns):
 
 
 def opt_kind(line):
+    try:
+        line.decode("utf-8")
+    except UnicodeDecodeError:
+        return WINDOWS
     fields = shown(line).split(",")
     if not 3 <= len(fields) <= 7:
         return "fields"

@@ -5,11 +5,18 @@ from html import escape
 
 LETTERS = {"utf-8": "utf-8", "utf-8-mark": "utf-8-sig", "utf-16": "utf-16-le", "windows-1252": "cp1252"}
 # between values, around one, for a newline in one
-SIGNS = {"concordance": ("\u0014", "\u00fe", "\u00ae"), "carets": ("|", "^", "~"), "tabs": ("\t", '"', " "), "commas": (",", '"', "\n")}
+SIGNS = {
+    "concordance": ("\u0014", "\u00fe", "\u00ae"),
+    "carets": ("|", "^", "~"),
+    "tabs": ("\t", '"', " "),
+    "commas": (",", '"', "\n"),
+}
 GROUP_4 = 2  # how LFP numbers TIFF
 STYLE = """body { font: 14px/1.4 serif; margin: 2rem; color: #000; background: #fff; } h1 { font-size: 1.2rem; }
-table { border-collapse: collapse; width: 100%; } th, td { border: 1px solid #555; padding: .25rem .4rem; text-align: left; vertical-align: top; overflow-wrap: anywhere; }
-th { background: #eee; } @page { size: landscape; margin: 1.5cm; } @media print { body { margin: 0; } thead { display: table-header-group; } tr { break-inside: avoid; } }"""
+table { border-collapse: collapse; width: 100%; } th { background: #eee; }
+th, td { border: 1px solid #555; padding: .25rem .4rem; text-align: left; vertical-align: top; overflow-wrap: anywhere; }
+@page { size: landscape; margin: 1.5cm; }
+@media print { body { margin: 0; } thead { display: table-header-group; } tr { break-inside: avoid; } }"""
 
 
 class NotWritable(Exception):
@@ -70,5 +77,7 @@ def log_of(name, data):
     rows = list(csv.reader(io.StringIO(data.decode("utf-8"), newline="")))
     head = "".join(f"<th>{escape(value)}</th>" for value in rows[0])
     body = "\n".join("<tr>" + "".join(f"<td>{escape(value)}</td>" for value in row) + "</tr>" for row in rows[1:])
-    return (f'<!DOCTYPE html>\n<html lang="en"><head><meta charset="utf-8"><title>Privilege log of {escape(name)}</title>\n<style>{STYLE}</style></head><body>\n'
-            f"<h1>Privilege log of {escape(name)}</h1>\n<table>\n<thead><tr>{head}</tr></thead>\n<tbody>\n{body}\n</tbody>\n</table>\n</body></html>\n").encode("utf-8")
+    title = f"Privilege log of {escape(name)}"
+    table = f"<table>\n<thead><tr>{head}</tr></thead>\n<tbody>\n{body}\n</tbody>\n</table>"
+    page = f"<title>{title}</title>\n<style>{STYLE}</style></head><body>\n<h1>{title}</h1>\n{table}\n</body></html>\n"
+    return f'<!DOCTYPE html>\n<html lang="en"><head><meta charset="utf-8">{page}'.encode("utf-8")

@@ -1,4 +1,5 @@
 """Which letters the bytes of a text are: UTF-8, UTF-16 or the code page of Windows."""
+import codecs
 
 MARKS = ((b"\xef\xbb\xbf", "utf-8", "UTF-8"), (b"\xff\xfe", "utf-16-le", "UTF-16"), (b"\xfe\xff", "utf-16-be", "UTF-16"))
 UTF_8, UTF_16, WINDOWS = "UTF-8", "UTF-16", "Windows-1252"
@@ -16,7 +17,7 @@ def decoded(data):
     try:
         return data.decode("utf-8"), UTF_8
     except UnicodeDecodeError:
-        return "".join(map(windows_letter, data)), WINDOWS
+        return codecs.charmap_decode(data, "strict", WINDOWS_LETTERS)[0], WINDOWS
 
 
 def codec_of_halves(data):
@@ -34,3 +35,6 @@ def windows_letter(byte):
         return bytes([byte]).decode("cp1252")
     except UnicodeDecodeError:
         return chr(byte)
+
+
+WINDOWS_LETTERS = "".join(map(windows_letter, range(256)))

@@ -30,7 +30,8 @@ class Look:
 def looks_of(check, folder):
     """All that was seen of a volume that `check` has read, of the files below `folder`."""
     columns = names.map_columns(check.volume.columns)
-    found = [*attachments(check, columns), *letters(check, columns), *twice(check), *natives(check, columns, folder), *unlisted(check, columns, folder)]
+    found = [*attachments(check, columns), *letters(check, columns), *twice(check)]
+    found += [*natives(check, columns, folder), *unlisted(check, columns, folder)]
     return [look for look in found if look.places]
 
 
@@ -53,8 +54,9 @@ def attachments(check, columns):
         why = attachment_fault(at, row, rows, begins, ends)
         if why:
             wrong.append(f"record {at + 1}, {row[names.BEGDOC]}: {why}")
+    both = f"{theirs[names.BEGATTACH]} and {theirs[names.ENDATTACH]}"
     yield Look("ranges of attachments that don't hold together", wrong,
-               f"Write in {theirs[names.BEGATTACH]} and {theirs[names.ENDATTACH]} of each member of a family the first and the last number of the family.")
+               f"Write in {both} of each member of a family the first and the last number of the family.")
 
 
 def attachment_fault(at, row, rows, begins, ends):
@@ -131,7 +133,8 @@ def unlisted(check, columns, folder):
     for name in ("TEXTPATH", *(check.volume.columns[columns[each]] for each in (names.NATIVE,) if each in columns)):
         told |= {path for _, values, _ in check.volume.rows if (path := allowed(values.get(name) or ""))}
     told |= {each.path for each in check.volume.listed or [] if each.path}
-    there = [path for top in sorted({path.split("/")[0] for path in told if "/" in path and "\0" not in path}) for path in files_below(folder, top)]
+    tops = sorted({path.split("/")[0] for path in told if "/" in path and "\0" not in path})
+    there = [path for top in tops for path in files_below(folder, top)]
     yield Look("files that lie there, and neither load files nor manifest name them", [path for path in there if path not in told],
                "Leave them out, or list them: nobody can tell what they are.")
     known = Counter(path.casefold() for path in there)

@@ -2,7 +2,7 @@
 from dataclasses import dataclass
 from html import escape
 
-from . import telling
+from . import advice
 from .looks import NOT_LOOKED
 
 MOST_PLACES = 50  # that are told of one fault
@@ -25,7 +25,7 @@ class Report:
     def says(self):
         """The line of `tivrenan check`."""
         if self.faults:
-            return telling.check_line(self.faults[0])
+            return advice.check_line(self.faults[0])
         return "checked documents {} images {} files {}".format(*self.counts)
 
     def found(self):
@@ -34,7 +34,7 @@ class Report:
         looked = f"{some(documents, 'record')}, {some(images, 'image')} and {some(files, 'listed file')} were looked at"
         if not self.faults:
             return f"No rule is broken; {looked}."
-        groups = len(telling.grouped(self.faults))
+        groups = len(advice.grouped(self.faults))
         return f"{some(len(self.faults), 'fault')} of {some(groups, 'kind')}; {looked}."
 
     def not_looked(self):
@@ -50,7 +50,7 @@ def some(count, word):
 
 def rows_of(faults):
     """Of each fault of a group: place, the line that stands there, what was found, what was due."""
-    return [(telling.place_of(fault), telling.stands(fault), telling.found(fault), telling.due(fault)) for fault in faults[:MOST_PLACES]]
+    return [(advice.place_of(fault), advice.stands(fault), advice.found(fault), advice.due(fault)) for fault in faults[:MOST_PLACES]]
 
 
 def more_of(things):
@@ -62,9 +62,9 @@ def more_of(things):
 
 def text_of(report):
     lines = [f"Volume: {' '.join(report.words)}", f"tivrenan check: {report.says()}", report.found(), ""]
-    for number, group in enumerate(telling.grouped(report.faults), 1):
-        what, mend = telling.said(group[0])
-        lines += [f"{number}. {what[0].upper()}{what[1:]} ({telling.name_of(group[0])}): {some(len(group), 'time')}", f"   Mend: {mend}"]
+    for number, group in enumerate(advice.grouped(report.faults), 1):
+        what, mend = advice.said(group[0])
+        lines += [f"{number}. {what[0].upper()}{what[1:]} ({advice.name_of(group[0])}): {some(len(group), 'time')}", f"   Mend: {mend}"]
         for place, stands, found, due in rows_of(group):
             lines.append(f"   - {place}")
             lines += [f"     {title} {value}" for title, value in (("line: ", stands), ("found:", found), ("due:  ", due)) if value]
@@ -72,7 +72,7 @@ def text_of(report):
         lines.append("")
     for look in report.looks:
         lines += [f"Also seen, which no rule forbids: {look.what}: {len(look.places):,}", f"   Mend: {look.mend}"]
-        lines += [f"   - {telling.printable(place)}" for place in look.places[:MOST_PLACES]]
+        lines += [f"   - {advice.printable(place)}" for place in look.places[:MOST_PLACES]]
         lines += [f"   {more_of(look.places)}"] if more_of(look.places) else []
         lines.append("")
     return "\n".join([*lines, "Not looked at:", *(f"- {each}" for each in report.not_looked())]) + "\n"
@@ -86,26 +86,28 @@ def page_of(report, when):
     name = " ".join(report.words)
     parts = [f"<h1>What is to be mended in a volume</h1>\n<p class=note>{escape(name)}, looked at {escape(when)}</p>",
              f"<p><code>{escape(report.says())}</code></p>\n<p>{escape(report.found())}</p>"]
-    parts += [fault_part(number, group) for number, group in enumerate(telling.grouped(report.faults), 1)]
+    parts += [fault_part(number, group) for number, group in enumerate(advice.grouped(report.faults), 1)]
     parts += [look_part(look) for look in report.looks]
     left = "".join(f"<li>{escape(each)}</li>" for each in report.not_looked())
     parts.append(f"<h2>Not looked at</h2>\n<ul>{left}</ul>")
     body = "\n".join(parts)
     return (f'<!DOCTYPE html>\n<html lang="en"><head><meta charset="utf-8"><title>Volume {escape(name)}</title>\n'
-            f'<meta name="viewport" content="width=device-width, initial-scale=1">\n<style>{STYLE}</style></head><body>\n{body}\n</body></html>\n')
+            f'<meta name="viewport" content="width=device-width, initial-scale=1">\n<style>{STYLE}</style></head>'
+            f"<body>\n{body}\n</body></html>\n")
 
 
 def fault_part(number, group):
-    what, mend = telling.said(group[0])
+    what, mend = advice.said(group[0])
     titles = ("Where", "What stands there", "Found", "Due")
     head = "".join(f"<th>{title}</th>" for title in titles)
     rows = "\n".join("<tr>" + "".join(f"<td{' class=line' if at == 1 else ''}>{escape(value)}</td>" for at, value in enumerate(row)) + "</tr>"
                      for row in rows_of(group))
-    return (f"<h2>{number}. {escape(what[0].upper() + what[1:])}</h2>\n<p class=note>{escape(telling.name_of(group[0]))}: {some(len(group), 'time')}</p>\n"
-            f"<p class=mend>{escape(mend)}</p>\n<table>\n<tr>{head}</tr>\n{rows}\n</table>\n{escape(more_of(group))}")
+    return (f"<h2>{number}. {escape(what[0].upper() + what[1:])}</h2>\n"
+            f"<p class=note>{escape(advice.name_of(group[0]))}: {some(len(group), 'time')}</p>\n<p class=mend>{escape(mend)}</p>\n"
+            f"<table>\n<tr>{head}</tr>\n{rows}\n</table>\n{escape(more_of(group))}")
 
 
 def look_part(look):
-    places = "".join(f"<li class=line>{escape(telling.printable(place))}</li>" for place in look.places[:MOST_PLACES])
+    places = "".join(f"<li class=line>{escape(advice.printable(place))}</li>" for place in look.places[:MOST_PLACES])
     return (f"<h2>Also seen: {escape(look.what)}</h2>\n<p class=note>No rule forbids it. {some(len(look.places), 'time')}</p>\n"
             f"<p class=mend>{escape(look.mend)}</p>\n<ul>{places}</ul>{escape(more_of(look.places))}")

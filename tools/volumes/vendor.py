@@ -68,7 +68,8 @@ class Vendor:
         self.columns = names.map_columns(self.table.columns, told)
         self.images = self.read_list()
         if names.BEGDOC not in self.columns:
-            raise Refused(self.dat, f"no column is one with the first number of a document; it has {', '.join(self.table.columns)}: say which by --map")
+            has = ", ".join(self.table.columns)
+            raise Refused(self.dat, f"no column is one with the first number of a document; it has {has}: say which by --map")
 
     # ---- the load files
 

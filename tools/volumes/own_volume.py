@@ -4,7 +4,7 @@ import os
 from .checks import Check, page_rule
 from .folder import read_file
 from .profile import path_of
-from .telling import check_line, said
+from .advice import check_line, said
 
 
 class NotRight(Exception):
@@ -18,8 +18,8 @@ class Written:
         self.above, self.name = os.path.split(os.path.abspath(folder))
         if not os.path.isdir(folder):
             raise NotRight(f"{folder}: there is no such folder")
-        self.dat, self.opt, self.manifest = (f"{self.name}/{path}" for path in (f"DATA/{self.name}.DAT", f"DATA/{self.name}.OPT", "MANIFEST.TXT"))
-        self.log = f"{self.name}/DATA/{self.name}-LOG.CSV"
+        data = f"{self.name}/DATA/{self.name}"
+        self.dat, self.opt, self.log, self.manifest = f"{data}.DAT", f"{data}.OPT", f"{data}-LOG.CSV", f"{self.name}/MANIFEST.TXT"
         known = page_rules(self)
         rule_of = lambda path, data: known[path] if path in known else page_rule(data)  # noqa: E731
         check = Check(self.read, self.dat, self.opt, self.manifest, page_rule_of=rule_of)

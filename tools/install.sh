@@ -3,7 +3,8 @@
 # /usr/local. DESTDIR in the environment goes before it, for those who make packages. PREFIX holds then
 #   bin/tivrenan                     the launcher, with bin/tivrenan-make-batch and bin/tivrenan-matter-report
 #   lib/tivrenan/bp_main             the program
-#   share/tivrenan/                  what these read: the page of statuses, the programs in Python, the review page
+#   share/tivrenan/                  what these read: the page of statuses, what explains refusals, the programs in Python, the
+#                                    review page
 #   share/doc/tivrenan/              README, guide, formats, license, and examples/ with the letter, the batch and pictures
 #   share/man/man1/, share/bash-completion/completions/
 # It runs in a clone, where the program is built first if it isn't, and nothing is left half: what was there before is replaced.
@@ -36,7 +37,7 @@ program crates/bp_main/out/bp_main lib/tivrenan/bp_main
 file docs/STATUSES.md share/tivrenan/STATUSES.md
 file README.md share/tivrenan/README.md
 for each in make_batch matter_report; do program "tools/$each" "share/tivrenan/tools/$each"; done
-for each in batch report; do folder "tools/$each" "share/tivrenan/tools/$each"; done
+for each in batch explain report; do folder "tools/$each" "share/tivrenan/tools/$each"; done
 ln -sf ../share/tivrenan/tools/make_batch "$into/bin/tivrenan-make-batch"
 ln -sf ../share/tivrenan/tools/matter_report "$into/bin/tivrenan-matter-report"
 [ ! -d "$top/desk_page" ] || folder desk_page share/tivrenan/desk_page

@@ -12,7 +12,7 @@ explain_refusal() {
     esac
     case $1,$refusal in
         check,*) tell_in_volume "${refusal#refused }" "${2-}" "${3-}" "${4-}" ;;
-        import,'refused 63 '*' 0 0 0') tell_batch_name "${2-}" ;;
+        import,'refused 63 '*' 0 0 0'*) tell_batch_name "${2-}" ;;
         produce,*) shift && tell_request "${refusal#refused }" "$@" ;;
     esac
 }
@@ -149,5 +149,6 @@ tell_other_name() {
         return
     fi
     other=$(find . -path "*/$pattern" 2> /dev/null | head -n 1)
-    [ -z "$other" ] || say "there is ${other#./}: the path begins in another folder, ${other%"/${1#./}"}"
+    other=${other#./}
+    [ -z "$other" ] || say "there is $other: the path begins in another folder, ${other%"/${1#./}"}"
 }

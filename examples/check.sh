@@ -74,4 +74,91 @@ grep -v -F ABC00000004.TXT VOL001/MANIFEST.TXT > list.txt
 explained 'the file is VOL001/TEXT/0001/ABC00000004.TXT' list.txt
 sed '36s/^./g/; 36s/^g/0/' VOL001/MANIFEST.TXT | sed '36s/^..../0000/' > list.txt
 explained "the file is $data-LOG.CSV, and the digest that was due 0000" list.txt
+
+# what vendors' habits are told by: of one refusal what is due
+habit() {
+    due=$1
+    shift
+    said=$("$tivrenan" "$@" 2>&1 > /dev/null) || :
+    case $said in
+        *"$due"*) printf 'told: %s\n' "$due" ;;
+        *)
+            printf 'check.sh: the launcher said: %s\nand not: %s\n' "$said" "$due" >&2
+            exit 1
+            ;;
+    esac
+    cp whole.opt $data.OPT
+    cp whole.dat $data.DAT
+}
+check_habit() { due=$1 && shift && habit "$due" check $data.DAT $data.OPT "$@"; }
+
+change_opt '3s/VOL001.IMAGES/D:\\VOL001\\IMAGES/2; 3s/,VOL001.IMAGES/,D:\\VOL001\\IMAGES/'
+check_habit 'it is the path of the image in line 3 of the OPT: D:\VOL001\IMAGES\0001\ABC00000003.TIF, which has a drive'
+change_opt '3s/,VOL001.IMAGES/,\\VOL001\\IMAGES/'
+check_habit 'the path of the image in line 3 of the OPT: \VOL001\IMAGES\0001\ABC00000003.TIF, which has / or \ at its front'
+change_dat '3s/VOL001.TEXT/..\\VOL001\\TEXT/'
+check_habit 'it is TEXTPATH of record 2 of the DAT: ..\VOL001\TEXT\0001\ABC00000004.TXT, which has the part .., to a folder above'
+habit 'it is the word OPT: ../x.opt, which has the part ..' check $data.DAT ../x.opt
+change_dat '1s/BEGDOC/BegBates/; 1s/ENDDOC/End Bates/'
+check_habit 'the DAT has the columns BegBates, End Bates, BEGATTACH, '
+change_dat '1s/BEGDOC/BegBates/; 1s/ENDDOC/End Bates/'
+check_habit '; BegBates looks like BEGDOC; End Bates looks like ENDDOC'
+change_dat '1s/BEGDOC/PRODBEG/'
+check_habit '; PRODBEG looks like BEGDOC'
+change_dat '1s/WITHHELD/BEGDOC/'
+check_habit '; BEGDOC stands twice'
+LC_ALL=C sed 's/\xc3\xbe//g; s/\x14/,/g' whole.dat > $data.DAT
+check_habit 'it has commas between values, and no þ around them'
+change_opt '3s/IMAGES.0001/Images\\0001/'
+check_habit 'there is VOL001/IMAGES/0001/ABC00000003.TIF: capitals and small letters differ'
+change_opt 's/,VOL001\\IMAGES/,IMAGES/'
+check_habit 'there is VOL001/IMAGES/0001/ABC00000001.TIF: the path begins in another folder, VOL001'
+iconv -f UTF-8 -t UTF-16 whole.opt > $data.OPT
+check_habit "$data.OPT is in UTF-16, as Windows' tools write it, and has to be UTF-8: iconv -f UTF-16 -t UTF-8 $data.OPT > copy"
+iconv -f UTF-8 -t UTF-16LE whole.dat > $data.DAT
+check_habit "$data.DAT is in UTF-16"
+# an OPT of files of several pages: a line a document
+change_opt '/,Y,/!d'
+check_habit 'line 1 stands for a document of 3 pages, and is its only line: its file has all its pages'
+
+# of lines of a manifest
+list() { LC_ALL=C sed "$1" VOL001/MANIFEST.TXT > list.txt; }
+list 's/$/\r/'
+check_habit 'the lines of the manifest end in CR LF, so that each path has a CR at its end' list.txt
+list '2s/^[0-9a-f]*/\U&/'
+check_habit 'the digest has capitals, as PowerShell writes them' list.txt
+list '2s/  / */'
+check_habit 'before the path stands a space and *, as sha256sum writes it for --binary' list.txt
+list '2s/^[0-9a-f]\{32\}//'
+check_habit 'the digest is an MD5, of 32 characters' list.txt
+list '2s/^[0-9a-f]\{24\}//'
+check_habit 'the digest is a SHA-1, of 40 characters' list.txt
+list '2s/\(.*\)  \(.*\)/\2  \1/'
+check_habit 'the digest stands behind the path' list.txt
+list '2s/.*//'
+check_habit 'the line is empty' list.txt
+list '2s/  /,/'
+check_habit 'between digest and path due are two spaces' list.txt
+list '1s/^/\xef\xbb\xbf/'
+check_habit 'the file begins with a byte order mark' list.txt
+iconv -f UTF-8 -t UTF-16 VOL001/MANIFEST.TXT > list.txt
+check_habit 'list.txt is in UTF-16' list.txt
+list '/ABC00000004.TXT/s/TEXT/Text/'
+check_habit 'has VOL001/Text/0001/ABC00000004.TXT: capitals and small letters differ' list.txt
+list 's#  VOL001/#  #'
+check_habit ': its paths begin in another folder' list.txt
+
+# of words, where there is a matter
+mkdir LET_001
+cp "$here/out/office/matter.db" .
+habit 'the name has no / at its end, which a shell puts there: tivrenan import LET_001' import LET_001/
+habit 'go to the folder that it lies in, or move it here' import scans/LET_001
+for each in 'PREFIX is abc, with small letters: ABC#29#R-9 VOL009 abc 8 1 2' 'PREFIX is AB1, with a digit at its end#29#R-9 VOL009 AB1 8 1 2' \
+    'VOLUME is Vol009, with small letters: VOL009#32#R-9 Vol009 ABX 8 1 2' 'ID is R.9, with a character#32#R.9 VOL009 ABX 8 1 2' \
+    'the fields that were asked for are: Author#22#R-9 VOL009 ABX 8 1 2 Author' 'AUTHOR is chosen twice#40#R-9 VOL009 ABX 8 1 2 AUTHOR AUTHOR' \
+    'PAGECOUNT is a column that the DAT of each volume has of itself#40#R-9 VOL009 ABX 8 1 2 PAGECOUNT'; do
+    due=${each%%#*} words=${each##*#}
+    # shellcheck disable=SC2086 # a list of words
+    habit "$due" produce $words
+done
 echo 'each refusal is explained by its place in the volume'

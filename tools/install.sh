@@ -3,7 +3,8 @@
 # /usr/local. DESTDIR in the environment goes before it, for those who make packages. PREFIX holds then
 #   bin/tivrenan                     the launcher, and beside it bin/tivrenan-make-batch and the other programs for offices
 #   lib/tivrenan/bp_main             the program
-#   share/tivrenan/                  what these read: the page of statuses, the programs in Python, the review page
+#   share/tivrenan/                  what these read: the page of statuses, what explains refusals, the programs in Python, the
+#                                    review page
 #   share/doc/tivrenan/              README, guide, formats, license, and examples/ with the letter, the batch and pictures
 #   share/man/man1/, share/bash-completion/completions/
 # It runs in a clone, where the program is built first if it isn't, and nothing is left half: what was there before is replaced.
@@ -40,7 +41,7 @@ for each in $programs; do
     program "tools/$each" "share/tivrenan/tools/$each"
     ln -sf "../share/tivrenan/tools/$each" "$into/bin/tivrenan-$(echo "$each" | tr _ -)"
 done
-for each in batch report volumes; do folder "tools/$each" "share/tivrenan/tools/$each"; done
+for each in batch explain report volumes; do folder "tools/$each" "share/tivrenan/tools/$each"; done
 [ ! -d "$top/desk_page" ] || folder desk_page share/tivrenan/desk_page
 
 doc=share/doc/tivrenan

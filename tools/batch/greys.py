@@ -19,6 +19,7 @@ STEEPEST = 5  # of 255, a cell
 INK, TONE = 0.3, 0.8  # of the paper's brightness
 CONTRAST, DARKEST, BRIGHTEST = 0.8, 0.5, 0.75  # the threshold: of the mean; no less and no more of the paper
 LEAST_THRESHOLD = 40  # of 255: a page that is black all over
+LEAST_PAPER, PAPER = 200, 0.9  # of 255: what is paper at all; of that, what is white beside a picture
 FEWEST_CELLS = 6  # of a picture
 MOST_OF_A_PAGE = 0.5  # toned cells
 FULL = 0.5  # toned cells of the box around them, which then is a picture as a whole
@@ -172,9 +173,10 @@ def masks_of(cells, chosen):
 
 
 def dotted_rows(file, cells, paper):
-    """The whole page in dots, the same ones each time; its paper is white first."""
+    """The page in dots, the same ones each time; paper beside a picture has none, where the page's middle cell is paper."""
     white = sorted(each for row in paper for each in row)[cells.across * cells.down // 2]
-    levels = bytes(min(255, int(grey * 255 / max(1, 0.95 * white))) for grey in range(256))
+    lightest = PAPER * white if white >= LEAST_PAPER else 255
+    levels = bytes(255 if grey >= lightest else grey for grey in range(256))
     lighter = cells.pgm[: cells.start] + cells.pgm[cells.start :].translate(levels)
     pbm, _ = run(file, ["pgmtopbm", "-fs", "-randomseed=1"], lighter)
     size = (cells.width + 7) // 8

@@ -9,6 +9,7 @@ from .sheets import inch_on_a_sheet, is_measured, resolution_of
 
 TOOLS = ("jpegtopnm", "pngtopam", "pamflip", "pamscale", "pamdepth")
 REPAIR = "have it sent once more; or say --as-shown"
+REPAIRED = 2  # jpegtopnm's status
 A_METRE = 39.3701  # inches
 # by Exif's Orientation: how the picture is turned upright
 TURNS = {2: "leftright", 3: "leftright,topbottom", 4: "topbottom", 5: "transpose", 6: "transpose,leftright",
@@ -43,11 +44,11 @@ class PictureFile:
 
     def decoded(self):
         """Its pixels as a raw PGM or PBM of at most 255; refused where its reader complains."""
+        words, fine = ["pngtopam", "-mix", "-background=white", self.source.path], (0,)
         if self.source.kind == "JPEG":
-            words = ["jpegtopnm", self.source.path]
-        else:
-            words = ["pngtopam", "-mix", "-background=white", self.source.path]
-        pnm, said = run(self.source.name, words)
+            words = ["jpegtopnm", *(["-repair"] if self.options.as_shown else []), self.source.path]
+            fine = (0, REPAIRED) if self.options.as_shown else (0,)
+        pnm, said = run(self.source.name, words, what="the picture is damaged", hint=REPAIR, fine=fine)
         faults = [line for line in said.splitlines() if re.search(rb"[Pp]remature|[Cc]orrupt|[Ee]rror|invalid|bad ", line)]
         if faults and not self.options.as_shown:
             raise Refused(self.source.name, f"the picture is damaged, {words[0]} {first_line(faults[0])}; {REPAIR}")

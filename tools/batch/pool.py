@@ -3,7 +3,6 @@ import ctypes
 import multiprocessing
 import os
 import signal
-import sys
 from concurrent.futures import ProcessPoolExecutor, ThreadPoolExecutor
 from concurrent.futures.process import BrokenProcessPool
 
@@ -51,10 +50,10 @@ def call(number):
 
 
 def begin(parent):
-    """A process leaves Ctrl-C to its parent, ends with it, and ends the program that it runs."""
-    signal.signal(signal.SIGINT, signal.SIG_IGN)
-    signal.signal(signal.SIGHUP, signal.SIG_IGN)
-    signal.signal(signal.SIGTERM, lambda number, _: sys.exit(128 + number))
+    """A process and the programs that it runs are a group of their own, which Ctrl-C doesn't reach: it is ended by its parent, or
+    with it, and then at once."""
+    os.setpgid(0, 0)
+    signal.signal(signal.SIGTERM, lambda *_: os.killpg(0, signal.SIGKILL))
     ctypes.CDLL(None).prctl(END_WITH_PARENT, signal.SIGTERM)
     if os.getppid() != parent:
-        sys.exit(1)
+        os._exit(1)

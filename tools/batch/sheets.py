@@ -16,7 +16,7 @@ def sheet_for(width, height):
 def inch_on_a_sheet(width, height):
     """Pixels to the inch where the picture lies on a sheet, as large as it can."""
     short, long = sheet_for(width, height)
-    return max(FEWEST, round(max(min(width, height) / short, max(width, height) / long)))
+    return max(FEWEST, min(width, height) / short, max(width, height) / long)
 
 
 def is_measured(width, height, inch):
@@ -25,4 +25,4 @@ def is_measured(width, height, inch):
 
 
 def resolution_of(inch):
-    return Resolution(str(inch), str(inch), "inch")
+    return Resolution(str(round(inch)), str(round(inch)), "inch")

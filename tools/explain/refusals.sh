@@ -1,5 +1,6 @@
 # What the launcher says of a refusal: the rule, what to do, and what was found where it was met. The launcher reads this file, with its
-# own say, meaning and to_do; of a volume that is checked volume.awk tells the place.
+# own say and meaning, and $statuses; of a volume that is checked volume.awk tells the place.
+# shellcheck shell=sh disable=SC2154 # statuses and explaining are the launcher's
 
 # the printed line, then the words of the command
 explain_refusal() {
@@ -12,9 +13,34 @@ explain_refusal() {
     esac
     case $1,$refusal in
         check,*) tell_in_volume "${refusal#refused }" "${2-}" "${3-}" "${4-}" ;;
-        import,'refused 63 '*' 0 0 0') tell_batch_name "${2-}" ;;
+        import,'refused 63 '*' 0 0 0'*) tell_batch_name "${2-}" ;;
         produce,*) shift && tell_request "${refusal#refused }" "$@" ;;
     esac
+}
+
+# heading, rule, its value A: what is to be done, by the table under that heading of the page of statuses: the row of that
+# value, or the one without
+to_do_under() {
+    awk -F ' *[|] *' -v heading="## $1" -v rule="$2" -v value="$3" '
+        /^## / { told = $0 == heading }
+        told && /^[|]/ && $2 == rule && ($3 == "" || $3 == value) {
+            if ($3 == value || found == "") { found = $4; gsub(/`/, "", found) }
+        }
+        END { if (found != "") print found }
+    ' "$statuses" 2> /dev/null || :
+}
+
+# command, rule, its value A: of the files of a check other things are said than of those of a batch
+to_do() {
+    advice=
+    case $1,$2 in
+        check,*) advice=$(to_do_under 'What to do in a check' "$2" "$3") ;;
+        burn,54 | burn,55) return ;;
+        deliver,*) advice=$(to_do_under 'What to do where something is delivered' "$2" "$3") ;;
+        claw,*) advice=$(to_do_under 'What to do after a notice' "$2" "$3") ;;
+    esac
+    [ -n "$advice" ] || advice=$(to_do_under 'What to do' "$2" "$3")
+    [ -z "$advice" ] || printf '%s\n' "$advice"
 }
 
 # command, refused, number, name, line, a, b: the rule, with those of the three values that its text names or that aren't 0. What a
@@ -48,6 +74,7 @@ tell_where_looked() {
 
 # what a name would be with capitals, where it has small letters
 capitals_of() {
+    # shellcheck disable=SC2018,SC2019 # names have these letters alone
     case $1 in *[a-z]*) printf '%s\n' "$1" | LC_ALL=C tr 'a-z' 'A-Z' ;; esac
 }
 
@@ -126,7 +153,7 @@ tell_in_volume() {
     set -- $1
     for file in "$dat" "$opt" "$manifest"; do
         case $1 in 50 | 51 | 53 | 110 | 115 | 117) ;; *) continue ;; esac
-        [ -n "$file" ] && is_utf_16 "$(solidus "$file")" || continue
+        if [ -z "$file" ] || ! is_utf_16 "$(solidus "$file")"; then continue; fi
         say "$file is in UTF-16, as Windows' tools write it, and has to be UTF-8: iconv -f UTF-16 -t UTF-8 $file > copy"
         return
     done
@@ -138,16 +165,21 @@ tell_in_volume() {
 }
 
 # a path with / between its parts
+# shellcheck disable=SC1003
 solidus() { printf '%s\n' "$1" | tr '\\' '/'; }
+
+# the first of the names that are given, without what a terminal would take for more than letters
+first_name() { head -n 1 | LC_ALL=C tr '\001-\011\013-\037\177' ' '; }
 
 # a path that isn't there: the file that has its name but for capitals, or whose path ends so
 tell_other_name() {
     pattern=$(printf '%s\n' "$1" | sed 's/[][*?\\]/\\&/g; s#^\./##')
-    other=$(find . -ipath "./$pattern" 2> /dev/null | head -n 1)
+    other=$(find . -ipath "./$pattern" 2> /dev/null | first_name)
     if [ -n "$other" ]; then
         say "there is ${other#./}: capitals and small letters differ"
         return
     fi
-    other=$(find . -path "*/$pattern" 2> /dev/null | head -n 1)
-    [ -z "$other" ] || say "there is ${other#./}: the path begins in another folder, ${other%"/${1#./}"}"
+    other=$(find . -path "*/$pattern" 2> /dev/null | first_name)
+    other=${other#./}
+    [ -z "$other" ] || say "there is $other: the path begins in another folder, ${other%"/${1#./}"}"
 }

@@ -4,7 +4,7 @@ words that were written are found in order, seconds, and seconds of processors.
 
     batch_times.py PAGES [JOBS] [OLD_MAKE_BATCH]
 
-The other one is given the same pages, but PNG and JPEG in PDFs of 300 pixels to the inch, since an older one takes neither. For that:
+The other one is given the same pages, but PNG and JPEG in PDFs by img2pdf, as an older one takes neither and says so. For that:
     mkdir old && git archive COMMIT tools | tar -x -C old     and then     batch_times.py 60 4 old/tools/make_batch
 """
 import csv

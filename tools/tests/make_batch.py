@@ -474,8 +474,10 @@ class Greys(Case):
         self.assertEqual(above(found), above(self.letter))
 
     def test_a_page_of_tones_is_dots(self):
-        batch = self.page_of(pgm_of(1200, 900, lambda y: bytes(70 + (x * y) % 97 for x in range(1200))), "--ocr", "none")
-        self.assertAlmostEqual(black_share(batch.pixels(0), 100, 100, 900, 600), 1 - 118 / 255, delta=0.15)
+        tone = lambda x, y: 20 + (x // 50 * 37 + y // 50 * 61) % 180  # noqa: E731
+        batch = self.page_of(pgm_of(1200, 900, lambda y: bytes(tone(x, y) for x in range(1200))), "--ocr", "none")
+        for x, y in ((100, 50), (300, 500), (600, 250), (450, 400)):
+            self.assertAlmostEqual(black_share(batch.pixels(0), x, y, 50, 50), 1 - tone(x, y) / 255, delta=0.1)
 
     def test_white_letters_on_a_ground_of_grey_stay(self):
         """As a table's head has them: a threshold alone would drop the letters or the ground."""
@@ -605,6 +607,9 @@ class Pictures(Case):
         self.put("d.jpg", jpeg[:30])
         self.refused("a.jpg: the picture is damaged, jpegtopnm says: .*; have it sent once more", "b.png: the picture is damaged, pngtopam",
                      "c.png: the picture is damaged, pngtopam", "d.jpg: the picture is damaged, its head tells no sides")
+        for name in ("b.png", "c.png", "d.jpg"):
+            os.remove(self.path(name))
+        self.assertEqual(len(self.make("--as-shown").images), 1)
 
 
 class Upright(Case):

@@ -5,7 +5,7 @@ tools/make_batch.
 Of each 20 pages 6 are grey scans with noise in PDFs of 300 pixels to the inch, 3 of 200 in PDFs that don't tell it, 2 grey
 TIFF scans, 2 PNG scans, 2 pictures by a telephone with a shadow, 2 black and white TIFF scans, 2 pages of PDFs with a
 text, and 1 is a letter with a photograph. FOLDER/truth.txt, beside the folder `in`, has a line a page: file, page, words.
---wrapped puts PNG and JPEG into PDFs of 300 pixels to the inch, for a tool that takes neither. The same words make the same folder.
+--wrapped puts PNG and JPEG into PDFs by img2pdf, for a tool that takes neither. The same words make the same folder.
 
 Needs Debian's groff, ghostscript, netpbm, libtiff-tools, imagemagick and img2pdf. Words: [--wrapped] FOLDER PAGES
 """
@@ -100,7 +100,7 @@ class Folder:
         self.truth.append((name, " ".join(word for part in text for word in part)))
 
     def picture(self, name, data, text):
-        wrapped = sh(["img2pdf", "--imgsize", "300dpi"], data) if self.is_wrapped else data
+        wrapped = sh(["img2pdf"], data) if self.is_wrapped else data
         self.put(name + ".pdf" if self.is_wrapped else name, wrapped, text)
 
     def end(self):

@@ -6,14 +6,9 @@ use bp_core::Text;
 use bp_outside::FileSource;
 use std::alloc::Global;
 use std::rt::Files;
-use std::thread::Threads;
 
 /// The sum of the documents, images and listed files that were checked.
-pub fn run<R: Files + Alloc + Threads + Sync>(
-    rt: &R,
-    alloc: Global,
-    operands: &[String],
-) -> Result<u64> {
+pub fn run<R: Files + Alloc>(rt: &R, alloc: Global, operands: &[String]) -> Result<u64> {
     let [folder, dat, opt, manifest, times] = operands else {
         bail!("check FOLDER DAT OPT MANIFEST TIMES");
     };
@@ -23,7 +18,7 @@ pub fn run<R: Files + Alloc + Threads + Sync>(
     let mut sum = 0u64;
     for _ in 0..times.parse::<u32>()? {
         let mut source = FileSource::below(rt, folder.as_str());
-        let Ok(checked) = check_volume(rt, alloc, &mut source, &dat, &opt, Some(&manifest)) else {
+        let Ok(checked) = check_volume(alloc, &mut source, &dat, &opt, Some(&manifest)) else {
             bail!("the volume isn't whole");
         };
         sum = sum.wrapping_add(u64::from(checked.documents));

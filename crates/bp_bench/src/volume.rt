@@ -6,7 +6,7 @@ use anyhow::{Result, bail};
 use bp_core::{Bytes, Text};
 use bp_matter::{Production, Tables};
 use bp_outside::Folder;
-use bp_press::{OpenGate, file_of, press};
+use bp_press::{Covered, OpenGate, file_of, press};
 use std::alloc::Global;
 use std::thread::Threads;
 
@@ -44,7 +44,7 @@ pub fn file_in(alloc: Global, tables: &Tables, id: &Text, path: &Text) -> Result
     let Some(production) = tables.production(id) else {
         bail!("no production has the id");
     };
-    match file_of(alloc, tables, production, path) {
+    match file_of(alloc, &Covered::of(tables, production), path) {
         Ok(bytes) => Ok(bytes),
         Err(_refusal) => bail!("the file isn't made"),
     }

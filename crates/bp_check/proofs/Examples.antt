@@ -1,5 +1,5 @@
 -- Worked examples of the definitions in specs/, each run by the check.
-use Rattle.std.proofs.Common.{ℕ, ◌≡◌, ◌+◌, ◌%◌, Bool, true, false, List, [], ◌∷◌, ◌++◌, map, sum, replicate, Option, Some, None, Result, Ok, Err, refl, inl, inr, not}
+use Rattle.std.proofs.Common.{ℕ, ◌≡◌, ◌+◌, ◌%◌, Bool, true, false, List, [], ◌∷◌, ◌++◌, map, sum, replicate, Option, Some, None, Result, Ok, Err, refl, not}
 use Rattle.std.specs.Prelude.{codes, if◌then◌else◌}
 use Rattle.std.specs.Fmt.{digits}
 use Rattle.std.specs.List.{flat_map, join_with_byte}
@@ -15,15 +15,13 @@ use Rattle.bp_rows.specs.Image.{Image}
 use Rattle.bp_rows.specs.declared.resolution.Unit.TheVariants as units
 use Rattle.bp_check.specs.Breaks.{breaks_of}
 use Rattle.bp_check.specs.Check.{Operands, check_by}
-use Rattle.bp_check.specs.Checking.{LeavesAhead}
+use Rattle.bp_check.specs.Checking.{after_step}
 use Rattle.bp_check.specs.Counts.{counts_of, says_number}
 use Rattle.bp_check.specs.Files.{file_read, file_rule}
 use Rattle.bp_check.specs.Images.{Judging, Reading}
 use Rattle.bp_core.specs.declared.rules.RuleKind.TheVariants.{CheckBreaks, CheckColumns, CheckCount, CheckGap, CheckLabel, DigestDiffers, ManifestShape, NotListed}
 use Rattle.bp_check.specs.Labels.{end_digits, label_of, labels_of}
 use Rattle.bp_check.specs.Manifest.{listed_in, manifest_of}
-use Rattle.bp_check.specs.Steps.{all_by, demand}
-use Rattle.bp_check.specs.declared.ahead.TheConstants.{READ_AHEAD}
 use Rattle.bp_check.specs.declared.checked.Checked.{Checked}
 use Rattle.bp_check.specs.declared.files.TheConstants.{DAT, FILE_LIMIT, IMAGE, LISTED, MANIFEST, OPT, TEXT}
 use Rattle.bp_check.specs.declared.labels.TheConstants.{MOST_LABEL_DIGITS}
@@ -345,27 +343,19 @@ path_leads_out : listed_in (sixty_four ++ codes "  ../a") ≡ None
 unfolding chars is_utf8 encode digits
 path_leads_out = refl
 
--- ---- read ahead
-
-read_ahead : READ_AHEAD ≡ 16
-read_ahead = refl
-
--- of three tests the second fails first
-first_that_fails : all_by (λ n (fails : Bool). demand (not fails) (rule_at_line DigestDiffers n)) 4 (false ∷ true ∷ true ∷ []) ≡ Err (rule_at_line DigestDiffers 5)
-first_that_fails = refl
+-- ---- what is left of a source
 
 abbrev quiet : SourceView
 quiet = record { files = None; faults = 0; absences = 0; overlong = 0; sure = false }
 
--- the digest of line 2 differs; the file of line 4, which was read ahead, is absent
-absent_behind : LeavesAhead {X = Checked} quiet (Err (refusals.Rule (rule_at_line DigestDiffers 2))) (record quiet { absences = 1 })
-absent_behind = inr (inr refl, (refusals.Rule (file_rule kinds.FileAbsent LISTED 4), refl))
+-- where the digest of line 2 differs no count rose
+digest_differs : after_step {X = Checked} quiet (Err (refusals.Rule (rule_at_line DigestDiffers 2))) ≡ quiet
+digest_differs = refl
 
--- nothing behind it was refused
-none_behind : LeavesAhead {X = Checked} quiet (Err (refusals.Rule (rule_at_line DigestDiffers 2))) quiet
-none_behind = inl refl
+-- where the file of line 4 is absent that count alone rose
+file_is_absent : after_step {X = Checked} quiet (Err (refusals.Rule (file_rule kinds.FileAbsent LISTED 4))) ≡ record quiet { absences = 1 }
+file_is_absent = refl
 
 -- a source that failed has that count risen, and no other
-failed_alone : (after : SourceView) → LeavesAhead {X = Checked} quiet (Err refusals.SourceFault) after → after ≡ record quiet { faults = 1 }
-failed_alone after (inl is) = is
-failed_alone after (inr found) = absurd found.0
+failed_alone : after_step {X = Checked} quiet (Err refusals.SourceFault) ≡ record quiet { faults = 1 }
+failed_alone = refl

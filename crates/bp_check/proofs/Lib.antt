@@ -1,4 +1,3 @@
-pub mod AheadLemmas
 pub mod CalmLemmas
 pub mod ColumnLemmas
 pub mod CountLemmas

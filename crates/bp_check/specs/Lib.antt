@@ -1,4 +1,3 @@
-pub mod Ahead
 pub mod Breaks
 pub mod Check
 pub mod Checking

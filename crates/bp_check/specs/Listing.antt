@@ -29,12 +29,17 @@ listed_all listed place (path ∷ paths) =
 abbrev pub digest_text : List ℕ → List ℕ
 digest_text bytes = encode_lower (sha256 bytes)
 
+-- the file of line n is there, with its digest
+abbrev pub digest_at : (List ℕ → List ℕ) → Reading → ℕ → Listed → Result (Unit {0}) Rule
+digest_at digest read n row = do
+  bytes ← read LISTED n row.path
+  demand (bytes_eq row.digest (digest bytes)) (rule_at_line DigestDiffers n)
+
 -- the files from line n on are there, each with its digest; or the first that isn't
 abbrev pub digests_by : (List ℕ → List ℕ) → Reading → ℕ → List Listed → Result (Unit {0}) Rule
 digests_by digest read n [] = Ok tt
 digests_by digest read n (row ∷ rows) = do
-  bytes ← read LISTED n row.path
-  _ ← demand (bytes_eq row.digest (digest bytes)) (rule_at_line DigestDiffers n)
+  _ ← digest_at digest read n row
   digests_by digest read (n + 1) rows
 
 -- all listed files are there, each with its SHA-256

@@ -22,8 +22,3 @@ behind front (Err rule) = Err rule
 abbrev pub each : {X V : Type 0} → (ℕ → X → Result V Rule) → ℕ → List X → Result (List V) Rule
 each step n [] = Ok []
 each step n (piece ∷ pieces) = in_turn (step n piece) (each step (n + 1) pieces)
-
--- a test for each piece, counted from n
-abbrev pub all_by : {X : Type 0} → (ℕ → X → Result (Unit {0}) Rule) → ℕ → List X → Result (Unit {0}) Rule
-all_by step n [] = Ok tt
-all_by step n (piece ∷ pieces) = step n piece >>= (λ _. all_by step (n + 1) pieces)

@@ -3,13 +3,12 @@ ghost use Rattle.std.specs.Prelude.{◌≡◌, ◌<◌, ◌+◌, ◌++◌, ◌^�
 ghost use Rattle.std.specs.Option.{option_copied, option_map};
 ghost use Rattle.bp_core.specs.Answers.{Answers};
 ghost use Rattle.bp_check.specs.Check.{agrees, checked_by, files_by, listing_by};
-ghost use Rattle.bp_check.specs.Checking.{ChecksAs, Gives, LeavesAhead, ReadsAtMost};
+ghost use Rattle.bp_check.specs.Checking.{ChecksAs, Gives, ReadsAtMost, after_step};
 ghost use Rattle.bp_check.specs.Files.{file_at};
 ghost use Rattle.bp_check.specs.Images.{IsTiff, Judging};
 ghost use Rattle.bp_check.specs.Listing.{digest_text};
 ghost use Rattle.bp_check.specs.Seen.{listed_seen, plan_seen};
 
-use crate::ahead::files_a_thread;
 use crate::breaks::breaks_fit;
 use crate::checked::Checked;
 use crate::counts::counts_hold;
@@ -24,17 +23,13 @@ use bp_core::{Refusal, Text};
 use bp_load::OptLine;
 use bp_outside::Source;
 use std::alloc::Global;
-use std::thread::Threads;
 
 /// Checks the volume that the load files at `dat` and `opt` describe, and where one is asked for the
 /// files that the manifest lists. The first rule that is broken, in the order of `check_by`;
-/// SourceFault where a read failed.
+/// SourceFault where a read failed. Each file is judged and let go before the next is read.
 ///
-/// Up to READ_AHEAD images, and as many listed files, are read one after the other and then judged,
-/// by as many threads as there are processors; they are let go before the next are read. It returns
-/// if the threads do that it starts.
-pub fn check_volume<R: Threads + Sync, S: Source>(
-    rt: &R,
+///     let checked = check_volume(alloc, &mut source, &dat, &opt, Some(&manifest))?;
+pub fn check_volume<S: Source>(
     alloc: Global,
     source: &mut S,
     dat: &Text,
@@ -45,9 +40,8 @@ pub fn check_volume<R: Threads + Sync, S: Source>(
     ensures told { IfSome (S.shows source.old).files (λ files. ChecksAs files
         (record { dat = dat.now; opt = opt.now; manifest = option_copied manifest.entry }) result) }
 
-    // Of the source the count of the refusal's own cause alone rises, and, where the bytes of a file
-    // gave the refusal, that of one read behind it which was refused.
-    ensures after { LeavesAhead (S.shows source.old) result (S.shows source.new) }
+    // Of the source the count of the refusal's own cause alone rises.
+    ensures after { S.shows source.new ≡ after_step (S.shows source.old) result }
 
     // Each file is read once for each time that it is named.
     ensures reads { IfOk result (λ checked. ReadsAtMost
@@ -55,16 +49,14 @@ pub fn check_volume<R: Threads + Sync, S: Source>(
         (S.reads source.old) (S.reads source.new)) }
 {
     let plan = read_plan(alloc, source, dat, opt, manifest)?;
-    check_planned(rt, alloc, source, plan, files_a_thread(rt))
+    check_planned(alloc, source, plan)
 }
 
 // Checks a volume whose load files are read.
-fn check_planned<R: Threads + Sync, S: Source>(
-    rt: &R,
+fn check_planned<S: Source>(
     alloc: Global,
     source: &mut S,
     plan: Planned,
-    most: usize,
 ) -> Result<Checked, ImportRefusal>
     requires lines { length plan.lines + 1 < 2 ^ 32 }
     requires docs { length plan.docs.items + 1 < 2 ^ 32 }
@@ -72,14 +64,14 @@ fn check_planned<R: Threads + Sync, S: Source>(
     ensures told { IfSome (S.shows source.old).files (λ files. (tiff : Judging) → IsTiff tiff
         → Gives (λ checked. checked) result
         (checked_by digest_text (file_at files) tiff (plan_seen plan))) }
-    ensures after { LeavesAhead (S.shows source.old) result (S.shows source.new) }
+    ensures after { S.shows source.new ≡ after_step (S.shows source.old) result }
     ensures reads { IfOk result (λ checked. ReadsAtMost (checked.images + checked.documents + checked.files)
         (S.reads source.old) (S.reads source.new)) }
 {
     agree(alloc, &plan.docs, plan.lines.as_slice())?;
     let documents = plan.docs.len() as u32;
     let images = plan.lines.len() as u32;
-    let files = check_files(rt, alloc, source, plan, most)?;
+    let files = check_files(alloc, source, plan)?;
     Ok(Checked {
         documents,
         images,
@@ -98,12 +90,10 @@ fn agree(alloc: Global, docs: &[Record], lines: &[OptLine]) -> Result<(), Refusa
 }
 
 // The files that are named are there and whole; how many the manifest lists.
-fn check_files<R: Threads + Sync, S: Source>(
-    rt: &R,
+fn check_files<S: Source>(
     alloc: Global,
     source: &mut S,
     plan: Planned,
-    most: usize,
 ) -> Result<u32, ImportRefusal>
     requires lines { length plan.lines + 1 < 2 ^ 32 }
     requires docs { length plan.docs.items + 1 < 2 ^ 32 }
@@ -111,7 +101,7 @@ fn check_files<R: Threads + Sync, S: Source>(
     ensures told { IfSome (S.shows source.old).files (λ files. (tiff : Judging) → IsTiff tiff
         → Gives (λ count. count) result
         (files_by digest_text (file_at files) tiff (plan_seen plan))) }
-    ensures after { LeavesAhead (S.shows source.old) result (S.shows source.new) }
+    ensures after { S.shows source.new ≡ after_step (S.shows source.old) result }
     ensures reads { IfOk result (λ count. ReadsAtMost (length plan.lines + length plan.docs.items + count)
         (S.reads source.old) (S.reads source.new)) }
 {
@@ -121,25 +111,23 @@ fn check_files<R: Threads + Sync, S: Source>(
         lines,
         listed,
     } = plan;
-    let paths = check_images(rt, alloc, source, lines.as_slice(), paths, most)?;
+    let paths = check_images(alloc, source, lines.as_slice(), paths)?;
     let paths = check_texts(alloc, source, &docs, paths)?;
-    check_listing(rt, alloc, source, listed, &paths, most)
+    check_listing(alloc, source, listed, &paths)
 }
 
 // All paths are listed, and each listed file has its digest; how many are listed.
-fn check_listing<R: Threads + Sync, S: Source>(
-    rt: &R,
+fn check_listing<S: Source>(
     alloc: Global,
     source: &mut S,
     listed: Option<Vec<ListedFile>>,
     paths: &[Text],
-    most: usize,
 ) -> Result<u32, ImportRefusal>
     requires { IfSome listed (λ rows. length rows.items + 1 < 2 ^ 32) }
     ensures told { let rows = option_map (λ rows. map listed_seen rows.items) listed in
         IfSome (S.shows source.old).files (λ files. Gives (λ count. count) result
         (listing_by digest_text (file_at files) rows paths.now)) }
-    ensures after { LeavesAhead (S.shows source.old) result (S.shows source.new) }
+    ensures after { S.shows source.new ≡ after_step (S.shows source.old) result }
     ensures reads { IfOk result (λ count. ReadsAtMost (count)
         (S.reads source.old) (S.reads source.new)) }
 {
@@ -147,6 +135,6 @@ fn check_listing<R: Threads + Sync, S: Source>(
         return Ok(0);
     };
     all_listed(alloc, &listed, paths)?;
-    digests_hold(rt, alloc, source, &listed, most)?;
+    digests_hold(alloc, source, &listed)?;
     Ok(listed.len() as u32)
 }

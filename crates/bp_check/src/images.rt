@@ -1,161 +1,70 @@
 // The images and texts that the load files name.
-ghost use Rattle.std.specs.Prelude.{◌≡◌, ◌<◌, ◌≤◌, ◌+◌, ◌++◌, ◌^◌, [], Result, length, map, IfErr, IfOk, IfSome};
+ghost use Rattle.std.specs.Prelude.{◌≡◌, ◌<◌, ◌+◌, ◌^◌, Result, length, IfErr, IfSome};
 ghost use Rattle.bp_core.specs.Paths.{path_in};
 ghost use Rattle.bp_core.specs.declared.rules.Rule.{Rule};
 ghost use Rattle.bp_rows.specs.Image.{Image};
 ghost use Rattle.bp_tiff.specs.Read.{TiffAnswers};
-ghost use Rattle.bp_check.specs.Ahead.{ImagesAhead, IsImageRead};
-ghost use Rattle.bp_check.specs.Checking.{Gives, IsCalm, IsFound, LeavesAhead, ReadsAtMost, after_step};
+ghost use Rattle.bp_check.specs.Checking.{Gives, IsCalm, ReadsAtMost, after_step};
 ghost use Rattle.bp_check.specs.Files.{file_at};
 ghost use Rattle.bp_check.specs.Images.{IsTiff, Judging, at_line, image_at, images_of, path_at, text_at, texts_of};
 ghost use Rattle.bp_check.specs.Refusals.{refused_at};
-ghost use Rattle.bp_check.specs.Steps.{behind, each};
+ghost use Rattle.bp_check.specs.Steps.{behind};
 
-use crate::ahead::{Judged, READ_AHEAD, all_hold};
 use crate::files::{IMAGE, TEXT, read_file};
 use crate::records::Record;
 use crate::refusals::ImportRefusal;
-use bp_core::{OutOfMemory, Refusal, Text, path_of};
+use bp_core::{Refusal, Text, path_of};
 use bp_load::OptLine;
 use bp_outside::Source;
 use bp_tiff::read_tiff;
 use std::alloc::Global;
-use std::thread::Threads;
 
-/// An image that was read, and its path.
-#[derive(Drop)]
-pub(crate) struct ReadImage {
-    pub(crate) path: Text,
-    pub(crate) bytes: Vec<u8>,
-}
-
-impl Judged for ReadImage {
-    ghost use Rattle.bp_check.specs.Ahead.{IsJudged};
-
-    ghost Comes = { IsJudged };
-
-    fn judge(&self, alloc: Global, line: u32) -> Result<(), ImportRefusal> {
-        check_page(alloc, &self.bytes, line)
-    }
-}
-
-/// The paths of the images of all lines behind `paths`, each of which is one page. What `check_group`
-/// refuses, at the first such line.
-pub(crate) fn check_images<R: Threads + Sync, S: Source>(
-    rt: &R,
+/// The paths of the images of all lines behind `paths`, each of which is one page. PathRefused, what
+/// `read_file` and `read_tiff` refuse; each with the line, from 1. An image is let go before the next is
+/// read.
+pub(crate) fn check_images<S: Source>(
     alloc: Global,
     source: &mut S,
     lines: &[OptLine],
     mut paths: Vec<Text>,
-    most: usize,
 ) -> Result<Vec<Text>, ImportRefusal>
     requires { length lines.now + 1 < 2 ^ 32 }
     ensures told { IfSome (S.shows source.old).files (λ files. (tiff : Judging) → IsTiff tiff
         → Gives (λ found. found.items) result
         (behind paths.items (images_of (file_at files) tiff lines.now))) }
-    ensures after { LeavesAhead (S.shows source.old) result (S.shows source.new) }
+    ensures after { S.shows source.new ≡ after_step (S.shows source.old) result }
     ensures reads { ReadsAtMost (length lines.now) (S.reads source.old) (S.reads source.new) }
 {
-    let mut number = 1;
+    let mut number = 0;
     let mut rest = lines;
-    while !rest.is_empty() {
-        let (group, others) = rest.split_at(rest.len().min(READ_AHEAD));
-        let images = match check_group(rt, alloc, source, group, number, most) {
-            Ok(images) => images,
+    while let Some((line, others)) = rest.split_first() {
+        number += 1;
+        let path = match check_image(alloc, source, line, number) {
+            Ok(path) => path,
             Err(refusal) => return Err(refusal),
         };
-        paths = with_paths(paths, images)?;
-        number += group.len() as u32;
+        paths.push(path)?;
         rest = others;
     }
     Ok(paths)
 }
 
-// The images that the lines from line `number` on name, each of which is one page. All are read
-// before one is judged. PathRefused, what `read_file` and `read_tiff` refuse; each with the line.
-fn check_group<R: Threads + Sync, S: Source>(
-    rt: &R,
-    alloc: Global,
-    source: &mut S,
-    lines: &[OptLine],
-    number: u32,
-    most: usize,
-) -> Result<Vec<ReadImage>, ImportRefusal>
-    requires { number + length lines.now < 2 ^ 32 }
-    ensures told { IfSome (S.shows source.old).files (λ files. (tiff : Judging) → IsTiff tiff
-        → Gives (λ images. map (λ image. image.path) images.items) result
-        (each (image_at (file_at files) tiff) number lines.now)) }
-    ensures after { LeavesAhead (S.shows source.old) result (S.shows source.new) }
-    ensures reads { ReadsAtMost (length lines.now) (S.reads source.old) (S.reads source.new) }
-{
-    let mut images = Vec::new(alloc);
-    let end = read_images(alloc, source, lines, number, &mut images);
-    match all_hold(rt, alloc, images.as_slice(), number, most) {
-        Ok(()) => {}
-        Err(refusal) => return Err(refusal),
-    }
-    match end {
-        Ok(()) => Ok(images),
-        Err(refusal) => Err(refusal),
-    }
-}
-
-// Reads the images that the lines from line `number` on name, up to the first that is refused.
-fn read_images<S: Source>(
-    alloc: Global,
-    source: &mut S,
-    lines: &[OptLine],
-    number: u32,
-    images: &mut Vec<ReadImage>,
-) -> Result<(), ImportRefusal>
-    requires lines { number + length lines.now < 2 ^ 32 }
-    requires none { images.old.items ≡ [] }
-    ensures told { IfSome (S.shows source.old).files (λ files. (tiff : Judging)
-        → ImagesAhead (file_at files) tiff number lines.now images.new.items result) }
-    ensures few { length images.new.items ≤ length lines.now }
-    ensures after { S.shows source.new ≡ after_step (S.shows source.old) result }
-    ensures reads { ReadsAtMost (length lines.now) (S.reads source.old) (S.reads source.new) }
-{
-    let mut number = number;
-    let mut rest = lines;
-    while let Some((line, others)) = rest.split_first() {
-        let image = match read_image(alloc, source, line, number) {
-            Ok(image) => image,
-            Err(refusal) => return Err(refusal),
-        };
-        images.push(image)?;
-        number += 1;
-        rest = others;
-    }
-    Ok(())
-}
-
-// The image that line `number` names, with its path.
-fn read_image<S: Source>(
+// The path of the image that line `number` names, which is one page.
+fn check_image<S: Source>(
     alloc: Global,
     source: &mut S,
     line: &OptLine,
     number: u32,
-) -> Result<ReadImage, ImportRefusal>
-    ensures told { IfSome (S.shows source.old).files (λ files. (tiff : Judging)
-        → IsImageRead (file_at files) tiff number line.now result) }
+) -> Result<Text, ImportRefusal>
+    ensures told { IfSome (S.shows source.old).files (λ files. (tiff : Judging) → IsTiff tiff
+        → Gives (λ path. path) result (image_at (file_at files) tiff number line.now)) }
     ensures after { S.shows source.new ≡ after_step (S.shows source.old) result }
     ensures reads { ReadsAtMost 1 (S.reads source.old) (S.reads source.new) }
 {
     let path = path_at(alloc, &line.path, number)?;
     let bytes = read_file(alloc, source, IMAGE, number, &path)?;
-    Ok(ReadImage { path, bytes })
-}
-
-// The paths of the images behind those before.
-fn with_paths(mut paths: Vec<Text>, images: Vec<ReadImage>) -> Result<Vec<Text>, OutOfMemory>
-    ensures { IfOk result (λ found. found.items
-        ≡ paths.items ++ map (λ image. image.path) images.items) }
-{
-    for image in images {
-        paths.push(image.path)?;
-    }
-    Ok(paths)
+    check_page(alloc, &bytes, number)?;
+    Ok(path)
 }
 
 /// The paths of the texts that the records name behind `paths`; a record may name none. PathRefused
@@ -220,7 +129,7 @@ fn path_at(alloc: Global, text: &Text, number: u32) -> Result<Text, ImportRefusa
 fn check_page(alloc: Global, bytes: &[u8], number: u32) -> Result<(), ImportRefusal>
     ensures answer { (page : Result Image Rule) → TiffAnswers bytes.now page
         → Gives (λ _. tt) result (at_line number page) }
-    ensures found { IfErr result IsFound }
+    ensures calm { IfErr result IsCalm }
 {
     match read_tiff(alloc, bytes) {
         Ok(_) => Ok(()),

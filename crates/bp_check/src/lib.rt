@@ -3,10 +3,9 @@
 //! the digests of a manifest.
 //!
 //! `check_volume` is the call; its contract cites `check_of` of specs/Check.antt, all steps in their
-//! order, and `LeavesAhead` of specs/Checking.antt, what is left in the source.
+//! order, and `after_step` of specs/Checking.antt, what is left in the source.
 #![tactic(auto)]
 
-mod ahead;
 mod breaks;
 mod check;
 mod checked;
@@ -22,7 +21,6 @@ mod plans;
 mod records;
 mod refusals;
 
-pub use ahead::READ_AHEAD;
 pub use check::check_volume;
 pub use checked::Checked;
 pub use files::{DAT, FILE_LIMIT, IMAGE, LISTED, MANIFEST, OPT, TEXT};

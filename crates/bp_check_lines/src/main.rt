@@ -9,7 +9,6 @@ use anyhow::Result;
 use bp_script::{Tally, Words};
 use std::alloc::Global;
 use std::rt::Files;
-use std::thread::Threads;
 use std::{env, fs};
 use volume::Volume;
 
@@ -24,7 +23,7 @@ fn main(rt: HostRuntime) -> Result<()> {
 }
 
 // Does what the lines of a file ask for, over a volume of its own.
-fn take_file<R: Files + AllocGlobal + Print + Threads + Sync>(
+fn take_file<R: Files + AllocGlobal + Print>(
     rt: &R,
     alloc: Global,
     tally: &mut Tally,
@@ -36,7 +35,7 @@ fn take_file<R: Files + AllocGlobal + Print + Threads + Sync>(
     for line in text.as_str().lines() {
         if let Some(case) = tally.take(line) {
             let words: Vec<&str> = case.asked.split(' ').collect(alloc)?;
-            let told = volume.told(rt, alloc, &mut Words::over(alloc, words.as_slice()))?;
+            let told = volume.told(alloc, &mut Words::over(alloc, words.as_slice()))?;
             tally.hear(rt, file, told.as_str(), case.wanted)?;
         }
     }

@@ -12,7 +12,6 @@ use bp_core::{Bytes, ListOf, NumberList, Text};
 use bp_outside::{FileList, FileRow, MemSource, paths_differ};
 use bp_script::Words;
 use std::alloc::Global;
-use std::thread::Threads;
 
 /// Files, and those that were kept.
 #[derive(Drop)]
@@ -30,12 +29,7 @@ impl Volume {
     }
 
     /// Does what a line asks for.
-    pub fn told<R: Threads + Sync>(
-        &mut self,
-        rt: &R,
-        alloc: Global,
-        words: &mut Words,
-    ) -> Result<String> {
+    pub fn told(&mut self, alloc: Global, words: &mut Words) -> Result<String> {
         match words.word() {
             "hex" => {
                 let path = words.text();
@@ -55,10 +49,10 @@ impl Volume {
             }
             "keep" => self.kept = self.files.clone()?,
             "again" => self.files = self.kept.clone()?,
-            "check" => return self.check(rt, alloc, ListOf::new(alloc), words),
+            "check" => return self.check(alloc, ListOf::new(alloc), words),
             "fails" => {
                 let failing = vec![in alloc; words.long_number()]?;
-                return self.check(rt, alloc, ListOf::from_vec(failing), words);
+                return self.check(alloc, ListOf::from_vec(failing), words);
             }
             _ => words.refuse(),
         }
@@ -76,13 +70,7 @@ impl Volume {
         self.files.retain(|file| file.path != *path);
     }
 
-    fn check<R: Threads + Sync>(
-        &self,
-        rt: &R,
-        alloc: Global,
-        failing: NumberList,
-        words: &mut Words,
-    ) -> Result<String> {
+    fn check(&self, alloc: Global, failing: NumberList, words: &mut Words) -> Result<String> {
         let dat = words.text();
         let opt = words.text();
         let manifest = if words.has_more() {
@@ -95,7 +83,7 @@ impl Volume {
             return said(alloc, "not read");
         }
         let mut source = MemSource::over(files, failing);
-        let checked = check_volume(rt, alloc, &mut source, &dat, &opt, manifest.as_ref());
+        let checked = check_volume(alloc, &mut source, &dat, &opt, manifest.as_ref());
         of_check(alloc, checked)
     }
 }

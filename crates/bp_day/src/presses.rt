@@ -2,8 +2,9 @@
 //
 //     press ID WRITE..       how many files are written, or the refusal; the folder's calls of these
 //                            numbers, from 0, fail
-//     meet ID                the same into a folder in memory, where the jobs of the first two images
-//                            wait for one another: how many of them saw the other's begin
+//     meet ID COUNT          the same into a folder in memory, where each job waits until so many have
+//                            entered: how many jobs saw that, and how often each number of a job
+//                            entered, a digit each, that of job 0 last
 //     manifest               the digest that was told of the manifest
 //     left                   how many files the folder has
 //     path NUMBER            the path of that file, from 1
@@ -26,7 +27,7 @@ use anyhow::Result;
 use bp_core::{ListOf, NumberList, Text};
 use bp_matter::{Production, Tables};
 use bp_outside::{FileRow, MemFolder};
-use bp_press::{Gate, OpenGate, PressRefusal, Pressed, file_of, press};
+use bp_press::{Covered, Gate, OpenGate, PressRefusal, Pressed, file_of, press};
 use bp_script::{Words, escaped, hex_words};
 use std::alloc::Global;
 use std::sync::atomic::{AtomicU64, Ordering};
@@ -129,28 +130,30 @@ fn press_volume<R: Threads + Sync>(rt: &R, day: &mut Day, words: &mut Words) -> 
 // What each job looks for is looked for so often at most.
 const TURNS: u64 = 500_000_000;
 
-// A gate at which the jobs 0 and 1 wait for one another.
+// A gate at which each job waits until so many have entered.
 #[derive(Drop)]
 struct Meeting {
-    first: AtomicU64,
-    second: AtomicU64,
+    wanted: u64,
+    entered: AtomicU64,
+    // How often each number from 0 to 15 entered, four bits each.
+    numbers: AtomicU64,
     seen: AtomicU64,
 }
 
 impl Meeting {
-    fn new() -> Meeting {
+    fn of(wanted: u64) -> Meeting {
         Meeting {
-            first: AtomicU64::new(0),
-            second: AtomicU64::new(0),
+            wanted,
+            entered: AtomicU64::new(0),
+            numbers: AtomicU64::new(0),
             seen: AtomicU64::new(0),
         }
     }
 
-    // Says that the one has begun, and waits until the other has.
-    fn meet(&self, own: &AtomicU64, other: &AtomicU64) {
-        own.store(1, Ordering::SeqCst);
+    // Waits until so many have entered.
+    fn wait(&self) {
         for _ in 0..TURNS {
-            if other.load(Ordering::SeqCst) == 1 {
+            if self.entered.load(Ordering::SeqCst) >= self.wanted {
                 self.seen.fetch_add(1, Ordering::SeqCst);
                 return;
             }
@@ -159,21 +162,23 @@ impl Meeting {
 }
 
 impl Gate for Meeting {
+    ghost entered = { λ gate job. Unit {0} };
+
     fn enter(&self, job: usize) {
-        match job {
-            0 => self.meet(&self.first, &self.second),
-            1 => self.meet(&self.second, &self.first),
-            _ => {}
+        if job < 16 {
+            self.numbers.fetch_add(1 << (4 * job), Ordering::SeqCst);
         }
+        self.entered.fetch_add(1, Ordering::SeqCst);
+        self.wait();
     }
 }
 
 fn press_met<R: Threads + Sync>(rt: &R, day: &mut Day, words: &mut Words) -> Result<String> {
     let id = words.text();
+    let meeting = Meeting::of(words.long_number());
     if !words.is_read() {
         return unread(day.alloc);
     }
-    let meeting = Meeting::new();
     let mut folder = empty(day.alloc, NumberList::new(day.alloc));
     match production_in(&day.tables, &id) {
         Some(production) => {
@@ -186,7 +191,9 @@ fn press_met<R: Threads + Sync>(rt: &R, day: &mut Day, words: &mut Words) -> Res
                 &meeting,
             )?;
             let seen = meeting.seen.load(Ordering::SeqCst);
-            Ok(format!(in day.alloc; "{seen}")?)
+            let numbers = meeting.numbers.load(Ordering::SeqCst).to_be_bytes();
+            let digits = hex::encode(day.alloc, numbers.as_slice())?;
+            Ok(format!(in day.alloc; "{seen} {digits}")?)
         }
         None => constant(day.alloc, "none"),
     }
@@ -308,8 +315,9 @@ fn found(day: &Day, words: &mut Words) -> Result<String> {
     let Some(production) = production_in(&day.tables, &id) else {
         return constant(day.alloc, "none");
     };
+    let shown = Covered::of(&day.tables, production);
     for file in day.pressed.folder.files() {
-        let bytes = file_of(day.alloc, &day.tables, production, &file.path)?;
+        let bytes = file_of(day.alloc, &shown, &file.path)?;
         if bytes != file.bytes {
             return escaped(day.alloc, file.path.as_str());
         }
@@ -323,7 +331,7 @@ fn find(day: &Day, words: &mut Words) -> Result<String> {
     let Some(production) = production_in(&day.tables, &id) else {
         return constant(day.alloc, "none");
     };
-    match file_of(day.alloc, &day.tables, production, &path) {
+    match file_of(day.alloc, &Covered::of(&day.tables, production), &path) {
         Ok(bytes) => {
             let length = bytes.len();
             Ok(format!(in day.alloc; "{length}")?)

@@ -165,7 +165,7 @@ digests_pass files n [] can = refl
 digests_pass files n (row ∷ rows) can =
     let digest = digest_text row.bytes in
     let rest = digests_by digest_text (file_at files) (n + 1) (map listed_of rows) in
-    ap (λ r. r >>= (λ bytes. demand (bytes_eq digest (digest_text bytes)) (rule_at_line DigestDiffers n) >>= (λ _. rest)))
+    ap (λ r. (r >>= (λ bytes. demand (bytes_eq digest (digest_text bytes)) (rule_at_line DigestDiffers n))) >>= (λ _. rest))
     (file_is_read files LISTED n row.path row.bytes can.0)
     ∙ ap (λ b. demand b (rule_at_line DigestDiffers n) >>= (λ _. rest)) ((bytes_eq-Decides digest digest).1 refl)
     ∙ digests_pass files (n + 1) rows can.1

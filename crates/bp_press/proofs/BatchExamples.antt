@@ -15,6 +15,7 @@ use Rattle.bp_press.specs.Batches.{HasImages, HasJob, IsCodedBatch, IsDigested, 
 use Rattle.bp_press.specs.Jobs.{HasBand, HasPage, IsCodable, page_of, sheet_frame, strip_by}
 use Rattle.bp_press.specs.Shown.{IsOwnJob}
 use Rattle.bp_press.specs.declared.batches.MadeFile.{MadeFile}
+use Rattle.bp_press.specs.declared.batches.TheConstants.{BATCH_IMAGES}
 use Rattle.bp_press.specs.declared.jobs.Job.{Job}
 use Rattle.bp_press.specs.declared.jobs.Job.TheVariants as jobs
 use Rattle.bp_press.specs.declared.made_files.CodedBatch.{CodedBatch}
@@ -216,6 +217,10 @@ no_image_of_none : HasImages tiny_production tiny (Page (lent tiny_item) 0 0) []
 no_image_of_none images = let no : [] ≡ tiny_job ∷ images.rest = images.there in absurd cc
 
 -- ---- a batch
+
+-- so many images are made together
+sixteen_at_a_time : BATCH_IMAGES ≡ 16
+sixteen_at_a_time = refl
 
 abbrev tiny_list : List VolumeFile
 tiny_list = Page (lent tiny_item) 0 0 ∷ Text (lent tiny_item) 0 ∷ Dat ∷ []

@@ -1,6 +1,6 @@
 -- What jobs make, and the list of what threads made.
 use Rattle.std.proofs.Common.{◌≡◌, ℕ, ◌*◌, ◌<◌, ◌≤◌, nat_le, nat_lt, suc, List, [], ◌∷◌, length, map, get_or, Option, Some, None, Result, Ok, Err, refl, sym, ap, ap₂, subst, arith, eqb}
-use Rattle.std.specs.Prelude.{IfOk, IsTrue, unwrap_or}
+use Rattle.std.specs.Prelude.{IfOk, IsTrue, OnOk, unwrap_or}
 use Rattle.std.proofs.lemmas.Bool.{leb-true, ltb-true}
 use Rattle.bp_core.specs.Sorted.{two_keys}
 use Rattle.bp_core.specs.declared.refusals.OutOfMemory.{OutOfMemory}
@@ -72,6 +72,11 @@ pub all_done : {T X : Type 0} (make : T → X) (jobs : List T) (made : List (Res
     → IfOk r (λ strips. strips ≡ map make jobs)
 all_done make jobs made (Ok strips) all long each = each_made make jobs made strips all long each
 all_done make jobs made (Err e) all long each = tt
+
+-- what is so in any case is so where all were made
+pub on_ok : {X E P : Type 0} (r : Result X E) → P → OnOk r P
+on_ok (Ok x) so = so
+on_ok (Err e) so = tt
 
 -- ---- a strip that is lent
 

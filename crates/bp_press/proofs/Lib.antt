@@ -9,6 +9,7 @@ pub mod FamilyLemmas
 pub mod FindLemmas
 pub mod GatherLemmas
 pub mod GrowLemmas
+pub mod InTurnLemmas
 pub mod ItemLemmas
 pub mod JobLemmas
 pub mod KeptItemLemmas

@@ -26,14 +26,14 @@ use Rattle.bp_press.specs.Writing.{AddsAll, LeavesCut}
 use Rattle.bp_press.proofs.WritingLemmas.{cut_none, pair_end, pair_first, pair_second}
 
 -- the files before the manifest
-abbrev rows_before : Production → Matter → List FileRow
+abbrev pub rows_before : Production → Matter → List FileRow
 rows_before f m = files_before f (placed_items f m)
 
 -- the file of the manifest
-abbrev manifest_row : Production → Matter → FileRow
+abbrev pub manifest_row : Production → Matter → FileRow
 manifest_row f m = file (manifest_path f.request) (manifest_of (rows_before f m))
 
-volume-is : (f : Production) (m : Matter) → rows_before f m ++ manifest_row f m ∷ [] ≡ volume_of f m
+pub volume-is : (f : Production) (m : Matter) → rows_before f m ++ manifest_row f m ∷ [] ≡ volume_of f m
 unfolding volume_of files_of
 volume-is f m = refl
 
@@ -110,7 +110,7 @@ some_listed f m list h = omega (arith, length-list f m list h, length-before f m
 pub few_files : (f : Production) (m : Matter) (list : List VolumeFile) → CanBePressed f m → IsListed f m list (files_before f (placed_items f m)) → length list + 1 < 2 ^ 32
 few_files f m list fit h = omega (arith, fit.files, length-list f m list h, length-before f m)
 
-last_after : (files : List FileRow) (row : FileRow) → last_bytes (files ++ row ∷ []) ≡ row.bytes
+pub last_after : (files : List FileRow) (row : FileRow) → last_bytes (files ++ row ∷ []) ≡ row.bytes
 last_after [] row = refl
 last_after (x ∷ []) row = refl
 last_after (x ∷ y ∷ files) row = last_after (y ∷ files) row

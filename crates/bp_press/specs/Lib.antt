@@ -2,6 +2,7 @@ pub mod Answering
 pub mod Batches
 pub mod Contents
 pub mod Files
+pub mod InTurn
 pub mod Jobs
 pub mod LoadFiles
 pub mod Manifest

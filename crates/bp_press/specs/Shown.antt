@@ -21,6 +21,7 @@ use Rattle.bp_matter.specs.declared.rows.Production.{Production}
 use Rattle.bp_freeze.specs.Agree.{kept_words, rects_on}
 use Rattle.bp_press.specs.Contents.{ground_of, held_text, stamps_on}
 use Rattle.bp_press.specs.Jobs.{HasBand}
+use Rattle.bp_press.specs.declared.covered.Covered.{Covered}
 use Rattle.bp_press.specs.declared.covered.CoveredImage.{CoveredImage}
 use Rattle.bp_press.specs.declared.covered.CoveredImage.TheVariants as images
 use Rattle.bp_press.specs.declared.covered.CoveredPage.{CoveredPage}
@@ -29,6 +30,16 @@ use Rattle.bp_press.specs.declared.covered.ShownValue.{ShownValue}
 use Rattle.bp_press.specs.declared.covered.ShownValue.TheVariants.{Held, Nothing, Value}
 use Rattle.bp_press.specs.declared.jobs.Job.{Job}
 use Rattle.bp_press.specs.declared.jobs.Job.TheVariants as jobs
+
+-- ---- the wall
+
+-- the matter behind it, of which no more is lent than a volume shows
+abbrev pub matter_behind : Covered → Matter
+matter_behind shown = shown.tables.now.matter
+
+-- the production whose volume that is
+abbrev pub production_shown : Covered → Production
+production_shown shown = shown.production.now
 
 -- ---- words
 

@@ -1,7 +1,8 @@
 -- The list of the files of a volume before its manifest: what each entry stands for, and what making
 -- its file needs.
-use Rattle.std.specs.Prelude.{◌≡◌, ℕ, ◌+◌, ◌<◌, ◌^◌, IsTrue, List, ◌++◌, map, None, All, codes, encode_utf8_all}
-use Rattle.std.specs.List.{Contains}
+use Rattle.std.specs.Prelude.{◌≡◌, ℕ, ◌+◌, ◌<◌, ◌^◌, IsTrue, List, ◌++◌, map, None, Option, All, codes, encode_utf8_all}
+use Rattle.std.specs.List.{Contains, find}
+use Rattle.std.specs.Str.{bytes_eq}
 use Rattle.bp_core.specs.Characters.{solidus}
 use Rattle.bp_bates.specs.Prefixes.{is_good_prefix}
 use Rattle.bp_burn.specs.Drawn.{has_glyphs}
@@ -34,6 +35,10 @@ path_in f (Text item place) = text_path solidus f.request place item.now.span.fi
 path_in f Dat = data_path f.request (codes ".DAT")
 path_in f Opt = data_path f.request (codes ".OPT")
 path_in f Log = data_path f.request (codes "-LOG.CSV")
+
+-- the first entry whose file lies at the path
+abbrev pub entry_at : Production → List ℕ → List VolumeFile → Option VolumeFile
+entry_at f path list = find (λ entry. bytes_eq (path_in f entry) path) list
 
 -- what its file holds
 abbrev pub bytes_in : Production → Matter → VolumeFile → List ℕ

@@ -17,11 +17,11 @@ use std::alloc::Global;
 // How many images are made together.
 pub(crate) const BATCH_IMAGES: usize = 16;
 
-// A file with the SHA-256 (FIPS 180-4) of its bytes.
+/// A file with the SHA-256 (FIPS 180-4) of its bytes.
 #[derive(Drop)]
-pub(crate) struct MadeFile {
-    pub(crate) row: FileRow,
-    pub(crate) digest: [u8; 32],
+pub struct MadeFile {
+    pub row: FileRow,
+    pub digest: [u8; 32],
 }
 
 // The jobs of a batch, and the place of the list where it ends.

@@ -10,9 +10,10 @@ ghost use Rattle.bp_rows.specs.Limits.{sides_are_imported};
 ghost use Rattle.bp_text.specs.Kept.{is_touched};
 ghost use Rattle.bp_freeze.specs.Agree.{held_for, rects_on, value_in};
 ghost use Rattle.bp_matter.specs.Images.{in_frame};
+ghost use Rattle.bp_matter.specs.Valid.{IsValid};
 ghost use Rattle.bp_press.specs.Contents.{value_by};
 ghost use Rattle.bp_press.specs.Jobs.{IsCodable, page_of, sheet_frame};
-ghost use Rattle.bp_press.specs.Shown.{CanBeCoded, Lends, covers, image_lent, rows_lent, shown_words, value_lent, words_left};
+ghost use Rattle.bp_press.specs.Shown.{CanBeCoded, Lends, covers, image_lent, matter_behind, production_shown, rows_lent, shown_words, value_lent, words_left};
 ghost use Rattle.bp_press.specs.declared.jobs.Job.{Job as AnyJob};
 
 use crate::jobs::Job;
@@ -23,26 +24,39 @@ use bp_matter::{BoxRow, Frame, HeldList, HeldRow, Item, KeptPage, Production, Ta
 use bp_rows::{Res, Unit};
 use bp_text::Word;
 
-// The tables, of which no more is lent than a volume of the production shows.
+/// Tables, of which no more is lent than a volume of one production shows: the way to the matter for
+/// what makes a file and may want memory.
 #[derive(Clone, Copy)]
-pub(crate) struct Covered<'m> {
+pub struct Covered<'m> {
     tables: &'m Tables,
     production: &'m Production,
 }
 
 impl<'m> Covered<'m> {
-    pub(crate) fn of(tables: &'m Tables, production: &'m Production) -> Covered<'m>
-        ensures tables { result.tables.now ≡ tables.now }
-        ensures production { result.production.now ≡ production.now }
+    /// Of these tables what a volume of the production shows.
+    pub fn of(tables: &'m Tables, production: &'m Production) -> Covered<'m>
+        ensures matter { matter_behind result ≡ tables.now.matter }
+        ensures production { production_shown result ≡ production.now }
     {
         Covered { tables, production }
+    }
+
+    // Says that the tables are valid.
+    pub(crate) fn know_valid(&self)
+        ensures { IsValid (matter_behind self.now) }
+    {
+        self.tables.know_valid();
     }
 }
 
 impl<'m> Shows for Covered<'m> {
-    ghost matter = { λ covered. covered.tables.now.matter };
+    ghost matter = { λ covered. matter_behind covered };
 
-    ghost production = { λ covered. covered.production.now };
+    ghost production = { λ covered. production_shown covered };
+
+    fn production(&self) -> &Production {
+        self.production
+    }
 
     fn pages(&self, item: &Item) -> u32 {
         let tables = self.tables;

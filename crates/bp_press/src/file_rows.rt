@@ -119,7 +119,7 @@ pub(crate) fn made_file<P: Shows>(
 }
 
 // A file with its digest.
-fn digested(path: Text, bytes: Bytes) -> MadeFile
+pub(crate) fn digested(path: Text, bytes: Bytes) -> MadeFile
     ensures { result ≡ made_of (file path bytes) }
 {
     let digest = digest_of(bytes.as_slice());

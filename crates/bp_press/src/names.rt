@@ -16,7 +16,7 @@ use bp_matter::Request;
 use std::alloc::Global;
 
 // The longest label.
-const LABEL: usize = 22;
+pub(crate) const LABEL: usize = 22;
 
 // The last step of a path: a label, and how the name ends.
 #[derive(Clone, Copy)]

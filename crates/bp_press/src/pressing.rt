@@ -108,31 +108,6 @@ fn add_manifest<F: Folder>(
     put_file(alloc, folder, path.as_str(), manifest)
 }
 
-/// Writes the volume of a production whose files can be written, whether tables keep it or not. With
-/// `Ok` exactly these files were added, in this order, and the answer has their number and the digest
-/// of the manifest. After a refusal the files added are a prefix of the volume, the last one perhaps
-/// in part. Its images are made as `press` makes them.
-pub fn add_volume<R: Threads + Sync, F: Folder, G: Gate + Sync>(
-    rt: &R,
-    alloc: Global,
-    tables: &Tables,
-    production: &Production,
-    folder: &mut F,
-    gate: &G,
-) -> Result<Pressed, FolderRefusal>
-    requires pressed { CanBePressed production.now tables.now.matter }
-    ensures told { let files = volume_of production.now tables.now.matter in
-        IfOk result (λ pressed. pressed ≡ pressed_of files) }
-    ensures files { let files = volume_of production.now tables.now.matter in
-        OnOk result (AddsAll (F.shows folder.old) files (F.shows folder.new)) }
-    ensures cut { let files = volume_of production.now tables.now.matter in
-        IfErr result (λ refusal.
-        LeavesCut (F.shows folder.old) files refusal (F.shows folder.new)) }
-{
-    let shown = Covered::of(tables, production);
-    write_volume(rt, alloc, &shown, production, folder, gate)
-}
-
 // Writes the volume of a production. Of the matter it is given what the volume shows, and no more.
 fn write_volume<P: Shows + Sync, R: Threads + Sync, F: Folder, G: Gate + Sync>(
     rt: &R,
@@ -212,7 +187,8 @@ pub fn press<R: Threads + Sync, F: Folder, G: Gate + Sync>(
 {
     tables.know_valid();
     written_is_read();
-    match add_volume(rt, alloc, tables, production, folder, gate) {
+    let shown = Covered::of(tables, production);
+    match write_volume(rt, alloc, &shown, production, folder, gate) {
         Ok(pressed) => Ok(pressed),
         Err(refusal) => Err(press_refusal(refusal)),
     }

@@ -12,7 +12,7 @@ ghost use Rattle.bp_press.specs.Shown.{CanBeCoded, IsOwnJob, image_lent, shown_w
 use crate::covered::{CoveredImage, CoveredJobs, KeptWords, ShownValue};
 use crate::jobs::Job;
 use bp_core::{PageNo, Text};
-use bp_matter::Item;
+use bp_matter::{Item, Production};
 
 // What a volume shows of a matter for one production. No call takes memory, and none refuses.
 pub(crate) trait Shows {
@@ -21,6 +21,9 @@ pub(crate) trait Shows {
 
     // The production. Its items alone may be asked for.
     ghost production: { Self → Whole };
+
+    fn production(&self) -> &Production
+        ensures { result.now ≡ production self.now };
 
     // How many pages an item has that isn't withheld.
     fn pages(&self, item: &Item) -> u32

@@ -1,5 +1,5 @@
 // The strips of images, made on threads.
-ghost use Rattle.std.specs.Prelude.{◌≡◌, ◌<◌, ◌≤◌, All, IfOk, Ok, length, map, slice_index_or};
+ghost use Rattle.std.specs.Prelude.{◌≡◌, ◌<◌, ◌≤◌, ℕ, All, IfOk, OnOk, Ok, length, map, slice_index_or};
 ghost use Rattle.bp_t6.specs.Written.{strip_of};
 ghost use Rattle.bp_press.specs.Jobs.{IsCodable, strip_by};
 ghost use Rattle.bp_press.specs.Shown.{CanBeCoded, CanBeCovered, image_lent, page_lent};
@@ -16,8 +16,8 @@ use std::thread::{Threads, map_indices};
 
 /// The strips of 1 to 16 images, in order: each page is read from its strip, burned, banded and
 /// coded row by row (ITU-T T.6). Each job is one call of `map_indices`, and enters the gate before
-/// its work; where no thread can be had it is done by the caller. It returns if the threads that it
-/// joins do.
+/// its work: no strip is begun of a job that hasn't. Where no thread can be had it is done by the
+/// caller. It returns if the threads that it joins do.
 pub fn strips_of<R: Threads + Sync, G: Gate + Sync>(
     rt: &R,
     alloc: Global,
@@ -28,7 +28,10 @@ pub fn strips_of<R: Threads + Sync, G: Gate + Sync>(
     requires some { 1 ≤ length jobs.now }
     requires few { length jobs.now ≤ 16 }
     requires codable { All (IsCodable tables.now.matter) jobs.now }
-    ensures { IfOk result (λ strips. strips ≡ map (strip_by tables.now.matter) jobs.now) }
+    ensures strips { IfOk result (λ strips. strips ≡ map (strip_by tables.now.matter) jobs.now) }
+
+    // Each job has entered the gate by its own number.
+    ensures entered { OnOk result ((job : ℕ) → job < length jobs.now → G.entered gate.now job) }
 {
     let images = CoveredJobs::of(tables, jobs.as_slice());
     covered_strips(rt, alloc, &images, gate)
@@ -42,8 +45,10 @@ pub(crate) fn covered_strips<R: Threads + Sync, G: Gate + Sync>(
     gate: &G,
 ) -> Result<StripList, OutOfMemory>
     requires codable { All (IsCodable images.now.tables.now.matter) images.now.jobs.now }
-    ensures { let strip = strip_by images.now.tables.now.matter in
+    ensures strips { let strip = strip_by images.now.tables.now.matter in
         IfOk result (λ strips. strips ≡ map strip images.now.jobs.now) }
+    ensures entered { OnOk result
+        ((job : ℕ) → job < length images.now.jobs.now → G.entered gate.now job) }
 {
     let made = map_indices(
         rt,
@@ -52,15 +57,16 @@ pub(crate) fn covered_strips<R: Threads + Sync, G: Gate + Sync>(
         &|job: usize| -> Result<Bytes, OutOfMemory>
             requires job { job < length images.now.jobs.now }
             requires codable { All (IsCodable images.now.tables.now.matter) images.now.jobs.now }
-            ensures { (d : Job) → IfOk result (λ strip.
+            ensures { ((d : Job) → IfOk result (λ strip.
                 strip ≡ strip_by images.entry.now.tables.now.matter
-                (slice_index_or images.entry.now.jobs.now job d)) }
+                (slice_index_or images.entry.now.jobs.now job d)))
+                × G.entered gate.entry.now job }
         { entered_strip(alloc, images, gate, job) },
     )?;
     all_strips(alloc, made)
 }
 
-// The strip of one job, after its entry.
+// The strip of one job, which enters the gate before its work.
 fn entered_strip<G: Gate>(
     alloc: Global,
     images: &CoveredJobs<'_>,
@@ -69,11 +75,29 @@ fn entered_strip<G: Gate>(
 ) -> Result<Bytes, OutOfMemory>
     requires job { job < length images.now.jobs.now }
     requires codable { All (IsCodable images.now.tables.now.matter) images.now.jobs.now }
+    ensures strip { (d : Job) → IfOk result (λ strip.
+        strip ≡ strip_by images.now.tables.now.matter
+        (slice_index_or images.now.jobs.now job d)) }
+    ensures entered { G.entered gate.now job }
+{
+    gate.enter(job);
+    strip_behind(gate, alloc, images, job)
+}
+
+// The strip of a job that has entered the gate.
+fn strip_behind<G: Gate>(
+    _gate: &G,
+    alloc: Global,
+    images: &CoveredJobs<'_>,
+    job: usize,
+) -> Result<Bytes, OutOfMemory>
+    requires entered { G.entered _gate.now job }
+    requires job { job < length images.now.jobs.now }
+    requires codable { All (IsCodable images.now.tables.now.matter) images.now.jobs.now }
     ensures { (d : Job) → IfOk result (λ strip.
         strip ≡ strip_by images.now.tables.now.matter
         (slice_index_or images.now.jobs.now job d)) }
 {
-    gate.enter(job);
     image_strip(alloc, images.image(job))
 }
 

@@ -65,7 +65,8 @@ fn what_is_covered_changes_no_file(rt: HostRuntime) {
     are_told(&rt, rt.alloc(), TWO_MATTERS);
 }
 
-// The jobs of the two images of the first matter, of which each waits for the other to begin.
+// The jobs of the two images of the first matter, of which each waits for the other to begin. Each
+// enters once.
 const TWO_IMAGES: &str = "files
 file V/load.dat þBEGDOCþ%14þBEGATTACHþ%14þAUTHORþ%0aþA1þ%14þþ%14þSmithþ%0aþA2þ%14þþ%14þþ%0a
 file V/load.opt A1,,a.tif,Y%0aA2,,b.tif,Y%0a
@@ -83,12 +84,34 @@ call 1 SetCall 2 yes WP - = done
 call 1 PutEntry 2 2019-03-04 Ng Ortiz Note = done
 call 2 Confirm 2 = done
 call 1 Freeze R V1 AB- 4 1 2 AUTHOR = produced 1:1-1 2:2-2
-meet R = 2
+meet R 2 = 2 0000000000000011
 ";
 
 #[test]
 fn two_images(rt: HostRuntime) {
     are_told(&rt, rt.alloc(), TWO_IMAGES);
+}
+
+// The jobs of twenty images. Sixteen are made at a time: each of these waits until all sixteen have
+// begun. The last four come behind them, and begin with 0 again. Each enters once.
+const TWENTY_IMAGES: &str = "files
+file V/load.dat þBEGDOCþ%14þBEGATTACHþ%0aþA01þ%14þþ%0a
+file V/load.opt A01,,b.tif,Y%0aA02,,b.tif%0aA03,,b.tif%0aA04,,b.tif%0aA05,,b.tif%0aA06,,b.tif%0aA07,,b.tif%0aA08,,b.tif%0aA09,,b.tif%0aA10,,b.tif%0aA11,,b.tif%0aA12,,b.tif%0aA13,,b.tif%0aA14,,b.tif%0aA15,,b.tif%0aA16,,b.tif%0aA17,,b.tif%0aA18,,b.tif%0aA19,,b.tif%0aA20,,b.tif%0a
+image V/b.tif plain 200 8 1 0 0 0 0
+begin 1
+import V = 1 20
+call 1 SetCall 1 yes produce - = done
+call 1 Freeze R V1 AB- 4 1 1 = produced 1:1-20
+meet R 16 = 20 1111111111112222
+press R = 25 files
+found R = yes
+find R V1/TEXT/0001/AB-0002.TXT = refused 38 NoFile 0 0 0
+find R V1/IMAGES/0002/AB-0020.TIF = refused 38 NoFile 0 0 0
+";
+
+#[test]
+fn sixteen_images(rt: HostRuntime) {
+    are_told(&rt, rt.alloc(), TWENTY_IMAGES);
 }
 
 // The same, where the fifth append fails.

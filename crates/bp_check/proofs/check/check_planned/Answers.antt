@@ -1,5 +1,4 @@
 use Rattle.bp_check.specs.Check.{agrees}
-use Rattle.bp_check.proofs.AheadLemmas.{leaves_step}
 use Rattle.bp_check.proofs.CalmLemmas.{agrees_calm, bad_after}
 use Rattle.bp_check.proofs.check.check_planned.Goals as goal
 
@@ -7,6 +6,5 @@ pub returns-in_err-agree-clause-after : goal.returns-in_err-agree-clause-after
 returns-in_err-agree-clause-after g c =
     let docs = c.deref.result.now in
     let lines = c.as_slice.result.now in
-    leaves_step (g.S.Source.shows c.args.source.now) (g.S.Source.shows c.args.source.now) c.from_residual.result
-    (bad_after {Y = Unit {0}} {V = Unit {0}} (λ _. tt) c.from_residual.result c.in_err-agree.field-0.0 (agrees docs lines) _
-    (agrees_calm docs lines) c.from_residual.ensures.1 c.in_err-agree.ensures)
+    bad_after {Y = Unit {0}} {V = Unit {0}} (λ _. tt) c.from_residual.result c.in_err-agree.field-0.0 (agrees docs lines) _
+    (agrees_calm docs lines) c.from_residual.ensures.1 c.in_err-agree.ensures

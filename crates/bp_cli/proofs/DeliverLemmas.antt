@@ -1,10 +1,11 @@
 -- Lemmas of delivering: from what loading the tables, reading the file of grants, opening the desk and
 -- serving the door gave to how the work of deliver ends.
 use Rattle.std.proofs.Common.{ℕ, ◌≡◌, ◌≤◌, ◌+◌, ◌++◌, ◌==◌, if◌then◌else◌, Bool, true, false, List, [], ◌∷◌, length, Option, Some, None, Result, Ok, Err, refl, sym, ap, subst, ◌∙◌, arith}
-use Rattle.std.specs.Prelude.{IfSome, not, is_none, nat_le}
+use Rattle.std.specs.Prelude.{IfSome, IsTrue, not, is_none, is_some, nat_le}
 use Rattle.std.specs.FinMap as map
 use Rattle.std.specs.List.{list_any}
 use Rattle.std.specs.Result.{IsErr, IsErrAnd}
+use Rattle.csv.specs.Reading.{default_config, records, strip_bom}
 use Rattle.bp_core.specs.Answers.{Answers}
 use Rattle.bp_core.specs.Counts.{risen}
 use Rattle.bp_core.specs.InTurn.{first_then, onto, read_each}
@@ -30,7 +31,7 @@ use Rattle.bp_outside.specs.declared.refusals.ReadRefusal.{ReadRefusal}
 use Rattle.bp_outside.specs.declared.refusals.ReadRefusal.TheVariants as reads
 use Rattle.bp_receiver.specs.EventServing.{DeliversDoor, desk_view}
 use Rattle.bp_receiver.specs.Events.{Holding}
-use Rattle.bp_receiver.specs.GrantFiles.{grant_of_record, grants_in, records_in}
+use Rattle.bp_receiver.specs.GrantFiles.{grant_of_record, grants_in}
 use Rattle.bp_receiver.specs.Granting.{at_record, grant_each, grant_of, grants_full, is_receiver_row}
 use Rattle.bp_receiver.specs.Laws.{EventsLaw, WantLaw}
 use Rattle.bp_receiver.specs.Receiving.{is_granted}
@@ -53,7 +54,7 @@ use Rattle.bp_cli.specs.Delivering.{DeliversAnyhow, DeliversWith, HoldsGrants, R
 use Rattle.bp_cli.specs.Endings.{Ending, KeeperLeft}
 use Rattle.bp_cli.specs.NamedFiles.{FileNamed}
 use Rattle.bp_cli.specs.Stops.{StopsFor, StopsForMatter, read_stop}
-use Rattle.bp_cli.proofs.KeptLemmas.{as_loaded, by_stop, keeps_matter, kept_matter, kept_rule, load_calm, load_left}
+use Rattle.bp_cli.proofs.KeptLemmas.{as_loaded, by_stop, keeps_matter, kept_matter, kept_rule, load_calm, load_left, told_itself}
 use Rattle.bp_cli.proofs.NamedFileLemmas.{absent_at, at_path, bytes_at, long_at, some_file}
 
 -- a fact that doesn't depend on what is there
@@ -185,7 +186,7 @@ rows_read named path before after bytes (Err (stops.Broken rule)) is short there
   file = Ok bytes;
   found = at_path before.files named path (Ok bytes) is (bytes_at before.files path bytes short there);
   records = holds;
-  source = stays ∙ calm_of (grants_in bytes) rule (each_rule 1 (records_in bytes)) holds before;
+  source = stays ∙ calm_of (grants_in bytes) rule (each_rule 1 (records default_config (strip_bom bytes))) holds before;
 }
 rows_read named path before after bytes (Err stops.OutOfMemory) is short there stays holds = stays
 rows_read named path before after bytes (Err stops.WordsRefused) is short there stays holds = absurd holds
@@ -245,13 +246,13 @@ load_ends asked s before mid d out out' matters.OutOfMemory loaded stop is =
     (nobody (left_nothing s s s before mid d out out' before.faults refl
     (load_left before mid (Err matters.OutOfMemory) before.faults loaded loaded.faults) loaded.commits))
 
-over_rows : (asked : DeliverAsked) (s s' : SourceView) (before mid k' : KeeperView) (d d' : DoorView) (out out' : OutView) (loadeds : Result Shown MatterRefusal) (e : Ending) → LoadsTables before loadeds mid → k'.loads ≡ mid.loads → DeliverWork asked s before mid d out e s' k' d' out' → DeliversWith asked (office s before d out) e (office s' k' d' out')
-over_rows asked s s' before mid k' d d' out out' loadeds e loaded same ends =
-    record { read = mid.rows; rows = loaded.same; ends = ends; loads = once (same ∙ loaded.loads) }
+over_rows : (asked : DeliverAsked) (s s' : SourceView) (before mid k' : KeeperView) (d d' : DoorView) (out out' : OutView) (loadeds : Result Shown MatterRefusal) (e : Ending) → LoadsTables before loadeds mid → IfSome k'.rows (λ _. IsTrue (is_some mid.rows)) → k'.loads ≡ mid.loads → DeliverWork asked s before mid d out e s' k' d' out' → DeliversWith asked (office s before d out) e (office s' k' d' out')
+over_rows asked s s' before mid k' d d' out out' loadeds e loaded told same ends =
+    record { read = mid.rows; rows = record { same = loaded.same; told = told }; ends = ends; loads = once (same ∙ loaded.loads) }
 
 pub load_stops : (asked : DeliverAsked) (s : SourceView) (before mid : KeeperView) (d : DoorView) (why : MatterRefusal) (r : Ending) → LoadsTables before (Err why) mid → IsErr r → IsErrAnd r (StopsForMatter why) → DeliversAnyhow asked (touched s before d) r (touched s mid d)
 load_stops asked s before mid d why r loaded is stop = λ out out'.
-    over_rows asked s s before mid mid d d out out' (Err why) r loaded refl
+    over_rows asked s s before mid mid d d out out' (Err why) r loaded (told_itself mid.rows) refl
     (by_stop (λ e. DeliverWork asked s before mid d out e s mid d out') (StopsForMatter why) r is stop
     (load_ends asked s before mid d out out' why loaded))
 
@@ -281,7 +282,7 @@ read_ends asked s s' before mid d out out' tables stops.KeeperFault valid loaded
 
 read_with : (asked : DeliverAsked) (s s' : SourceView) (before mid : KeeperView) (d : DoorView) (tables : Shown) (stop : Stop) → IsValid tables.matter → LoadsTables before (Ok tables) mid → ReadsGrants asked.grants s (Err stop) s' → DeliversAnyhow asked (touched s before d) (Err stop) (touched s' mid d)
 read_with asked s s' before mid d tables stop valid loaded read = λ out out'.
-    over_rows asked s s' before mid mid d d out out' (Ok tables) (Err stop) loaded refl
+    over_rows asked s s' before mid mid d d out out' (Ok tables) (Err stop) loaded (told_itself mid.rows) refl
     (read_ends asked s s' before mid d out out' tables stop valid loaded read)
 
 pub read_stops : (asked : DeliverAsked) (s s' : SourceView) (before mid : KeeperView) (d : DoorView) (tables : Shown) (stop : Stop) (r : Ending) → IsErr r → IsErrAnd r (λ x. x ≡ stop) → IsValid tables.matter → LoadsTables before (Ok tables) mid → ReadsGrants asked.grants s (Err stop) s' → DeliversAnyhow asked (touched s before d) r (touched s' mid d)
@@ -314,7 +315,7 @@ grants_end asked s s' before mid d out out' tables rows refusals.OutOfMemory val
 
 pub grants_stop : (asked : DeliverAsked) (s s' : SourceView) (before mid : KeeperView) (d : DoorView) (tables : Shown) (rows : List Grant) (refusal : Refusal) (r : Ending) → IsErr r → IsErrAnd r (StopsFor refusal) → IsValid tables.matter → LoadsTables before (Ok tables) mid → ReadsGrants asked.grants s (Ok rows) s' → Answers (λ (desk : Holding). desk.grants) (Err refusal) (grant_each tables.matter [] 1 rows) → DeliversAnyhow asked (touched s before d) r (touched s' mid d)
 grants_stop asked s s' before mid d tables rows refusal r is stop valid loaded read broken = λ out out'.
-    over_rows asked s s' before mid mid d d out out' (Ok tables) r loaded refl
+    over_rows asked s s' before mid mid d d out out' (Ok tables) r loaded (told_itself mid.rows) refl
     (by_stop (λ e. DeliverWork asked s before mid d out e s' mid d out') (StopsFor refusal) r is stop
     (grants_end asked s s' before mid d out out' tables rows refusal valid loaded read broken))
 
@@ -355,11 +356,11 @@ module _ (asked : DeliverAsked) (s s' : SourceView) (before mid k' : KeeperView)
 
   pub door_served : (line : List ℕ) → line ≡ delivered_line count → DeliversAnyhow asked (touched s before d) (Ok line) (touched s' k' d')
   door_served line said = λ out out'.
-      over_rows asked s s' before mid k' d d' out out' (Ok tables) (Ok line) loaded same_loads
+      over_rows asked s s' before mid k' d d' out out' (Ok tables) (Ok line) loaded served.delivers.keeps.told same_loads
       (record { count = count; delivers = delivers out out'; said = said })
 
   pub line_lacks : (r : Ending) → IsErr r → IsErrAnd r (λ x. x ≡ stops.OutOfMemory) → DeliversAnyhow asked (touched s before d) r (touched s' k' d')
   line_lacks r is stop = λ out out'.
-      over_rows asked s s' before mid k' d d' out out' (Ok tables) r loaded same_loads
+      over_rows asked s s' before mid k' d d' out out' (Ok tables) r loaded served.delivers.keeps.told same_loads
       (by_stop (λ e. DeliverWork asked s before mid d out e s' k' d' out') (λ x. x ≡ stops.OutOfMemory) r is stop
       (λ x same. subst (λ (y : Stop). DeliverWork asked s before mid d out (Err y) s' k' d' out') (sym same) (unsaid count (delivers out out'))))

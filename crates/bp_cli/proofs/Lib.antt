@@ -4,6 +4,7 @@ mod BurnLemmas
 mod CalmLemmas
 mod CheckLemmas
 mod ClawLemmas
+mod DeliverExamples
 mod DeliverLemmas
 mod DeliverRunLemmas
 mod DemoLemmas

@@ -7,7 +7,7 @@ use Rattle.bp_core.specs.Counts.{risen}
 use Rattle.bp_core.specs.declared.kept.Row.{Row}
 use Rattle.bp_core.specs.declared.rules.Rule.{Rule}
 use Rattle.bp_import.specs.Importing.{after_kind}
-use Rattle.bp_keep.specs.Keeper.{KeeperView, SameRows}
+use Rattle.bp_keep.specs.Keeper.{KeeperView}
 use Rattle.bp_matter.specs.Matter.{Matter}
 use Rattle.bp_matter.specs.Valid.{IsValid}
 use Rattle.bp_outside.specs.Counts.{Rose}
@@ -25,7 +25,7 @@ use Rattle.bp_cli.specs.declared.deliver.DeliverLine.{DeliverLine}
 use Rattle.bp_cli.specs.declared.deliver.TheConstants.{DELIVER_WORDS}
 use Rattle.bp_cli.specs.declared.statuses.TheConstants.{DONE, RULE_BROKEN, SOURCE_FAULT, KEEPER_FAULT, OUT_OF_MEMORY, OUT_FAULT}
 use Rattle.bp_cli.specs.declared.stops.Stop.TheVariants as stops
-use Rattle.bp_cli.specs.Endings.{Ending, KeeperLeft, failed_source, line_of, status_of, text_of}
+use Rattle.bp_cli.specs.Endings.{Ending, KeeperLeft, RowsRead, failed_source, line_of, status_of, text_of}
 use Rattle.bp_cli.specs.Kept.{CanBeLoaded, MatterAnswers}
 use Rattle.bp_cli.specs.NamedFiles.{FileAnswers}
 use Rattle.bp_cli.specs.Printing.{failed_out}
@@ -274,6 +274,6 @@ with_opened read before = record before { keeper = record before.keeper { rows =
 pub record DeliversOver (asked : DeliverAsked) (before after : Office) (status : ℕ)
     : Type 0 where
   pub read : Option (List Row)
-  pub rows : SameRows before.keeper.rows read
+  pub rows : RowsRead before.keeper.rows read after.keeper.rows
   pub promises : DeliverPromises asked (with_opened read before) after status
   pub loads : AtMostOnce before.keeper.loads after.keeper.loads

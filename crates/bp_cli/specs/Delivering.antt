@@ -3,7 +3,7 @@ use Rattle.std.specs.Prelude.{ℕ, ◌≡◌, ◌<◌, ◌≤◌, ◌^◌, Optio
 use Rattle.bp_core.specs.declared.kept.Row.{Row}
 use Rattle.bp_core.specs.declared.rules.Rule.{Rule}
 use Rattle.bp_import.specs.Importing.{after_kind}
-use Rattle.bp_keep.specs.Keeper.{KeeperView, SameRows}
+use Rattle.bp_keep.specs.Keeper.{KeeperView}
 use Rattle.bp_outside.specs.Door.{DoorView}
 use Rattle.bp_outside.specs.Out.{OutView}
 use Rattle.bp_outside.specs.Source.{SourceView}
@@ -13,7 +13,7 @@ use Rattle.bp_rules.specs.Steps.{AtMostOnce}
 use Rattle.bp_cli.specs.declared.stops.Stop.{Stop}
 use Rattle.bp_cli.specs.declared.stops.Stop.TheVariants as stops
 use Rattle.bp_cli.specs.Deliver.{DeliverAsked, DeliverEnds, Office, office, records_of, with_opened}
-use Rattle.bp_cli.specs.Endings.{Ending, failed_source}
+use Rattle.bp_cli.specs.Endings.{Ending, RowsRead, failed_source}
 use Rattle.bp_cli.specs.NamedFiles.{FileAnswers}
 
 -- ---- the file of grants
@@ -54,7 +54,7 @@ ReadsGrants named source (Err stops.KeeperFault) after = ⊥
 pub record DeliversWith (asked : DeliverAsked) (before : Office) (ending : Ending) (after : Office)
     : Type 0 where
   pub read : Option (List Row)
-  pub rows : SameRows before.keeper.rows read
+  pub rows : RowsRead before.keeper.rows read after.keeper.rows
   pub ends : DeliverEnds asked (with_opened read before) ending after
   pub loads : AtMostOnce before.keeper.loads after.keeper.loads
 

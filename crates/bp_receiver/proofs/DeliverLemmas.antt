@@ -1,20 +1,25 @@
 -- What a call, a grant and a want give at the desk.
-use Rattle.std.proofs.Common.{◌≡◌, ◌≢◌, ℕ, List, refl, sym, ap, subst, ◌∙◌}
-use Rattle.std.specs.Prelude.{Result, Ok, Err, IsOkAnd}
+use Rattle.std.proofs.Common.{◌≡◌, ◌≢◌, ℕ, List, Option, Some, None, refl, sym, ap, subst, ◌∙◌}
+use Rattle.std.specs.Option.{option_map}
+use Rattle.std.specs.Prelude.{Result, Ok, Err, IfSome, IsOkAnd, IsTrue, is_some}
 use Rattle.bp_core.specs.Answers.{Answers}
+use Rattle.bp_core.specs.declared.kept.Row.{Row}
 use Rattle.bp_core.specs.declared.refusals.Refusal.{Refusal}
 use Rattle.bp_core.specs.declared.refusals.Refusal.TheVariants as refusals
 use Rattle.bp_core.specs.declared.rules.Rule.{Rule}
 use Rattle.bp_keep.specs.Keeper.{KeeperView}
+use Rattle.bp_keep.specs.Puts.{put_all}
 use Rattle.bp_matter.specs.Matter.{Matter}
 use Rattle.bp_matter.specs.declared.calls.Call.{Call}
 use Rattle.bp_matter.specs.declared.calls.Reply.{Reply}
+use Rattle.bp_rules.specs.Changes.{puts_of}
 use Rattle.bp_rules.specs.Stepping.{Stepped, step_of}
 use Rattle.bp_rules.specs.Steps.{KeepsRows, Stays, StepsCall, never}
 use Rattle.bp_rules.specs.declared.refusals.MatterRefusal.{MatterRefusal}
 use Rattle.bp_rules.specs.declared.refusals.MatterRefusal.TheVariants as stops
 use Rattle.bp_rules.proofs.RunningLemmas.{stays-itself}
 use Rattle.bp_receiver.specs.Delivering.{EventMade, GrantGives, KeyGrants, KeyWants, ReviewGives, from_grant, from_reply, from_want}
+use Rattle.bp_receiver.specs.EventServing.{told-itself}
 use Rattle.bp_receiver.specs.Events.{Evented, Holding, event_of, to_grant, to_review}
 use Rattle.bp_receiver.specs.Granting.{grant_by}
 use Rattle.bp_receiver.specs.Receiving.{receive}
@@ -38,6 +43,14 @@ changed : (h : Holding) (r : Result Stepped Rule)
 changed h (Ok stepped) other = λ same. other (ap (λ (k : Holding). k.matter) same)
 changed h (Err rule) other = absurd other
 
+-- a change begins to tell no rows
+told-made : (f : List Row → List Row) (before now : Option (List Row))
+    → IfSome now (λ rows. option_map f before ≡ Some rows)
+    → IfSome now (λ _. IsTrue (is_some before))
+told-made f before None puts = tt
+told-made f None (Some rows) puts = let no : None ≡ Some rows = puts in absurd cc
+told-made f (Some there) (Some rows) puts = refl
+
 review-gives : (h : Holding) (key : List ℕ) (call : Call) (keeper : KeeperView)
     (made : Result Reply MatterRefusal) (m : Matter) (keeper' : KeeperView)
     → StepsCall h.matter key call keeper made m keeper'
@@ -48,6 +61,7 @@ review-gives h key call keeper (Ok reply) m keeper' c =
     record {
       answer = ap (to_review h) c.answer ∙ ap replied (sym c.made.matter);
       kept = c.made.kept;
+      told = told-made (put_all (puts_of c.edit)) keeper.rows keeper'.rows c.made.puts;
       faults = c.made.faults;
       loads = c.made.loads;
       commits = c.made.commits;
@@ -64,7 +78,7 @@ review-gives h key call keeper (Err stops.KeeperFault) m keeper' c =
       stays = c.1;
     }
 review-gives h key call keeper (Err stops.OutOfMemory) m keeper' c =
-    record { desk = ap (at_matter h) c.matter; stays = c }
+    record { desk = ap (at_matter h) c.matter; stays = c; quiet = λ other. absurd (other tt) }
 
 -- the same of an answer that is equal to it
 pub review-gives-as : (h k : Holding) (key : List ℕ) (call : Call) (keeper : KeeperView)
@@ -92,6 +106,7 @@ left-alone h k event given keeper same answer =
     record {
       answer = answer;
       kept = λ rows. subst (λ (n : Matter). KeepsRows keeper n) (sym same) rows;
+      told = told-itself keeper.rows;
       faults = refl;
       loads = refl;
       commits = never refl;
@@ -115,6 +130,7 @@ grant-gives h key new (Err refusals.OutOfMemory) k c = λ keeper.
       desk = c;
       stays = subst (λ (x : Holding). Stays h.matter keeper keeper.faults x.matter keeper) (sym c)
           (stays-itself h.matter keeper);
+      quiet = λ _. refl;
     }
 
 pub grant-gives-as : (h : Holding) (key : List ℕ) (new : Grant) (made : Result (Unit {0}) Refusal)
@@ -138,7 +154,7 @@ want-gives h key wanted (Ok given) c = λ keeper.
 want-gives h key wanted (Err (refusals.Rule rule)) c = λ keeper.
     record { answer = ap (wanted_of h) c; desk = refl; quiet = refl }
 want-gives h key wanted (Err refusals.OutOfMemory) c = λ keeper.
-    record { desk = refl; stays = stays-itself h.matter keeper }
+    record { desk = refl; stays = stays-itself h.matter keeper; quiet = λ _. refl }
 
 pub want-gives-as : (h k : Holding) (key : List ℕ) (wanted : Wanted) (made : Result Given Refusal)
     (result : Result Given MatterRefusal)

@@ -1,6 +1,6 @@
 -- Carry what an event gave to the exchange that it came in, and exchanges in turn to a door.
 use Rattle.std.proofs.Common.{◌≡◌, ℕ, ◌+◌, ◌-◌, ◌^◌, ◌≤◌, Bool, true, false, List, [], ◌∷◌, ◌++◌, Option, Some, None, refl, sym, ap, subst, ◌∙◌, arith, inl, inr, zero-add}
-use Rattle.std.specs.Prelude.{◌⊎◌, Result, Ok, Err, IfOk, IfSome, IsTrue}
+use Rattle.std.specs.Prelude.{◌⊎◌, Result, Ok, Err, IfOk, IfSome, IsTrue, is_some}
 use Rattle.std.proofs.lemmas.Bool.{false≢true}
 use Rattle.bp_core.specs.Counts.{risen}
 use Rattle.bp_core.specs.declared.kept.Row.{Row}
@@ -11,7 +11,7 @@ use Rattle.bp_matter.specs.KeptRows.{rows_of}
 use Rattle.bp_matter.specs.Matter.{Matter}
 use Rattle.bp_outside.specs.Door.{DoorView}
 use Rattle.bp_outside.specs.declared.exchange.Exchange.{Exchange}
-use Rattle.bp_rules.specs.Steps.{KeepsRows, Stays}
+use Rattle.bp_rules.specs.Steps.{AtMostOnce, KeepsRows, Stays, never, once}
 use Rattle.bp_rules.specs.declared.refusals.MatterRefusal.{MatterRefusal}
 use Rattle.bp_rules.specs.declared.refusals.MatterRefusal.TheVariants as stops
 use Rattle.bp_web.specs.Heads.{NeverBegins, start_of}
@@ -23,36 +23,60 @@ use Rattle.bp_doors.specs.Exchanges.{IsRefusalText, Sent, memory_text, text_of}
 use Rattle.bp_doors.specs.Serving.{InTurn, RoseBy, ServesDoor, count_if}
 use Rattle.bp_doors.specs.Serving.InTurn.{next, nobody as nobody_came}
 use Rattle.bp_doors.proofs.CountLemmas.{rose_twice}
-use Rattle.bp_receiver.specs.Delivered.{AsksFor, Delivered, TellsEvent, WasReadEvent, event_turn, event_turns}
+use Rattle.bp_receiver.specs.Delivered.{AsksFor, Delivered, TellsEvent, TextOfEvent, WasReadEvent, event_turn, event_turns}
 use Rattle.bp_receiver.specs.Delivered.Delivered.{made, nobody, unmade}
 use Rattle.bp_receiver.specs.Delivered.TextOfEvent.{given, not_given}
 use Rattle.bp_receiver.specs.Delivered.TextOfNoEvent.{fault, no_memory, refusal}
 use Rattle.bp_receiver.specs.Delivering.{EventGives, EventLacked, EventMade, KeeperFailed}
 use Rattle.bp_receiver.specs.EventReplies.{event_text}
 use Rattle.bp_receiver.specs.EventRequests.{EventReadAlike, EventReads, IsWholeEvent}
-use Rattle.bp_receiver.specs.EventServing.{AnswersEvent, Delivers, DeliversDoor, DeskView, EventDeals, KeepsOn, ReadsEvent, desk_view, is_made, text_for}
+use Rattle.bp_receiver.specs.EventServing.{AnswersEvent, Delivers, DeliversDoor, DeskView, EventDeals, KeepsOn, MayCommit, ReadsEvent, commits_at, desk_view, is_made, text_for, told-itself}
 use Rattle.bp_receiver.specs.EventServing.EventDeals.{made_none, made_one}
-use Rattle.bp_receiver.specs.Events.{Evented, Holding, event_of, run_of}
+use Rattle.bp_receiver.specs.EventServing.MayCommit.{at_call, no_call}
+use Rattle.bp_receiver.specs.EventServing.MayCommitIn.{no_exchange, one_more}
+use Rattle.bp_receiver.specs.Events.{Evented, Holding, event_of, run_of, to_grant}
+use Rattle.bp_receiver.specs.Granting.{grant_by}
 use Rattle.bp_receiver.specs.declared.events.Event.{Event}
+use Rattle.bp_receiver.specs.declared.events.Event.TheVariants as events
 use Rattle.bp_receiver.specs.declared.events.Given.{Given}
+use Rattle.bp_receiver.specs.declared.grants.Grant.{Grant}
 
 -- ---- the keeper
 
-keeps-itself : (d : DeskView) → KeepsOn d d
-keeps-itself d = record {
+keeps-itself : (most : ℕ) (d : DeskView) → KeepsOn most d d
+keeps-itself most d = record {
   kept = λ rows. rows;
+  told = told-itself d.keeper.rows;
   loads = refl;
+  commits = omega arith;
   sure = refl;
   faults = omega arith;
 }
 
-keeps-twice : (a b c : DeskView) → KeepsOn a b → KeepsOn b c → KeepsOn a c
-keeps-twice a b c first then =
+-- what told before told before that
+told-twice : (first then last : Option (List Row))
+    → IfSome then (λ _. IsTrue (is_some first))
+    → IfSome last (λ _. IsTrue (is_some then))
+    → IfSome last (λ _. IsTrue (is_some first))
+told-twice first then None before after = tt
+told-twice first None (Some rows) before after = absurd (false≢true after)
+told-twice first (Some now) (Some rows) before after = before
+
+keeps-twice : (m n most : ℕ) (a b c : DeskView)
+    → m + n ≤ most
+    → KeepsOn m a b
+    → KeepsOn n b c
+    → KeepsOn most a c
+keeps-twice m n most a b c room first then =
     let up = first.faults in
     let more = then.faults in
+    let once = first.commits in
+    let again = then.commits in
     record {
       kept = λ rows. then.kept (first.kept rows);
+      told = told-twice a.keeper.rows b.keeper.rows c.keeper.rows first.told then.told;
       loads = then.loads ∙ first.loads;
+      commits = omega (arith, room, once, again);
       sure = then.sure ∙ first.sure;
       faults = omega (arith, up, more);
     }
@@ -66,39 +90,84 @@ kept-still m rows None told kept = tt
 kept-still m rows (Some now) told kept =
     let P : Option (List Row) → Type 0 = λ o. IfSome o (λ r. r ≡ rows_of m) in subst P told kept
 
+-- rows that are told after were told before
+told-still : (rows rows' : Option (List Row))
+    → IfSome rows' (λ now. rows ≡ Some now)
+    → IfSome rows' (λ _. IsTrue (is_some rows))
+told-still rows None left = tt
+told-still None (Some now) left = let no : None ≡ Some now = left in absurd cc
+told-still (Some rows) (Some now) left = refl
+
+-- once at most is one more at most
+at-most : (before now : ℕ) → AtMostOnce before now → now ≤ before + 1
+at-most before now (never same) = omega (arith, same)
+at-most before now (once same) = omega (arith, same)
+
 -- nothing was made, and the keeper's count is this one
 keeps-stays : (h k : Holding) (keeper keeper' : KeeperView) (count : ℕ)
     → k ≡ h
     → keeper.faults ≤ count
     → Stays h.matter keeper count k.matter keeper'
-    → KeepsOn (desk_view h keeper) (desk_view k keeper')
+    → KeepsOn 1 (desk_view h keeper) (desk_view k keeper')
 keeps-stays h k keeper keeper' count same up s =
     let now = s.faults in
     record {
       kept = λ rows. kept-still k.matter keeper.rows keeper'.rows s.rows
           (subst (λ (m : Matter). KeepsRows keeper m) (sym s.matter) rows);
+      told = told-still keeper.rows keeper'.rows s.rows;
       loads = s.loads;
+      commits = at-most keeper.commits keeper'.commits s.commits;
       sure = s.sure;
       faults = omega (arith, up, now);
     }
 
-keeps-quiet : (h k : Holding) (keeper keeper' : KeeperView)
+keeps-quiet : (most : ℕ) (h k : Holding) (keeper keeper' : KeeperView)
     → k ≡ h
     → keeper' ≡ keeper
-    → KeepsOn (desk_view h keeper) (desk_view k keeper')
-keeps-quiet h k keeper keeper' same quiet =
-    subst (λ (l : Holding). KeepsOn (desk_view h keeper) (desk_view l keeper')) (sym same)
-    (subst (λ (l : KeeperView). KeepsOn (desk_view h keeper) (desk_view h l)) (sym quiet)
-    (keeps-itself (desk_view h keeper)))
+    → KeepsOn most (desk_view h keeper) (desk_view k keeper')
+keeps-quiet most h k keeper keeper' same quiet =
+    subst (λ (l : Holding). KeepsOn most (desk_view h keeper) (desk_view l keeper')) (sym same)
+    (subst (λ (l : KeeperView). KeepsOn most (desk_view h keeper) (desk_view h l)) (sym quiet)
+    (keeps-itself most (desk_view h keeper)))
+
+-- a grant leaves the matter
+grant-stays : (h : Holding) (r : Result (List Grant) Rule) → (to_grant h r).after.matter ≡ h.matter
+grant-stays h (Ok grants) = refl
+grant-stays h (Err rule) = refl
+
+-- where the matter stays the keeper is asked for nothing
+quiet-made : (h k : Holding) (event : Event) (keeper keeper' : KeeperView) (gave : Given)
+    → EventMade h event keeper gave k keeper'
+    → (event_of h event).after.matter ≡ h.matter
+    → keeper'.commits ≤ keeper.commits + 0
+quiet-made h k event keeper keeper' gave m stays =
+    let at : (event_of h event).after.matter ≡ k.matter =
+    ap (λ (e : Evented). e.after.matter) m.answer in
+    let same : keeper'.commits ≡ keeper.commits =
+    ap (λ (l : KeeperView). l.commits) (m.quiet (sym at ∙ stays)) in
+    omega (arith, same)
+
+commits-made : (h k : Holding) (event : Event) (keeper keeper' : KeeperView) (gave : Given)
+    → EventMade h event keeper gave k keeper'
+    → keeper'.commits ≤ keeper.commits + commits_at event
+commits-made h k (events.Review key call) keeper keeper' gave m =
+    at-most keeper.commits keeper'.commits m.commits
+commits-made h k (events.Grant key staff id) keeper keeper' gave m =
+    quiet-made h k (events.Grant key staff id) keeper keeper' gave m
+    (grant-stays h (grant_by h.matter h.grants key (record { staff = staff; id = id })))
+commits-made h k (events.Want key wanted) keeper keeper' gave m =
+    quiet-made h k (events.Want key wanted) keeper keeper' gave m refl
 
 keeps-made : (h k : Holding) (event : Event) (keeper keeper' : KeeperView) (gave : Given)
     → EventMade h event keeper gave k keeper'
-    → KeepsOn (desk_view h keeper) (desk_view k keeper')
+    → KeepsOn (commits_at event) (desk_view h keeper) (desk_view k keeper')
 keeps-made h k event keeper keeper' gave m =
     let same = m.faults in
     record {
       kept = m.kept;
+      told = m.told;
       loads = m.loads;
+      commits = commits-made h k event keeper keeper' gave m;
       sure = m.sure;
       faults = omega (arith, same);
     }
@@ -112,7 +181,7 @@ was-asked bytes event reads = reads (λ same. cc)
 deals-made : (h k : Holding) (event : Event) (keeper keeper' : KeeperView)
     (answer : Result Given Rule) (text : List ℕ) (x : Exchange)
     → event_of h event ≡ record { given = answer; after = k }
-    → KeepsOn (desk_view h keeper) (desk_view k keeper')
+    → KeepsOn (commits_at event) (desk_view h keeper) (desk_view k keeper')
     → (text ≡ event_text answer) ⊎ (text ≡ memory_text)
     → AsksFor x event
     → WasReadEvent x
@@ -137,27 +206,46 @@ deals-failed : (h k : Holding) (event : Event) (keeper keeper' : KeeperView) (te
     → EventDeals (desk_view h keeper) x false (desk_view k keeper')
 deals-failed h k event keeper keeper' text x fits f (inl t) asks read s =
     let count = f.stays.faults in
-    made_none 1 text (desk_view k keeper') f.desk (fault event f.review asks read t) s
-    (omega (arith, count))
+    made_none 1 1 text (desk_view k keeper') f.desk (fault event f.review asks read t) s
+    (omega (arith, count)) (at_call (record { event = event; review = f.review; asks = asks }))
     (keeps-stays h k keeper keeper' (risen keeper.faults) f.desk (omega (arith, fits)) f.stays)
 deals-failed h k event keeper keeper' text x fits f (inr t) asks read s =
     let count = f.stays.faults in
-    made_none 0 text (desk_view k keeper') f.desk (no_memory read.needed t) s
-    (omega (arith, count, fits))
+    made_none 0 1 text (desk_view k keeper') f.desk (no_memory read.needed t) s (omega (arith, count, fits))
+    (at_call (record { event = event; review = f.review; asks = asks }))
     (keeps-stays h k keeper keeper' (risen keeper.faults) f.desk (omega (arith, fits)) f.stays)
 
 -- memory ran out, and nothing was made
-deals-lacked : (h k : Holding) (keeper keeper' : KeeperView) (text : List ℕ) (x : Exchange)
-    → EventLacked h keeper k keeper'
+lacked-quiet : (h k : Holding) (event : Event) (keeper keeper' : KeeperView) (text : List ℕ)
+    (x : Exchange)
+    → EventLacked h event keeper k keeper'
+    → keeper' ≡ keeper
     → text ≡ memory_text
     → WasReadEvent x
     → Sent x text
     → EventDeals (desk_view h keeper) x false (desk_view k keeper')
-deals-lacked h k keeper keeper' text x f t read s =
+lacked-quiet h k event keeper keeper' text x f quiet t read s =
     let count = f.stays.faults in
-    made_none 0 text (desk_view k keeper') f.desk (no_memory read.needed t) s
-    (omega (arith, count))
+    made_none 0 0 text (desk_view k keeper') f.desk (no_memory read.needed t) s (omega (arith, count)) no_call
+    (keeps-quiet 0 h k keeper keeper' f.desk quiet)
+
+deals-lacked : (h k : Holding) (event : Event) (keeper keeper' : KeeperView) (text : List ℕ)
+    (x : Exchange)
+    → EventLacked h event keeper k keeper'
+    → AsksFor x event
+    → text ≡ memory_text
+    → WasReadEvent x
+    → Sent x text
+    → EventDeals (desk_view h keeper) x false (desk_view k keeper')
+deals-lacked h k (events.Review key call) keeper keeper' text x f asks t read s =
+    let count = f.stays.faults in
+    made_none 0 1 text (desk_view k keeper') f.desk (no_memory read.needed t) s (omega (arith, count))
+    (at_call (record { event = events.Review key call; review = tt; asks = asks }))
     (keeps-stays h k keeper keeper' keeper.faults f.desk (omega arith) f.stays)
+deals-lacked h k (events.Grant key staff id) keeper keeper' text x f asks t read s =
+    lacked-quiet h k (events.Grant key staff id) keeper keeper' text x f (f.quiet (λ no. no)) t read s
+deals-lacked h k (events.Want key wanted) keeper keeper' text x f asks t read s =
+    lacked-quiet h k (events.Want key wanted) keeper keeper' text x f (f.quiet (λ no. no)) t read s
 
 text-is : (wanted : List ℕ) (result : Result (List ℕ) OutOfMemory)
     → IfOk result (λ text. text ≡ wanted)
@@ -184,7 +272,7 @@ event-answers h k event keeper keeper' (Ok gave) result fits e t x reads read s 
 event-answers h k event keeper keeper' (Err (stops.Rule rule)) result fits e t x reads read s =
     deals-made h k event keeper keeper' (Err rule) (text_of result) x
     (e.answer ∙ ap (λ (l : Holding). refused_with rule l) (sym e.desk))
-    (keeps-quiet h k keeper keeper' e.desk e.quiet) (text-is _ result t)
+    (keeps-quiet (commits_at event) h k keeper keeper' e.desk e.quiet) (text-is _ result t)
     (was-asked x.read event reads) read s
   where
     refused_with : Rule → Holding → Evented
@@ -193,7 +281,8 @@ event-answers h k event keeper keeper' (Err stops.KeeperFault) result fits e t x
     deals-failed h k event keeper keeper' (text_of result) x fits e (text-is _ result t)
     (was-asked x.read event reads) read s
 event-answers h k event keeper keeper' (Err stops.OutOfMemory) result fits e t x reads read s =
-    deals-lacked h k keeper keeper' (text_of result) x e (lacking _ (text-is _ result t)) read s
+    deals-lacked h k event keeper keeper' (text_of result) x e (was-asked x.read event reads)
+    (lacking _ (text-is _ result t)) read s
 
 -- the same where what was told of it is equal
 pub event-answers-as : (h k : Holding) (event : Event) (keeper keeper' : KeeperView)
@@ -219,10 +308,10 @@ pub refusal-answers : (d : DeskView) (why : WebRefusal) (text : List ℕ)
     → IsRefusalText why text
     → AnswersEvent d (Err why) text false d
 refusal-answers d why text (inl t) x reads read s =
-    made_none 0 text d refl (no_memory read.needed t) s (omega arith) (keeps-itself d)
+    made_none 0 0 text d refl (no_memory read.needed t) s (omega arith) no_call (keeps-itself 0 d)
 refusal-answers d why text (inr t) x reads read s =
-    made_none 0 text d refl (refusal why (was-refused x.read why t.0 reads) read t.1) s
-    (omega arith) (keeps-itself d)
+    made_none 0 0 text d refl (refusal why (was-refused x.read why t.0 reads) read t.1) s
+    (omega arith) no_call (keeps-itself 0 d)
 
 -- the same of what was read, told otherwise
 pub answers-as : (before after : DeskView) (asked read : Result Event WebRefusal) (text : List ℕ)
@@ -263,12 +352,27 @@ none-delivered : (d : DeskView) → Delivers d [] 0 d
 none-delivered d = record {
   events = [];
   faults = 0;
+  commits = 0;
   counted = refl;
   run = refl;
   delivered = nobody;
   rose = omega arith;
-  keeps = keeps-itself d;
+  asked = no_exchange;
+  keeps = keeps-itself 0 d;
 }
+
+-- an exchange that made an event asked for it
+asked-for : (h : Holding) (event : Event) (x : Exchange) (text : List ℕ)
+    → TextOfEvent (event_turn h event) x text
+    → AsksFor x event
+asked-for h event x text (given asks read t) = asks
+asked-for h event x text (not_given asks read t) = asks
+
+may-commit : (x : Exchange) (event : Event) → AsksFor x event → MayCommit x (commits_at event)
+may-commit x (events.Review key call) asks =
+    at_call (record { event = events.Review key call; review = tt; asks = asks })
+may-commit x (events.Grant key staff id) asks = no_call
+may-commit x (events.Want key wanted) asks = no_call
 
 -- an exchange came, and others after it
 one-delivered : (a b c : DeskView) (x : Exchange) (told : Bool) (others : List Exchange) (count : ℕ)
@@ -283,27 +387,32 @@ one-delivered a b c x told others count h (made_one event text after run t s kee
     record {
       events = event ∷ rest.events;
       faults = rest.faults;
+      commits = commits_at event + rest.commits;
       counted = omega (arith, counts);
       run = rest.run ∙ ap (λ (l : Holding). run_of l rest.events) run;
       delivered = made (event_turn a.holding event) _ rest.faults x others text h t s
           (subst P run rest.delivered);
       rose = subst (λ n. RoseBy n a.keeper.faults c.keeper.faults) (zero-add rest.faults)
           (rose_twice a.keeper.faults b.keeper.faults c.keeper.faults 0 rest.faults up rest.rose);
-      keeps = keeps-twice a b c keeps rest.keeps;
+      asked = one_more (commits_at event) rest.commits x others
+          (may-commit x event (asked-for a.holding event x text t)) rest.asked;
+      keeps = keeps-twice (commits_at event) rest.commits _ a b c (omega arith) keeps rest.keeps;
     }
-one-delivered a b c x told others count h (made_none faults text after run t s rose keeps) rest =
+one-delivered a b c x told others count h (made_none faults most text after run t s rose may keeps) rest =
     let P : Holding → Type 0 = λ l. Delivered (event_turns l rest.events) rest.faults others in
     let counts = rest.counted in
     record {
       events = rest.events;
       faults = faults + rest.faults;
+      commits = most + rest.commits;
       counted = omega (arith, counts);
       run = rest.run ∙ ap (λ (l : Holding). run_of l rest.events) run;
       delivered = unmade (event_turns a.holding rest.events) faults rest.faults x others text h t s
           (subst P run rest.delivered);
       rose = rose_twice a.keeper.faults b.keeper.faults c.keeper.faults faults rest.faults rose
           rest.rose;
-      keeps = keeps-twice a b c keeps rest.keeps;
+      asked = one_more most rest.commits x others may rest.asked;
+      keeps = keeps-twice most rest.commits _ a b c (omega arith) keeps rest.keeps;
     }
 
 -- all that came

@@ -7,12 +7,10 @@ pub mod CallLemmas
 pub mod DeliverLemmas
 pub mod EventLemmas
 pub mod EventServingLemmas
-pub mod FieldLemmas
 pub mod GrantLemmas
 pub mod OutlineLemmas
-pub mod ReaderLemmas
+pub mod ReadyFileLemmas
 pub mod ReadyLemmas
-pub mod RecordLemmas
 pub mod ReplyLemmas
 pub mod RequestLemmas
 pub mod RouteLemmas

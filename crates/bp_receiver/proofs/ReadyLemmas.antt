@@ -1,10 +1,7 @@
--- Files that are ready: found by id and path, and still ready after calls.
-use Rattle.std.proofs.Common.{◌≡◌, ℕ, Bool, List, [], ◌∷◌, Option, Some, None, refl, sym, ap, subst, ◌∙◌, inl, inr}
-use Rattle.std.specs.Prelude.{All, Result, Ok, Err}
-use Rattle.std.specs.List.{find}
-use Rattle.std.specs.Str.{bytes_eq}
-use Rattle.std.proofs.lemmas.Bool.{and_parts, cases_Bool}
-use Rattle.std.proofs.lemmas.List.Elements.{All-head, All-tail, All-weaker}
+-- Files that are ready stay so after calls.
+use Rattle.std.proofs.Common.{◌≡◌, ℕ, List, Option, Some, None, refl, sym, ap, subst, ◌∙◌}
+use Rattle.std.specs.Prelude.{Result, Ok, Err}
+use Rattle.std.proofs.lemmas.List.Elements.{All-weaker}
 use Rattle.bp_keep.specs.Keeper.{KeeperView}
 use Rattle.bp_matter.specs.Matter.{Matter}
 use Rattle.bp_matter.specs.declared.calls.Call.{Call}
@@ -13,7 +10,6 @@ use Rattle.bp_matter.specs.declared.rows.Production.{Production}
 use Rattle.bp_freeze.specs.Freezing.{kept_production}
 use Rattle.bp_freeze.specs.Keeping.{Keeps}
 use Rattle.bp_freeze.proofs.KeptLemmas.{kept-id}
-use Rattle.bp_freeze.proofs.PutRowLemmas.{find-passes, same-text}
 use Rattle.bp_outside.specs.declared.files.FileRow.{FileRow}
 use Rattle.bp_press.specs.Answering.{file_answer}
 use Rattle.bp_press.specs.Contents.{produced_page}
@@ -23,39 +19,13 @@ use Rattle.bp_rules.specs.Steps.{StepsCall}
 use Rattle.bp_rules.specs.declared.refusals.MatterRefusal.{MatterRefusal}
 use Rattle.bp_rules.specs.declared.refusals.MatterRefusal.TheVariants as stops
 use Rattle.bp_receiver.specs.Contents.{CallStays}
-use Rattle.bp_receiver.specs.Ready.{IsGiven, IsReady, is_ready_at}
+use Rattle.bp_receiver.specs.Ready.{AreReady, IsGiven, IsReady}
 use Rattle.bp_receiver.specs.Receiving.{file_given, given_file}
 use Rattle.bp_receiver.specs.declared.events.Given.TheVariants as gives
 use Rattle.bp_receiver.specs.declared.ready.ReadyFile.{ReadyFile}
 use Rattle.bp_receiver.proofs.AgreeLemmas.{those-stay, with_those_of}
 use Rattle.bp_receiver.proofs.CallLemmas.{Staying, step-stays}
 use Rattle.bp_receiver.proofs.StayLemmas.{stays-itself}
-
--- ---- what is found
-
--- what is found is as all are
-found-among : {T : Type 0} (p : T → Bool) (P : T → Type 0) (rows : List T) (x : T)
-    → find p rows ≡ Some x
-    → All P rows
-    → P x
-found-among p P [] x e all = absurd cc
-found-among p P (row ∷ rows) x e all =
-    elim (cases_Bool (p row)) [
-      | inl here ↦ (let same : Some row ≡ Some x = rw here at e in let is : row ≡ x = cc in subst P is (All-head P row rows all))
-      | inr there ↦ found-among p P rows x (rw there at e) (All-tail P row rows all)
-    ]
-
--- a ready file that is found is given
-pub ready-given : (m : Matter) (ready : List ReadyFile) (id path : List ℕ) (file : ReadyFile)
-    → All (IsReady m) ready
-    → find (is_ready_at id path) ready ≡ Some file
-    → IsGiven m id path file.bytes
-ready-given m ready id path file all found =
-    let both = and_parts (bytes_eq file.id id) (bytes_eq file.path path)
-    (find-passes (is_ready_at id path) ready file found) in
-    subst (λ (i : List ℕ). IsGiven m i path file.bytes) (same-text file.id id both.0)
-    (subst (λ (q : List ℕ). IsGiven m file.id q file.bytes) (same-text file.path path both.1)
-    (found-among (is_ready_at id path) (IsReady m) ready file found all))
 
 -- ---- what calls leave
 
@@ -89,15 +59,21 @@ given-stays m n id path bytes (Some f) is stays given =
     ap (file_given n path) still ∙ kept-given m n path bytes f stays given
 
 file-stays : (m n : Matter) → CallStays m n → (file : ReadyFile) → IsReady m file → IsReady n file
-file-stays m n stays file ready =
-    given-stays m n file.id file.path file.bytes (kept_production m.productions file.id) refl stays
-    ready
+file-stays m n stays file ready = record {
+  given =
+      given-stays m n file.id file.path file.bytes (kept_production m.productions file.id) refl
+      stays ready.given;
+  whole = ready.whole;
+}
 
 pub ready-stay : (m n : Matter) (ready : List ReadyFile)
     → CallStays m n
-    → All (IsReady m) ready
-    → All (IsReady n) ready
-ready-stay m n ready stays all = All-weaker (IsReady m) (IsReady n) (file-stays m n stays) ready all
+    → AreReady m ready
+    → AreReady n ready
+ready-stay m n ready stays are = record {
+  each = All-weaker (IsReady m) (IsReady n) (file-stays m n stays) ready are.each;
+  once = are.once;
+}
 
 -- what a step that was made leaves
 made-stays : (m : Matter) (key : List ℕ) (call : Call) (reply : Reply) (n : Matter)

@@ -17,7 +17,8 @@ use Rattle.bp_receiver.specs.Delivered.TextOfNoEvent.{fault, no_memory, no_read,
 use Rattle.bp_receiver.specs.Delivering.{IsReview}
 use Rattle.bp_receiver.specs.EventReplies.{event_text}
 use Rattle.bp_receiver.specs.EventRequests.{EventReads}
-use Rattle.bp_receiver.specs.EventServing.{is_made, text_for}
+use Rattle.bp_receiver.specs.EventServing.{MayCommit, is_made, text_for}
+use Rattle.bp_receiver.specs.EventServing.MayCommit.{at_call, no_call}
 use Rattle.bp_receiver.specs.Events.{Holding, event_of}
 use Rattle.bp_receiver.specs.declared.events.Event.{Event}
 use Rattle.bp_receiver.specs.declared.events.Event.TheVariants as events
@@ -97,6 +98,18 @@ no_fault_at_a_want x key wanted text asks (fault event review asked read t) =
     reads-one x.read (Ok event) (Ok (events.Want key wanted)) asked asks in
     let is : event ≡ events.Want key wanted = cc in
     subst (λ (e : Event). IsReview e) is review
+
+-- at a want the keeper is asked to commit nothing, whatever is answered
+no_commit_at_a_want : (x : Exchange) (key : List ℕ) (wanted : Wanted) (most : ℕ)
+    → AsksFor x (events.Want key wanted)
+    → MayCommit x most
+    → most ≡ 0
+no_commit_at_a_want x key wanted most asks no_call = refl
+no_commit_at_a_want x key wanted most asks (at_call call) =
+    let same : Ok call.event ≡ Ok (events.Want key wanted) =
+    reads-one x.read (Ok call.event) (Ok (events.Want key wanted)) call.asks asks in
+    let is : call.event ≡ events.Want key wanted = cc in
+    absurd (subst (λ (e : Event). IsReview e) is call.review)
 
 -- what was given was made, and a fault was not
 given_is_made : is_made (Ok gives.Granted) ≡ true

@@ -1,5 +1,5 @@
 -- What the desk's calls give, and what they leave of the desk and of its keeper.
-use Rattle.std.specs.Prelude.{◌≡◌, ◌≢◌, ℕ, List, Result, Ok, Err, ⊤}
+use Rattle.std.specs.Prelude.{◌≡◌, ◌≢◌, ℕ, List, Result, Ok, Err, IfSome, IsTrue, is_some, ⊤}
 use Rattle.bp_core.specs.Counts.{risen}
 use Rattle.bp_core.specs.declared.refusals.Refusal.{Refusal}
 use Rattle.bp_core.specs.declared.refusals.Refusal.TheVariants as refusals
@@ -45,12 +45,13 @@ abbrev pub IsReview : Event → Type 0
 IsReview (events.Review key call) = ⊤
 IsReview _ = ⊥
 
--- An event was made, and this given. A keeper that kept the matter keeps the matter after it, and is
--- asked for nothing where the matter stays.
+-- An event was made, and this given. A keeper that kept the matter keeps the matter after it, tells
+-- rows only where it told them before, and is asked for nothing where the matter stays.
 pub record EventMade (h : Holding) (event : Event) (keeper : KeeperView) (given : Given)
     (k : Holding) (keeper' : KeeperView) : Type 0 where
   pub answer : event_of h event ≡ record { given = Ok given; after = k }
   pub kept : KeepsRows keeper h.matter → KeepsRows keeper' k.matter
+  pub told : IfSome keeper'.rows (λ _. IsTrue (is_some keeper.rows))
   pub faults : keeper'.faults ≡ keeper.faults
   pub loads : keeper'.loads ≡ keeper.loads
   pub commits : AtMostOnce keeper.commits keeper'.commits
@@ -72,11 +73,12 @@ pub record KeeperFailed (h : Holding) (event : Event) (keeper : KeeperView) (k :
   pub desk : k ≡ h
   pub stays : Stays h.matter keeper (risen keeper.faults) k.matter keeper'
 
--- memory ran out, and the desk is as it was
-pub record EventLacked (h : Holding) (keeper : KeeperView) (k : Holding) (keeper' : KeeperView)
-    : Type 0 where
+-- memory ran out, and the desk is as it was; the keeper was asked for nothing but at a call
+pub record EventLacked (h : Holding) (event : Event) (keeper : KeeperView) (k : Holding)
+    (keeper' : KeeperView) : Type 0 where
   pub desk : k ≡ h
   pub stays : Stays h.matter keeper keeper.faults k.matter keeper'
+  pub quiet : ¬ (IsReview event) → keeper' ≡ keeper
 
 -- what an event gives
 abbrev pub EventGives : Holding → Event → KeeperView → Result Given MatterRefusal → Holding
@@ -86,7 +88,8 @@ EventGives h event keeper (Err (stops.Rule rule)) k keeper' =
     EventRefused h event keeper rule k keeper'
 EventGives h event keeper (Err stops.KeeperFault) k keeper' =
     KeeperFailed h event keeper k keeper'
-EventGives h event keeper (Err stops.OutOfMemory) k keeper' = EventLacked h keeper k keeper'
+EventGives h event keeper (Err stops.OutOfMemory) k keeper' =
+    EventLacked h event keeper k keeper'
 
 -- ---- each kind of event
 

@@ -2,14 +2,12 @@
 -- are is csv's to say.
 use Rattle.std.specs.Prelude.{ℕ, ◌==◌, List, length, Option, Some, None, Result, if◌then◌else◌}
 use Rattle.std.specs.Str.{chars}
-use Rattle.csv.specs.Reading.{default_config, records, strip_bom}
 use Rattle.bp_core.specs.Digits.{ordinal_in}
-use Rattle.bp_core.specs.InTurn.{read_each}
 use Rattle.bp_core.specs.OptionSteps.{◌>>=◌}
-use Rattle.bp_core.specs.Rules.{rule_at_line}
 use Rattle.bp_core.specs.declared.rules.Rule.{Rule}
 use Rattle.bp_core.specs.declared.rules.RuleKind.TheVariants.{GrantShape}
-use Rattle.bp_text.specs.WordFiles.{characters_of, field_of}
+use Rattle.bp_records.specs.Fields.{characters_of, field_of}
+use Rattle.bp_records.specs.Rows.{rows_in}
 use Rattle.bp_receiver.specs.EventBodies.{staff_no}
 use Rattle.bp_receiver.specs.declared.grant_files.Part.{Part}
 use Rattle.bp_receiver.specs.declared.grant_files.TheConstants.{FIELDS, STAFF, ID}
@@ -26,14 +24,10 @@ grant_in fields = do
 abbrev pub grant_of_record : List (List ℕ) → Option Grant
 grant_of_record fields = if length fields == FIELDS then grant_in fields else None
 
--- the records of a file, without the byte order mark at its head
-abbrev pub records_in : List ℕ → List (List (List ℕ))
-records_in bytes = records default_config (strip_bom bytes)
-
--- what a file says: the grants of its records, or GrantShape with the number of the first record that
--- says none
+-- what a file says: the grants of its records, without the byte order mark at its head, or GrantShape
+-- with the number of the first record that says none
 abbrev pub grants_in : List ℕ → Result (List Grant) Rule
-grants_in bytes = read_each grant_of_record (rule_at_line GrantShape) 1 (records_in bytes)
+grants_in bytes = rows_in grant_of_record GrantShape bytes
 
 -- the grant with its id in memory of its own
 abbrev pub part_seen : Part → Grant

@@ -11,6 +11,7 @@ pub mod GrantFiles
 pub mod Granting
 pub mod Laws
 pub mod Outlines
+pub mod Owed
 pub mod Ready
 pub mod Receiving
 pub mod Twins

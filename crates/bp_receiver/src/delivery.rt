@@ -8,8 +8,8 @@ ghost use Rattle.bp_receiver.specs.Delivering.{GrantGives};
 ghost use Rattle.bp_receiver.specs.Granting.{at_record, grant_each, grant_of, grants_full, is_receiver_row};
 
 use crate::grants::{GRANTS_LIMIT, Grant, MAX_GRANTS};
+use crate::owed::{is_granted, is_receiver};
 use crate::ready::ReadyFile;
-use crate::wants::{is_granted, is_receiver};
 use bp_core::{OutOfMemory, Refusal, Rule, RuleKind, StaffNo, Text};
 use bp_matter::{StaffRow, Tables};
 use std::alloc::Global;
@@ -21,20 +21,20 @@ pub struct Delivery {
     pub(crate) alloc: Global,
     pub(crate) tables: Tables,
     pub(crate) grants: Vec<Grant>,
-    // Files that were made, and are given once more as they are.
+    // Files that were made, and are given once more as they are: of a production at most those that are
+    // made of all its items, each once.
     pub(crate) ready: Vec<ReadyFile>,
 }
 
 impl Model for Delivery {
-    ghost use Rattle.std.specs.Prelude.{All};
     ghost use Rattle.bp_receiver.specs.Events.{Holding};
-    ghost use Rattle.bp_receiver.specs.Ready.{IsReady};
+    ghost use Rattle.bp_receiver.specs.Ready.{AreReady};
 
     ghost Value = { Holding };
 
     ghost view = { λ d. record { matter = d.tables.matter; grants = d.grants.items } };
 
-    ghost invariant = { λ d. All (IsReady d.tables.matter) d.ready.items };
+    ghost invariant = { λ d. AreReady d.tables.matter d.ready.items };
 }
 
 impl Delivery {

@@ -1,18 +1,14 @@
 // Files of grants, a record a grant.
-ghost use Rattle.std.specs.Prelude.{◌≡◌, ◌≤◌, ◌^◌, ◌<◌, [], IfOk, length, option_map};
+ghost use Rattle.std.specs.Prelude.{◌≡◌, ◌≤◌, ◌^◌, ◌<◌, IfOk, length, option_map};
 ghost use Rattle.std.specs.Str.{chars};
-ghost use Rattle.std.specs.Option.{ok_or};
-ghost use Rattle.std.specs.Bool.{MatchBool};
 ghost use Rattle.csv.specs.Records.{fields_of};
 ghost use Rattle.bp_core.specs.Answers.{Answers};
-ghost use Rattle.bp_core.specs.Rules.{rule_at_line};
-ghost use Rattle.bp_text.specs.ReadRecords.{IsBetween, Takes, records_left};
-ghost use Rattle.bp_text.specs.WordFiles.{characters_of, field_of};
 ghost use Rattle.bp_receiver.specs.GrantFiles.{grant_in, grant_of_record, grants_in, part_seen};
 
 use crate::grants::{Grant, GrantList};
-use bp_core::{ListOf, OutOfMemory, Refusal, Rule, RuleKind, StaffNo, Text, ordinal_in};
-use csv::{ByteRecord, Reader, ReaderBuilder};
+use bp_core::{OutOfMemory, Refusal, RuleKind, StaffNo, Text, ordinal_in};
+use bp_records::{Rows, field_at, read_rows, text_in};
+use csv::ByteRecord;
 use std::alloc::Global;
 
 // How many fields a record has, and the place of each, counted from 0.
@@ -31,39 +27,29 @@ pub fn read_grants(alloc: Global, bytes: &[u8]) -> Result<GrantList, Refusal>
     ensures answer { Answers (λ rows. rows) result (grants_in bytes.now) }
     ensures few { IfOk result (λ rows. length rows ≤ length bytes.now) }
 {
-    let mut reader = ReaderBuilder::new()
-        .has_headers(false)
-        .flexible(true)
-        .from_reader(alloc, bytes);
-    let mut record = ByteRecord::new(alloc);
-    let mut rows = Vec::new(alloc);
-    let mut number = 0;
-    while read_record(&mut reader, &mut record)? {
-        number += 1;
-        rows.push(row_in(alloc, &record, number)?)?;
+    read_rows(alloc, &GrantShapes, bytes)
+}
+
+// Grants, by their records.
+struct GrantShapes;
+
+impl Rows<Grant> for GrantShapes {
+    ghost use Rattle.bp_core.specs.declared.rules.RuleKind.TheVariants.{GrantShape};
+    ghost use Rattle.bp_receiver.specs.GrantFiles.{grant_of_record};
+
+    ghost row_of = { grant_of_record };
+
+    ghost broken = { λ _. GrantShape };
+
+    fn row_in(&self, alloc: Global, from: &ByteRecord) -> Result<Option<Grant>, OutOfMemory> {
+        match part_in(from) {
+            Some(part) => Ok(Some(row_from(alloc, &part)?)),
+            None => Ok(None),
+        }
     }
-    Ok(ListOf::from_vec(rows))
-}
 
-// The next record, and whether there was one. Bytes in memory are read without a fault, and records
-// may have any number of fields, so that an error is want of memory.
-fn read_record(reader: &mut Reader<&[u8]>, row: &mut ByteRecord) -> Result<bool, OutOfMemory>
-    requires { IsBetween reader.old }
-    ensures { IfOk result (λ found. MatchBool found
-        (Takes reader.old reader.new (fields_of row.new))
-        (records_left reader.old ≡ [])) }
-{
-    reader.read_byte_record(row).ok().ok_or(OutOfMemory)
-}
-
-// What a record of that number says.
-fn row_in(alloc: Global, row: &ByteRecord, number: u32) -> Result<Grant, Refusal>
-    ensures { Answers (λ row. row) result
-        (ok_or (grant_of_record (fields_of row.now)) (rule_at_line RuleKind.GrantShape number)) }
-{
-    match part_in(row) {
-        Some(part) => Ok(row_from(alloc, &part)?),
-        None => Err(Refusal::Rule(Rule::at_line(RuleKind::GrantShape, number))),
+    fn broken(&self) -> RuleKind {
+        RuleKind::GrantShape
     }
 }
 
@@ -109,20 +95,4 @@ fn fields_in(row: &ByteRecord) -> Option<Part<'_>>
         staff: ordinal_in(field_at(row, STAFF))?,
         id: text_in(field_at(row, ID))?,
     })
-}
-
-fn field_at(row: &ByteRecord, at: usize) -> &[u8]
-    requires { at < length (fields_of row.now) }
-    ensures { result.now ≡ field_of (fields_of row.now) at }
-{
-    row.get(at).unwrap_or(&[])
-}
-
-fn text_in(field: &[u8]) -> Option<&str>
-    ensures { option_map (λ text. chars text.now) result ≡ characters_of field.now }
-{
-    match str::from_utf8(field) {
-        Ok(text) => Some(text),
-        Err(_) => None,
-    }
 }

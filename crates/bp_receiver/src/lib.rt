@@ -18,6 +18,7 @@ mod grant_files;
 mod grants;
 mod handler;
 mod laws;
+mod owed;
 mod ready;
 mod replies;
 mod requests;

@@ -1,9 +1,9 @@
 // Files that were made for a want, and stay ready for the next that asks for them.
-ghost use Rattle.std.specs.Prelude.{◌≡◌, ◌++◌, ◌∷◌, [], All, IfOk, OnErr, OnOk};
+ghost use Rattle.std.specs.Prelude.{◌≡◌, ◌∷◌, None, false, true, ◌↔◌, IfOk, OnErr, OnOk};
 ghost use Rattle.std.specs.List.{find};
 ghost use Rattle.std.specs.Option.{option_copied};
 ghost use Rattle.bp_matter.specs.Matter.{Matter};
-ghost use Rattle.bp_receiver.specs.Ready.{IsGiven, IsReady, is_ready_at};
+ghost use Rattle.bp_receiver.specs.Ready.{AreReady, IsGiven, IsOfOneItem, is_ready_at};
 
 use bp_core::{Bytes, OutOfMemory, Text};
 
@@ -33,22 +33,27 @@ pub(crate) fn copy_of(bytes: &Bytes) -> Result<Bytes, OutOfMemory>
     Ok(bytes.clone()?)
 }
 
-// From now on a file is ready, where there is memory for it. Those of a page or a text are made fast,
-// and many; a manifest or a load file is made of all others.
+// From now on a file that wasn't is ready, where there is memory for it. Those of a page or a text are
+// made fast, and many; a manifest or a load file is made of all others, and a production has four.
 pub(crate) fn keep_ready(ready: &mut Vec<ReadyFile>, id: &Text, path: &Text, bytes: &Bytes)
-    ensures { (m : Matter)
+    requires { find (is_ready_at id.now path.now) ready.old.items ≡ None }
+    ensures ready { (m : Matter)
         → IsGiven m id.now path.now bytes.now
-        → All (IsReady m) ready.old.items
-        → All (IsReady m) ready.new.items }
+        → AreReady m ready.old.items
+        → AreReady m ready.new.items }
+    ensures one { IsOfOneItem path.now → ready.new.items ≡ ready.old.items }
 {
-    if is_of_one_item(path.as_str()) {
+    if is_of_one_item(path) {
         return;
     }
     let _added = add_ready(ready, id, path, bytes);
 }
 
-// Whether a path is one of images or of texts.
-fn is_of_one_item(path: &str) -> bool {
+// Whether a path is one of an image or of a text.
+fn is_of_one_item(path: &Text) -> bool
+    ensures { (result ≡ true) ↔ IsOfOneItem path.now }
+{
+    let path = path.as_str();
     path.contains("/IMAGES/") || path.contains("/TEXT/")
 }
 
@@ -59,16 +64,16 @@ fn add_ready(
     path: &Text,
     bytes: &Bytes,
 ) -> Result<(), OutOfMemory>
-    ensures added { OnOk result (ready.new.items ≡ ready.old.items ++ (record {
+    ensures added { OnOk result (ready.new.items ≡ record {
       id = id.now;
       path = path.now;
       bytes = bytes.now;
-    }) ∷ []) }
+    } ∷ ready.old.items) }
     ensures refused { OnErr result (ready.new.items ≡ ready.old.items) }
 {
     let id = id.clone()?;
     let path = path.clone()?;
     let bytes = copy_of(bytes)?;
-    ready.push(ReadyFile { id, path, bytes })?;
+    ready.insert(0, ReadyFile { id, path, bytes })?;
     Ok(())
 }

@@ -1,4 +1,5 @@
 use Rattle.std.proofs.Common.{refl, ap, ◌∙◌}
+use Rattle.bp_web.proofs.HeadLemmas.{none_begins}
 use Rattle.bp_web.proofs.RequestLemmas.{Found, nothing_more, spans_fit}
 use Rattle.bp_receiver.specs.EventRequests.{wanted_by}
 use Rattle.bp_receiver.proofs.RequestLemmas.{asking-found, own-most, own-nothing, own-there, own-told}
@@ -35,7 +36,7 @@ returns-in-Head c =
 pub returns-in-Open : goal.returns-in-Open
 returns-in-Open c =
     own-nothing c.args.bytes.now c.start_of-start.result.now c.start_of-start.ensures
-    c.in-Open.ensures.found.0
+    (none_begins c.start_of-start.result.now c.in-Open.ensures.found.0)
 
 pub returns-in-Closed : goal.returns-in-Closed
 returns-in-Closed c =

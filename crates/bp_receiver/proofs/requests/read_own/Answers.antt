@@ -1,4 +1,5 @@
 use Rattle.std.proofs.Common.{sym, ap, ◌∙◌}
+use Rattle.bp_web.proofs.HeadLemmas.{none_begins}
 use Rattle.bp_web.proofs.RequestLemmas.{Found, nothing_more, spans_fit}
 use Rattle.bp_receiver.specs.EventRequests.{asked_of}
 use Rattle.bp_receiver.proofs.RequestLemmas.{asking-found, own-asked, own-none, own-refused}
@@ -43,7 +44,7 @@ returns-in-Err c not_memory =
 pub returns-in-Open : goal.returns-in-Open
 returns-in-Open c not_memory =
     own-none c.args.bytes.now c.start_of-start.result.now _ c.start_of-start.ensures
-    c.in-Open.ensures.found.0
+    (none_begins c.start_of-start.result.now c.in-Open.ensures.found.0)
 
 pub returns-in-Closed : goal.returns-in-Closed
 returns-in-Closed c not_memory =

@@ -112,9 +112,6 @@ OUTWARD = re.compile(r"^bp_(?:press|claw|own_volumes|frozen|receiver)/")
 BOTH = {
     ("bp_claw/src/replacing.rt", "add_replacement"): [],
     ("bp_claw/src/replacing.rt", "replace"): [],
-    ("bp_press/src/finding.rt", "file_of"): [],
-    ("bp_press/src/finding.rt", "found_file"): [],
-    ("bp_press/src/pressing.rt", "add_volume"): [],
     ("bp_press/src/pressing.rt", "press"): [],
     ("bp_press/src/strips.rt", "strips_of"): [],
     ("bp_receiver/src/delivery.rt", "over"): [],

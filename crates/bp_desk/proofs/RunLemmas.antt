@@ -1,5 +1,5 @@
 -- Carry what a door was served for its seat to the whole history.
-use Rattle.std.proofs.Common.{◌≡◌, ℕ, ◌+◌, ◌≤◌, eq-eqb, true, List, ◌++◌, length, sym, ap, subst, ◌∙◌, append_assoc, arith, length-append}
+use Rattle.std.proofs.Common.{◌≡◌, ℕ, ◌≤◌, eq-eqb, true, List, ◌++◌, length, sym, ap, subst, ◌∙◌, append_assoc, arith, length-append}
 use Rattle.bp_matter.specs.Matter.{Matter}
 use Rattle.bp_matter.specs.declared.calls.Call.{Call}
 use Rattle.bp_web.specs.declared.requests.Asked.{Asked}

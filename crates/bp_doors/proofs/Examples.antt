@@ -1,7 +1,7 @@
 -- Worked examples of the definitions in specs/, each run by the check: texts sent whole, cut and not,
 -- counts up to their end, and a handler that counts what it makes.
 use Rattle.std.proofs.Common.{◌≡◌, ◌⊎◌, ℕ, ◌+◌, ◌-◌, ◌^◌, ◌<◌, nat_le, Bool, true, false, List, [], ◌∷◌, length, codes, refl, ap, arith, inl, inr, length-append}
-use Rattle.std.specs.Prelude.{Some, None, Ok, Err}
+use Rattle.std.specs.Prelude.{Some, None, Ok}
 use Rattle.std.proofs.lemmas.Bool.Decides.{nat_tests}
 use Rattle.bp_outside.specs.Door.{DoorView}
 use Rattle.bp_outside.specs.Input.{WasNeeded}
@@ -11,7 +11,7 @@ use Rattle.bp_web.specs.declared.refusals.WebRefusal.TheVariants as refusals
 use Rattle.bp_doors.specs.Exchanges.{AnswersBytes, IsRefusalText, Sent, WasCut, WasRead, memory_text, text_of}
 use Rattle.bp_doors.specs.Exchanges.Sent.{cut, whole}
 use Rattle.bp_doors.specs.Exchanges.WasCut.{no_read, no_room}
-use Rattle.bp_doors.specs.Serving.{InTurn, Returned, RoseBy, Serves, ServesDoor, count_if, made_in, raised}
+use Rattle.bp_doors.specs.Serving.{InTurn, RoseBy, ServesDoor, count_if, made_in, raised}
 use Rattle.bp_doors.specs.Serving.InTurn.{next, nobody}
 
 -- ---- an exchange

@@ -3,7 +3,6 @@ use Rattle.std.proofs.Common.{◌≡◌, ℕ, ◌+◌, ◌<◌, ◌≤◌, Bool,
 use Rattle.std.specs.Prelude.{Option, Some, None, Ok, Err}
 use Rattle.std.specs.Option.{option_map}
 use Rattle.std.proofs.lemmas.List.{append-nil}
-use Rattle.bp_core.specs.Counts.{risen}
 use Rattle.bp_outside.proofs.DoorLemmas.{told_added}
 use Rattle.bp_outside.specs.Door.{DoorView, after_accept, after_hang_up, fresh, hung, to_last}
 use Rattle.bp_outside.specs.declared.exchange.Exchange.{Exchange}

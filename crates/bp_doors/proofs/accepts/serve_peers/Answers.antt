@@ -1,5 +1,4 @@
-use Rattle.std.proofs.Common.{◌≡◌, ◌+◌, arith, refl}
-use Rattle.std.specs.Prelude.{None}
+use Rattle.std.proofs.Common.{arith, refl}
 use Rattle.bp_doors.proofs.ServingLemmas.{serves_none, serves_counted, serves_shut}
 use Rattle.bp_doors.proofs.accepts.serve_peers.Goals as goal
 

@@ -1,8 +1,8 @@
 -- Carry doors that were served at the seats of a desk to what serving a matter comes to.
-use Rattle.std.proofs.Common.{◌≡◌, ℕ, zero, suc, ◌+◌, ◌-◌, ◌<◌, ◌≤◌, List, [], ◌∷◌, ◌++◌, length, map, reverse, sum, refl, sym, ap, subst, ◌∙◌, arith, append_assoc}
+use Rattle.std.proofs.Common.{◌≡◌, ℕ, zero, suc, ◌+◌, ◌-◌, ◌<◌, ◌≤◌, List, [], ◌∷◌, ◌++◌, length, map, reverse, refl, sym, ap, subst, ◌∙◌, arith, append_assoc}
 use Rattle.std.specs.Prelude.{All, slice_index_or}
 use Rattle.std.specs.List.{range_with_len}
-use Rattle.std.proofs.lemmas.List.{append-nil, length-append, length-map, length-reverse, map-append, reverse-append}
+use Rattle.std.proofs.lemmas.List.{length-map, map-append, reverse-append}
 use Rattle.std.proofs.lemmas.List.Elements.{All-cons, All-head, All-nil, All-tail}
 use Rattle.std.proofs.lemmas.List.FromFn.{length-map-range_with_len}
 use Rattle.bp_keep.specs.Keeper.{KeeperView}
@@ -15,8 +15,8 @@ use Rattle.bp_desk.specs.Shown.{BookView}
 use Rattle.bp_desk.specs.declared.history.Made.{Made}
 use Rattle.bp_desk.specs.declared.history.TheConstants.{MOST_CALLS}
 use Rattle.bp_seats.specs.Laws.{FaultsRose, SameSeats, start_faults}
-use Rattle.bp_seats.specs.Matters.{ArePaired, AreServed, Pairing, ServeEach, ServesMatter, ServesPosts, post_door, post_seat}
-use Rattle.bp_seats.specs.Seats.{AreSeats, Closes, Desked, IsSeatOf, SeatCloses, SeatView, all_fresh, fresh_with, others}
+use Rattle.bp_seats.specs.Matters.{ArePaired, AreServed, ServeEach, ServesMatter, ServesPosts, post_door, post_seat}
+use Rattle.bp_seats.specs.Seats.{AreSeats, Closes, Desked, IsSeatOf, SeatCloses, SeatView, all_fresh, fresh_with}
 use Rattle.bp_seats.specs.Serving.{ServesAt, own_faults}
 use Rattle.bp_seats.specs.declared.doors.PostOf.{PostOf}
 use Rattle.bp_seats.proofs.LawLemmas.{door_law, faults_law, seats_law}

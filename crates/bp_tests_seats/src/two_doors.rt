@@ -27,6 +27,7 @@ struct MeetingDoor<'a> {
     faults: u64,
     accepts: u64,
     written: Vec<u8>,
+    left: bool,
     begun: &'a AtomicU64,
     other: &'a AtomicU64,
 }
@@ -47,6 +48,7 @@ impl<'a> MeetingDoor<'a> {
             faults: 0,
             accepts: 0,
             written: Vec::new(alloc),
+            left: false,
             begun,
             other,
         }
@@ -108,6 +110,10 @@ impl<'a> Door for MeetingDoor<'a> {
     fn hang_up(&mut self) {
         self.under_way = false;
     }
+
+    fn leave(&mut self) {
+        self.left = true;
+    }
 }
 
 // The lead adds a reviewer, whose key has the SHA-256 that is written by the last digit.
@@ -143,12 +149,13 @@ fn posts_of<'a>(
     Ok(posts)
 }
 
-// Each of two doors was answered, and none failed.
+// Each of two doors was answered and left, and none failed.
 fn look<R: Abort>(rt: &R, posts: &[Post<MemKeeper, MeetingDoor>]) {
     assert_eq!(rt; posts.len(), 2);
     for post in posts {
         assert!(rt; is_well(post.door.written.as_slice()));
         assert_eq!(rt; post.door.faults, 0);
+        assert!(rt; post.door.left);
     }
 }
 

@@ -1,6 +1,6 @@
 use Rattle.std.proofs.Common.{subst, sym}
 use Rattle.bp_desk.specs.Serving.{ServesDoor}
-use Rattle.bp_seats.specs.Seats.{IsSeatOf, SameSeat, SeatView}
+use Rattle.bp_seats.specs.Seats.{SameSeat, SeatView}
 use Rattle.bp_seats.specs.Serving.{history_at}
 use Rattle.bp_seats.proofs.SeatLemmas.{same_not}
 use Rattle.bp_seats.proofs.doors.serve_door.Goals as goal

@@ -1,4 +1,4 @@
-use Rattle.std.proofs.Common.{refl, rules}
+use Rattle.std.proofs.Common.{rules}
 use Rattle.bp_seats.proofs.PostLemmas.{fresh_posts, serve_each}
 use Rattle.bp_seats.proofs.matters.serve_hall.Goals as goal
 

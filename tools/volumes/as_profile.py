@@ -6,10 +6,9 @@ from batch.bitmap import Bitmap
 from batch.load_files import dat_line
 from batch.pictures import write_tiff
 from batch.refused import Refused
-from batch.sources import Source
 
 from . import columns as names
-from . import picture_files
+from . import readers
 from .checks import page_rule
 from .intake import fields_of, pages_of_line, read_text, values_of
 from .vendor import once
@@ -70,7 +69,8 @@ class Volume:
         rule = self.rules[page.file]
         if rule is None and not page.page > 1:
             return [(page.id, self.put(self.path_of(page.id), data))]
-        if rule is not None and rule.number not in WRITTEN_OTHERWISE or not picture_files.kind_of(data[:1024]):
+        full = self.vendor.files.full(page.file)
+        if rule is not None and rule.number not in WRITTEN_OTHERWISE or not readers.kind_or_none(full, page.file):
             return [(page.id, self.put(self.path_of(page.id), data))]
         try:
             return [(id_, self.made(id_, place)) for id_, place in pages_of_line(self.vendor, page, lines, self.reader(page.file))]
@@ -84,10 +84,8 @@ class Volume:
 
     def reader(self, file):
         if file not in self.readers:
-            source = Source(self.vendor.files.full(file), file, file, picture_files.kind_of(self.vendor.head(file)))
-            reader = picture_files.open_file(source, self.options, os.path.join(self.room, str(len(self.readers))))
-            reader.prepare()
-            what = picture_files.changed(reader, self.options)
+            reader = readers.open_file(self.vendor.files.full(file), file, self.options, os.path.join(self.room, str(len(self.readers))))
+            what = readers.changed(reader, self.options)
             if what:
                 self.vendor.changes.say(file, what)
             self.readers[file] = reader

@@ -6,11 +6,12 @@ from dataclasses import dataclass
 from batch.documents import Document
 from batch.limits import LONGEST_COLUMN, MOST_FIELDS
 from batch.load_files import MARK, dat_line, opt_lines, write, write_words
+from batch.pool import in_threads
 from batch.refused import Gathered, Refused
 from batch.sources import Source
 from batch.words import Word, plain
 
-from . import picture_files
+from . import readers as page_readers
 from .letters import decoded
 from .vendor import next_id, once, safe_id
 
@@ -39,10 +40,6 @@ class Taken:
         place = self.places[page - 1]
         return place.reader.picture(place.page)
 
-    def picture_to_read(self, page, picture):
-        place = self.places[page - 1]
-        return place.reader.picture_to_read(place.page, picture)
-
     def own_words(self):
         """Takes the words that the pages' files have, with their boxes."""
         self.words = [place.reader.words[place.page - 1] if place.reader.words else [] for place in self.places]
@@ -64,16 +61,13 @@ def open_readers(vendor, papers, options, room):
     def look(numbered):
         number, file = numbered
         with gathered:
-            source = Source(vendor.files.full(file), file, file, picture_files.kind_of(vendor.head(file)))
-            reader = picture_files.open_file(source, options, os.path.join(room, str(number)))
-            reader.prepare()
-            return reader
+            return page_readers.open_file(vendor.files.full(file), file, options, os.path.join(room, str(number)))
 
-    for file, reader in zip(files, options.in_parallel(options.jobs, look, enumerate(files))):
+    for file, reader in zip(files, in_threads(options.jobs, look, enumerate(files))):
         readers[file] = reader
     gathered.end()
     for file in files:
-        for what in filter(None, [picture_files.changed(readers[file], options), *readers[file].notes()]):
+        for what in filter(None, [page_readers.changed(readers[file], options), *readers[file].notes()]):
             vendor.changes.say(file, what)
     return readers
 

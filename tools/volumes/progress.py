@@ -1,14 +1,14 @@
-"""How far a program is, said at a terminal alone."""
+"""Things on their way through a program, counted at a terminal."""
 import os
 import sys
 
+from batch.progress import Progress
+
 
 def counted(things, count, what):
-    """The same things; at a terminal it is said how many have come, and at the end the line is taken away."""
-    shown = sys.stderr.isatty()
-    for number, thing in enumerate(things, 1):
-        if shown:
-            print(f"\r{os.path.basename(sys.argv[0])}: {what} {number} of {count} ", end="", file=sys.stderr, flush=True)
+    """The same things; at a terminal it is said how many of them have come, and about how long the others take."""
+    progress = Progress(os.path.basename(sys.argv[0]), what, count)
+    for thing in things:
+        progress.count()
         yield thing
-    if shown:
-        print("\r\033[K", end="", file=sys.stderr, flush=True)
+    progress.end()

@@ -13,6 +13,7 @@ from .tables import CONCORDANCE, Table, read_table
 
 TABLES, LISTS = (".dat", ".csv", ".tsv", ".txt"), (".opt", ".lfp", ".log")
 A_HEAD = 65536  # bytes by which a table is known
+FEW = 20  # files of one ending in a folder, of which one may be a load file
 STRANGE = re.compile(r"[^\w .()&+=@#~'!-]")
 
 
@@ -83,7 +84,7 @@ class Vendor:
     def only(self, endings, what, option, is_one, may_lack=False):
         """The one file that is such a load file."""
         for ending in endings:
-            found = [path for path in self.files.paths if path.lower().endswith(ending) and is_one(self.head(path))]
+            found = [path for path in self.of_few(ending) if is_one(self.head(path))]
             if len(found) == 1:
                 return found[0]
             if found:
@@ -92,12 +93,19 @@ class Vendor:
             return None
         raise Refused(self.folder, f"no file is a {what} with a column of the first numbers: name it by {option}, and its columns by --map")
 
+    def of_few(self, ending):
+        """The files of this ending, but those of folders that have many: these are texts."""
+        paths = [path for path in self.files.paths if path.lower().endswith(ending)]
+        counts = Counter(os.path.dirname(path) for path in paths)
+        return [path for path in paths if counts[os.path.dirname(path)] <= FEW]
+
     def head(self, path):
         with open(self.files.full(path), "rb") as file:
             return file.read(A_HEAD)
 
     def is_dat(self, data):
-        return names.BEGDOC in names.map_columns(read_table(data).columns, self.told)
+        columns = read_table(data).columns
+        return len(columns) > 1 and names.BEGDOC in names.map_columns(columns, self.told)
 
     def is_list(self, data):
         read = read_images(data)

@@ -27,9 +27,12 @@ _tivrenan() {
 
 # the programs for offices: options by their --help, forms of volume-as, else files
 _tivrenan_program() {
-    local word=${COMP_WORDS[COMP_CWORD]} words=
+    local word=${COMP_WORDS[COMP_CWORD]} before=${COMP_WORDS[COMP_CWORD - 1]} words=
     COMPREPLY=()
     case $1,$COMP_CWORD,$word in
+        *make-batch,*) case $before in --families) words='none leaf top' ;; --ocr) words='needed all none' ;; esac ;;
+    esac
+    [ -n "$words" ] || case $1,$COMP_CWORD,$word in
         *,-*) words=$("$1" --help 2> /dev/null | grep -o -E -- '--[a-z-]+' | sort -u) ;;
         *volume-as,[12],*) ;;
         *volume-as,*) words='dat csv lfp pdf log' ;;

@@ -235,8 +235,11 @@ words tivrenan help st
 COMP_WORDS=(tivrenan-volume-as VOL_1 OUT p) COMP_CWORD=3
 _tivrenan_program tivrenan-volume-as
 echo "\${COMPREPLY[*]}"
+COMP_WORDS=(tivrenan-make-batch --families l) COMP_CWORD=2
+_tivrenan_program tivrenan-make-batch
+echo "\${COMPREPLY[*]}"
 END
-check 'words are completed' is "$(bash "$room/complete.bash" | tr '\n' ';')" 'init import;VOL_1;plain;statuses;pdf;'
+check 'words are completed' is "$(bash "$room/complete.bash" | tr '\n' ';')" 'init import;VOL_1;plain;statuses;pdf;leaf;'
 commands=$(sed -n "s/^commands='\(.*\)'$/\1/p" "$top/tivrenan")
 check 'all commands are completed' is "$(sed -n "s/^ *1,[*]) words='\(.*\)' ;;/\1/p" "$top/tools/completion.bash")" "$commands help version build"
 rm -r VOL_1

@@ -1,25 +1,22 @@
 // Boxes on the open page: drawn and moved by the mouse or by keys, each with its basis. What is drawn here is a draft until
 // the desk has it; then what the desk tells is drawn.
-import { rectangle, shape } from './paper.js'
+import { boxShapes, draftShapes, wordShapes } from './box_shapes.js'
 import { Changed } from './review.js'
-import { between, cornersOf, moved, opposite, sameRectangle, sized, touches } from './rectangles.js'
+import { between, moved, opposite, sameRectangle, sized, touches } from './rectangles.js'
 
 // A box of fewer pixels a side was a click.
 const LEAST = 4
 // A pointer that goes less far on the screen was a click, and moves nothing.
 const STILL = 4
 const NEW_BOX = { width: 600, height: 60 }
-const MARK = 16 // height of a box's mark on the screen
-
-const strike = ({ left, top, width, height }) =>
-  shape('line', { x1: left, x2: left + width, y1: top + height / 2, y2: top + height / 2, class: 'strike' })
 
 export class Boxes {
   constructor(review, paper, { list, basis, showWords, act }) {
     Object.assign(this, { review, paper, list, basis, showWords, act })
     this.draft = null // { num, page, left, top, width, height, basis, isNew }
     this.drag = null // what the pointer does to the draft
-    review.addEventListener('doc', () => this.refresh())
+    this.isSending = false // what it does is on its way to the desk
+    review.addEventListener('doc', ({ detail }) => this.showAnew(detail))
     review.addEventListener('page', () => this.refresh())
     showWords.addEventListener('change', act(() => this.toggleWords()))
     basis.addEventListener('change', act(() => this.rebase(basis.value)))
@@ -40,6 +37,19 @@ export class Boxes {
     return doc === null ? [] : doc.boxes.filter((box) => box.page === page)
   }
 
+  // The document as it was told anew. A draft that somebody is at stays, under a number that is free.
+  showAnew(doc) {
+    const isDragged = this.drag !== null && this.draft === null
+    const isAt = this.draft?.doc === doc.doc && (this.drag !== null || this.isUnsent())
+    if (this.isSending || !(isDragged || isAt)) {
+      this.refresh()
+      return
+    }
+    if (this.draft?.isNew && doc.boxes.some((box) => box.num === this.draft.num)) this.draft.num = this.freeNumber()
+    this.draw()
+    this.drawList()
+  }
+
   // what the desk told takes the place of a draft
   refresh() {
     this.draft = null
@@ -52,32 +62,10 @@ export class Boxes {
     const shown = this.onPage().filter((box) => box.num !== this.draft?.num)
     const all = this.draft === null ? shown : [...shown, this.draft]
     this.paper.over.replaceChildren(
-      ...this.wordShapes(all),
-      ...shown.flatMap((box) => this.boxShapes(box, 'box')),
-      ...(this.draft === null ? [] : this.draftShapes(this.draft)),
+      ...wordShapes(this.showWords.checked ? this.review.knownWords() ?? [] : [], all),
+      ...shown.flatMap((box) => boxShapes(box, 'box', this.paper.scale)),
+      ...(this.draft === null ? [] : draftShapes(this.draft, this.paper.scale)),
     )
-  }
-
-  // a word that a box touches goes with it, and is struck through
-  wordShapes(boxes) {
-    const words = this.showWords.checked ? this.review.knownWords() : null
-    return (words ?? []).flatMap((word) =>
-      boxes.some((box) => touches(box, word)) ? [rectangle(word, 'word gone'), strike(word)] : [rectangle(word, 'word')])
-  }
-
-  boxShapes(box, kind) {
-    const drawn = rectangle(box, kind)
-    drawn.dataset.num = box.num
-    // the mark stands above the box, so that it covers none of it; at the upper edge of the page inside
-    const isInside = box.top * this.paper.scale < MARK
-    const place = { x: box.left, y: box.top, class: isInside ? 'mark inside' : 'mark' }
-    return [drawn, shape('text', place, `${box.num} ${box.basis}`)]
-  }
-
-  draftShapes(box) {
-    const handles = Object.entries(cornersOf(box)).map(([corner, [cx, cy]]) =>
-      shape('circle', { cx, cy, class: `handle ${corner}`, 'data-corner': corner }))
-    return [...this.boxShapes(box, 'box draft'), ...handles]
   }
 
   drawList() {
@@ -116,7 +104,8 @@ export class Boxes {
   // ---- the draft
 
   edit(box, isNew = false) {
-    this.draft = { ...box, isNew, doc: this.review.doc.doc }
+    const { left, top, width, height } = box
+    this.draft = { ...box, isNew, doc: this.review.doc.doc, from: box.from ?? { left, top, width, height } }
     this.basis.value = box.basis
     this.draw()
   }
@@ -141,12 +130,21 @@ export class Boxes {
     this.draw()
   }
 
+  async send(what, members) {
+    this.isSending = true
+    try {
+      await this.review.edit(what, members)
+    } finally {
+      this.isSending = false
+    }
+  }
+
   async put() {
     const { draft } = this
     if (draft === null) return null
     const { num, page, left, top, width, height, basis } = draft
     try {
-      await this.review.edit('box', { num, page, left, top, width, height, basis })
+      await this.send('box', { num, page, left, top, width, height, basis })
     } catch (why) {
       if (why instanceof Changed) this.keep(draft, why)
       throw why
@@ -163,7 +161,7 @@ export class Boxes {
   }
 
   async drop(num) {
-    await this.review.edit('unbox', { num })
+    await this.send('unbox', { num })
     return `Box ${num} is dropped.`
   }
 
@@ -187,8 +185,7 @@ export class Boxes {
   }
 
   isMoved() {
-    const told = this.onPage().find((box) => box.num === this.draft.num)
-    return told === undefined || !sameRectangle(told, this.draft)
+    return !sameRectangle(this.draft.from, this.draft)
   }
 
   // ---- the pointer
@@ -234,7 +231,7 @@ export class Boxes {
       this.cancel()
       return null
     }
-    if (!this.isMoved()) return `Box ${this.draft.num} is chosen: move it, or press Delete to drop it.`
+    if (!this.draft.isNew && !this.isMoved()) return `Box ${this.draft.num} is chosen: move it, or press Delete to drop it.`
     return this.putOrCancel()
   }
 

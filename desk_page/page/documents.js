@@ -117,7 +117,8 @@ export class Documents {
     const place = this.listing.placeOf(number)
     if (place !== undefined) this.bringIntoSight(place)
     this.redraw(number)
-    this.list.setAttribute('aria-activedescendant', `document_${number}`)
+    if (place === undefined) this.list.removeAttribute('aria-activedescendant')
+    else this.list.setAttribute('aria-activedescendant', `document_${number}`)
     this.askSoon() // what failed before: a desk answers now
   }
 

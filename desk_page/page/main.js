@@ -77,8 +77,9 @@ function build(review, place) {
   return { review, paper, boxes, documents, listing, call, held, second, many, last, place }
 }
 
+// marks aren't kept, so that a list of those that are marked isn't either
 function keepFilter(listing, place) {
-  listing.choose(place.kept.filter ?? 'all')
+  listing.choose(place.kept.filter === 'marked' ? 'all' : place.kept.filter)
   the('filter').value = listing.filter
   the('filter').addEventListener('change', () => place.keep({ filter: listing.filter }))
 }

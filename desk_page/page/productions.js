@@ -49,15 +49,9 @@ export class Productions {
     this.dialog.showModal()
   }
 
-  // a box for each name that is known; without a list names are typed, one a line
+  // a box for each name that is offered, and room for others: a list of names may be another matter's
   showFields(names) {
     if (this.fields.childElementCount > 1) return
-    if (names.length === 0) {
-      const text = document.createElement('textarea')
-      Object.assign(text, { name: 'typed', rows: 3, ariaLabel: 'names of fields, one a line' })
-      this.fields.append(text)
-      return
-    }
     this.fields.append(...names.map((name) => {
       const label = document.createElement('label')
       const box = document.createElement('input')
@@ -65,11 +59,16 @@ export class Productions {
       label.append(box, ` ${name}`)
       return label
     }))
+    const label = document.createElement('label')
+    const text = document.createElement('textarea')
+    Object.assign(text, { name: 'typed', rows: 2 })
+    label.append(names.length === 0 ? 'Names, one a line ' : 'Others, one a line ', text)
+    this.fields.append(label)
   }
 
   chosen() {
-    const typed = this.form.elements.typed?.value.split('\n').map((line) => line.trim()).filter((line) => line !== '')
-    return typed ?? [...this.fields.querySelectorAll(':checked')].map(({ value }) => value)
+    const typed = this.form.elements.typed.value.split('\n').map((line) => line.trim()).filter((line) => line !== '')
+    return [...this.fields.querySelectorAll(':checked')].map(({ value }) => value).concat(typed)
   }
 
   request() {

@@ -12,6 +12,7 @@ export class NotNow extends Error {}
 export class Changed extends NotNow {}
 
 const FRESH = 1000 // milliseconds for which what was told needs no second look
+const TO_READ = 600 // milliseconds in which nobody has read that a document was changed
 
 export class Review extends EventTarget {
   constructor(desk, pages) {
@@ -32,6 +33,7 @@ export class Review extends EventTarget {
     this.unsure = new Set() // the documents with a call that may have been made or not
     this.undoing = null // the confirmed document that is about to be edited
     this.editing = null // the edit that is under way
+    this.changed = null // the document that was found changed last, when, and what was said of it
     this.unsent = () => [] // what a panel holds that wasn't sent
     this.prepare = async () => {} // has a page ready to be painted
   }
@@ -75,12 +77,14 @@ export class Review extends EventTarget {
   // Opens a document at a page. Where another is asked for meanwhile, the last one asked for is opened.
   async open(number, page = 1) {
     if (number === undefined || number < 1 || number > this.count) return
+    await this.afterEdits()
     if (number !== this.doc?.doc) this.warn(number)
     await this.go({ number, page, known: null })
   }
 
   // Opens a document that comes next: where it was fetched ahead it stands at once, and is looked at anew behind.
   async step(number) {
+    if (this.editing !== null) await this.afterEdits()
     if (number === undefined || number === this.doc?.doc) return
     this.warn(number)
     const isAhead = this.pages.known(number, 1) !== undefined
@@ -165,6 +169,7 @@ export class Review extends EventTarget {
   // the screen when it was pressed for, and one after another: where one fails, so do those pressed for meanwhile.
   async edit(what, members, shown = this.doc) {
     if (!this.isShown) throw new NotNow('The document isn’t on the screen yet. Press again.')
+    this.haveItRead(shown)
     const own = this.editAfter(this.editing, what, members, shown)
     this.editing = own
     try {
@@ -186,12 +191,25 @@ export class Review extends EventTarget {
     const before = await this.lookAt(shown.doc)
     if (!isAlike(shown, before)) {
       if (this.doc.doc === shown.doc) this.showAnew(before)
-      throw new Changed(`Nothing was sent: ${changeInWords(shown, before)} Do it again if it is to be.`)
+      const text = `Nothing was sent: ${changeInWords(shown, before)} Do it again if it is to be.`
+      this.changed = { doc: shown.doc, at: performance.now(), text }
+      throw new Changed(text)
     }
     await this.make(shown.doc, what, members)
     const after = await this.lookAfter(shown.doc)
     if (what === 'call') this.tell('called', [{ before, after }])
     return { before, after }
+  }
+
+  // what is pressed right after a change was told isn't pressed because of it
+  haveItRead({ doc }) {
+    const { changed } = this
+    if (changed?.doc === doc && performance.now() - changed.at < TO_READ) throw new Changed(changed.text)
+  }
+
+  // an edit is answered before another document is opened; where it failed, none is
+  async afterEdits() {
+    while (this.editing !== null) await this.editing
   }
 
   async lookAfter(number) {

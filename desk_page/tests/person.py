@@ -93,6 +93,14 @@ class Person(Chromium):
         except RuntimeError as why:
             check(what, False, (why, self.heard(place)[-5:]))
 
+    def tab_to(self, selector, most=120):
+        """Presses Tab until an element that fits has the focus."""
+        for _ in range(most):
+            if self.js(f"document.activeElement.matches({json.dumps(selector)})"):
+                return
+            self.key("Tab")
+        raise RuntimeError(f"Tab never comes to {selector}")
+
     def press(self, keys):
         for key in keys:
             self.key(key)

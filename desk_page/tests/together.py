@@ -8,10 +8,12 @@ system's colours, the names of all controls. Over the program, where it is given
 import json
 import os
 import sys
+import time
 
 from office import ELLIS, LEAD, MARLOW, Office
 from person import Person, canvas_is, check, finish, nameless, scan
 
+READ = 0.8  # seconds after which somebody may have read that a document was changed
 PRODUCE = dict(responsive=True, treatment="Produce", designation="")
 
 
@@ -38,6 +40,8 @@ def try_two_windows(ellis, marlow, office, shots):
                      " return [responsive.value, treatment.value] })()")
     check("and so does its form", form == ["yes", "Withhold-AC"], form)
     marlow.shot(os.path.join(shots, "changed.png"))
+    marlow.says("what is pressed at once isn't taken for an answer", lambda: marlow.key("p"), "Nothing was sent: Document 3")
+    time.sleep(READ)
     marlow.says("pressed again it is done", lambda: marlow.key("p"), "The call stands.")
     check("by the one who pressed", (told(office, 3)["treatment"], told(office, 3)["editor"]) == ("Produce", 3), told(office, 3))
     # each other edit too: Ellis' window still shows the call of Ellis
@@ -45,12 +49,31 @@ def try_two_windows(ellis, marlow, office, shots):
         ("a log entry", lambda: (ellis.js("document.querySelector('#entry').elements.date.value = '2020'"), ellis.click("#entry button"))),
         ("a field", lambda: (ellis.js("document.querySelector('#hold').elements.field.value = 'AUTHOR'"), ellis.click("#hold form, #hold > button"))),
     ):
+        time.sleep(READ)
         office.ask(MARLOW, "POST", "/docs/3/call", dict(PRODUCE, designation=what.upper()))
         before = told(office, 3)
         ellis.says(f"{what} isn't put on a document that was changed", work, "last by staff 3")
         check("nothing was", told(office, 3) == before, told(office, 3))
     ellis.js("for (const id of ['entry', 'hold']) document.getElementById(id).reset()")
+    try_fast_keys(marlow, office)
     try_box_of_two(ellis, marlow, office)
+
+
+def try_fast_keys(marlow, office):
+    """What is pressed while a call is under way: the next call falls with it, and the next document waits for it."""
+    marlow.decide(8, "yp")
+    office.ask(ELLIS, "POST", "/docs/8/call", dict(PRODUCE, designation="ELLIS"))
+    before = told(office, 8)
+    said = len(marlow.heard())
+    marlow.press("yr")
+    marlow.until(f"heard.said.length >= {said + 2}")
+    check("of two calls pressed at once over another's none is sent", told(office, 8) == before and
+          all("last by staff 2" in text for text in marlow.heard()[said:]), (told(office, 8), marlow.heard()[said:]))
+    time.sleep(READ)
+    marlow.does(lambda: marlow.press("r"), "The call stands.")
+    marlow.press("pj")
+    marlow.title(9)
+    check("a call and the next document pressed at once: both come", told(office, 8)["treatment"] == "Produce", told(office, 8))
 
 
 def try_box_of_two(ellis, marlow, office):
@@ -61,6 +84,7 @@ def try_box_of_two(ellis, marlow, office):
     ellis.open(6)
     marlow.says("a box on what was changed isn't put", lambda: marlow.draw(400, 1500, 500, 200), "Enter puts the box.")
     check("the other's box is shown", len(marlow.boxes()) == 1, marlow.boxes())
+    time.sleep(READ)
     marlow.says("Enter puts it, under the next number", lambda: marlow.key("Enter"), "Box 2 stands.")
     check("both stand", [box["num"] for box in told(office, 5)["boxes"]] == [1, 2], told(office, 5)["boxes"])
     ellis.open(5)
@@ -137,12 +161,18 @@ def try_many(marlow, office, shots):
     for number in (7, 9):
         marlow.open(number)
         marlow.does(lambda: marlow.key("m"), "is marked")
+    # by keys alone
     marlow.key("x")
     marlow.until("document.getElementById('many').open")
     check("those marked are offered", marlow.text("of_marked") == "those marked (2)", marlow.text("of_marked"))
-    choose(marlow, responsive="no", treatment="Produce", designation="")
-    press_many(marlow, "Call 2 documents: 7, 9?")
-    press_many(marlow, "2 documents called, 0 refused")
+    marlow.tab_to("[name=responsive]")
+    for key in (" ", "ArrowDown"):
+        marlow.key(key)  # yes, and then no
+    marlow.tab_to("[name=treatment]")
+    marlow.key(" ")
+    marlow.tab_to("[name=designation]")
+    marlow.does(lambda: marlow.key("Enter"), "Call 2 documents: 7, 9?", "many_told")
+    marlow.does(lambda: marlow.key("Enter"), "2 documents called, 0 refused", "many_told")
     marlow.key("Escape")
     marlow.until("!document.getElementById('many').open")
     check("and are called", [told(office, k)["responsive"] for k in (7, 9)] == [False, False] and told(office, 9)["editor"] == 3)
@@ -176,6 +206,8 @@ def try_list(marlow, office, shots):
     marlow.rest()
     marlow.key("f")
     check("F goes to the filter", marlow.js("document.activeElement.id") == "filter")
+    marlow.key("ArrowDown")
+    check("whose arrows choose", marlow.js("document.getElementById('filter').value") == "uncalled", marlow.text("count"))
     marlow.key("Escape")
     choose_filter(marlow, "unresponsive")
     check("the list shows what a filter takes", listed(marlow) == [7, 9] and marlow.text("count") == "2 of 12 documents", (listed(marlow), marlow.text("count")))
@@ -206,7 +238,7 @@ def try_list(marlow, office, shots):
     marlow.says("one that leads nowhere is told", lambda: marlow.js("location.hash = '#99'"), "no document of this matter")
     check("and the address is as it was", marlow.js("location.hash") == "#3/2", marlow.js("location.hash"))
     marlow.click("#leave")
-    marlow.until("document.getElementById('enter')?.checkVisibility() === true")
+    marlow.until("document.readyState === 'complete' && document.getElementById('enter')?.checkVisibility() === true")
     check("Leave forgets the link", marlow.js("location.hash") == "")
     marlow.come(ELLIS)
     check("another person of the tab has a place of their own", marlow.text("title") == "Document 1", marlow.text("title"))
@@ -264,7 +296,7 @@ def try_view(person, shots):
 
 def try_turned_box(person, shots):
     """A box drawn on a page that lies on its side stands where it was drawn: the upper left of the view is the lower left."""
-    person.does(lambda: person.press("yr"), "The call stands.")
+    person.does(lambda: person.key("r"), "The call stands.")
     person.size("page")
     left, top, wide, high = person.js("(() => { const on = document.getElementById('paper').getBoundingClientRect();"
                                       " return [on.left, on.top, on.width, on.height] })()")

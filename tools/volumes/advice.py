@@ -242,8 +242,9 @@ def due(fault):
 
 def printable(text):
     """The text with signs for its control characters, not longer than a person reads."""
-    shown = "".join(chr(0x2400 + ord(c)) if c < " " else "\u2421" if c == "\x7f" else "\ufffd" if is_strange(c) else c for c in text)
-    return shown if len(shown) <= MOST_LETTERS else shown[:MOST_LETTERS] + " .."
+    letters = text[:MOST_LETTERS]
+    shown = "".join(chr(0x2400 + ord(c)) if c < " " else "\u2421" if c == "\x7f" else "\ufffd" if is_strange(c) else c for c in letters)
+    return shown if len(text) <= MOST_LETTERS else f"{shown} .."
 
 
 def is_strange(letter):

@@ -16,6 +16,7 @@ from .tables import read_table
 
 # which file a rule speaks of
 IS_DAT, IS_OPT, IS_MANIFEST, IS_IMAGE, IS_TEXT, IS_LISTED = range(6)
+LONGEST_LINE = 5_000  # bytes of a line that are looked at for what it was meant to be
 SMALL = 4096  # bytes of a page file, as tests have them
 MOST_TOLD = 1000  # of the lines of a load file that aren't of its form
 
@@ -78,8 +79,8 @@ def at_line(rule, line):
 
 
 def shown(line):
-    """A line's text for a person."""
-    return decoded(line)[0] if isinstance(line, bytes) else line
+    """A line's text for a person, who reads no more of it than a load file or a manifest has in one."""
+    return decoded(line[:LONGEST_LINE])[0]
 
 
 class Check:
@@ -384,7 +385,7 @@ def meant_listed(number, line, strict):
     found, last = MEANT.fullmatch(text), MEANT_LAST.fullmatch(text)
     digest, path = (found[1], found[2]) if found else (last[2], last[1]) if last else ("", "")
     path = allowed(path) or ""
-    if strict and not strict[1].endswith("\r"):
+    if strict and (not strict[1].endswith("\r") or len(line) > LONGEST_LINE):
         digest, path = strict
     return Listed(number, digest, path, text, strict[1] if strict else None)
 

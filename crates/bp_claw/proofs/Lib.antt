@@ -1,9 +1,7 @@
 pub mod AgreeLemmas
 mod ClaimLemmas
 mod Examples
-mod FieldLemmas
 mod NoticeLemmas
-mod ReaderLemmas
-mod RecordLemmas
+mod PutLemmas
 mod ReplacedLemmas
 mod StayLemmas

@@ -12,7 +12,7 @@ use Rattle.bp_core.specs.declared.review.Basis.{Basis}
 use Rattle.bp_core.specs.declared.review.Basis.TheVariants.{Ac, Wp}
 use Rattle.bp_core.specs.declared.rules.Rule.{Rule}
 use Rattle.bp_core.specs.declared.rules.RuleKind.TheVariants.{NoticeShape}
-use Rattle.bp_text.specs.WordFiles.{characters_of, field_of}
+use Rattle.bp_records.specs.Fields.{characters_of, field_of}
 use Rattle.bp_matter.specs.Texts.{is_text}
 use Rattle.bp_matter.specs.Treatments.{is_privileged}
 use Rattle.bp_matter.specs.ValidEntries.{entry_fits}

@@ -2,16 +2,15 @@
 -- record a document. What the records of a text are is csv's to say.
 use Rattle.std.specs.Prelude.{ℕ, ◌==◌, List, [], ◌∷◌, codes, length, Option, Some, None, Result, Ok, Err, if◌then◌else◌}
 use Rattle.std.specs.Str.{bytes_eq}
-use Rattle.csv.specs.Reading.{default_config, records, strip_bom}
 use Rattle.bp_core.specs.Digits.{ordinal_in}
-use Rattle.bp_core.specs.InTurn.{read_each}
 use Rattle.bp_core.specs.OptionSteps.{◌>>=◌}
-use Rattle.bp_core.specs.Rules.{bare_rule, rule_at_line}
+use Rattle.bp_core.specs.Rules.{bare_rule}
 use Rattle.bp_core.specs.declared.review.Basis.{Basis}
 use Rattle.bp_core.specs.declared.review.Basis.TheVariants.{Ac, Wp}
 use Rattle.bp_core.specs.declared.rules.Rule.{Rule}
 use Rattle.bp_core.specs.declared.rules.RuleKind.TheVariants.{NoticeEmpty, NoticeShape}
-use Rattle.bp_text.specs.WordFiles.{characters_of, field_of}
+use Rattle.bp_records.specs.Fields.{characters_of, field_of}
+use Rattle.bp_records.specs.Rows.{rows_in}
 use Rattle.bp_matter.specs.Texts.{is_text}
 use Rattle.bp_matter.specs.declared.limits.TheConstants.{MAX_DESCRIPTION, MAX_NAME}
 use Rattle.bp_matter.specs.declared.rows.Entry.{Entry}
@@ -69,8 +68,7 @@ some_claims (claim ∷ claims) = Ok (claim ∷ claims)
 -- with the number of the first record that makes none
 -- by RFC 4180
 abbrev pub claims_of : List ℕ → Result (List Claim) Rule
-claims_of bytes =
-    read_each claim_of (rule_at_line NoticeShape) 1 (records default_config (strip_bom bytes))
+claims_of bytes = rows_in claim_of NoticeShape bytes
 
 -- and where there is none, NoticeEmpty
 -- by RFC 4180

@@ -1,22 +1,18 @@
 // Notices that claim produced documents back, a record a document.
-ghost use Rattle.std.specs.Prelude.{◌≡◌, ◌^◌, ◌<◌, [], IfOk, IsTrue, length, option_map};
+ghost use Rattle.std.specs.Prelude.{◌≡◌, ◌^◌, ◌<◌, IfOk, IsTrue, length};
 ghost use Rattle.std.specs.List.{list_all};
 ghost use Rattle.std.specs.Str.{chars};
-ghost use Rattle.std.specs.Option.{ok_or};
-ghost use Rattle.std.specs.Bool.{MatchBool};
 ghost use Rattle.csv.specs.Records.{fields_of};
 ghost use Rattle.bp_core.specs.Answers.{Answers};
-ghost use Rattle.bp_core.specs.Rules.{rule_at_line};
-ghost use Rattle.bp_text.specs.ReadRecords.{IsBetween, Takes, records_left};
-ghost use Rattle.bp_text.specs.WordFiles.{characters_of, field_of};
 ghost use Rattle.bp_claw.specs.Claims.{claim_fits};
-ghost use Rattle.bp_claw.specs.NoticeFiles.{claim_in, claim_of, claims_of, entry_of, notice_of, privilege_of, text_of, text_within};
+ghost use Rattle.bp_claw.specs.NoticeFiles.{claim_in, claim_of, entry_of, notice_of, privilege_of, text_of, text_within};
 
 use crate::notices::{Claim, Notice};
-use bp_core::{Basis, DocNo, ListOf, OutOfMemory, Refusal, Rule, RuleKind, Text, ordinal_in};
+use bp_core::{Basis, DocNo, OutOfMemory, Refusal, RuleKind, Text, ordinal_in};
 use bp_matter::texts::is_text;
 use bp_matter::{Entry, MAX_DESCRIPTION, MAX_NAME};
-use csv::{ByteRecord, Reader, ReaderBuilder};
+use bp_records::{Rows, field_at, read_rows, text_in};
+use csv::ByteRecord;
 use std::alloc::Global;
 
 // How many fields a record has, and the place of each, counted from 0.
@@ -46,51 +42,30 @@ pub fn read_notice(alloc: Global, bytes: &[u8]) -> Result<Notice, Refusal>
     ensures answer { Answers (λ notice. notice) result (notice_of bytes.now) }
     ensures fits { IfOk result (λ notice. IsTrue (list_all claim_fits notice)) }
 {
-    let claims = read_claims(alloc, bytes)?;
+    let claims = read_rows(alloc, &Claims, bytes)?;
     if claims.is_empty() {
         return Err(Refusal::bare(RuleKind::NoticeEmpty));
     }
     Ok(claims)
 }
 
-// The claims of a notice, if there are any.
-fn read_claims(alloc: Global, bytes: &[u8]) -> Result<Notice, Refusal>
-    requires { length bytes.now < 2 ^ 32 }
-    ensures { Answers (λ claims. claims) result (claims_of bytes.now) }
-{
-    let mut reader = ReaderBuilder::new()
-        .has_headers(false)
-        .flexible(true)
-        .from_reader(alloc, bytes);
-    let mut record = ByteRecord::new(alloc);
-    let mut claims = Vec::new(alloc);
-    let mut number = 0;
-    while read_record(&mut reader, &mut record)? {
-        number += 1;
-        claims.push(claim_at(alloc, &record, number)?)?;
+// Claims, by their records.
+struct Claims;
+
+impl Rows<Claim> for Claims {
+    ghost use Rattle.bp_core.specs.declared.rules.RuleKind.TheVariants.{NoticeShape};
+    ghost use Rattle.bp_claw.specs.NoticeFiles.{claim_of};
+
+    ghost row_of = { claim_of };
+
+    ghost broken = { λ _. NoticeShape };
+
+    fn row_in(&self, alloc: Global, from: &ByteRecord) -> Result<Option<Claim>, OutOfMemory> {
+        claim_from(alloc, from)
     }
-    Ok(ListOf::from_vec(claims))
-}
 
-// The next record, and whether there was one. Bytes in memory are read without a fault, and records
-// may have any number of fields, so that an error is want of memory.
-fn read_record(reader: &mut Reader<&[u8]>, row: &mut ByteRecord) -> Result<bool, OutOfMemory>
-    requires { IsBetween reader.old }
-    ensures { IfOk result (λ found. MatchBool found
-        (Takes reader.old reader.new (fields_of row.new))
-        (records_left reader.old ≡ [])) }
-{
-    reader.read_byte_record(row).ok().ok_or(OutOfMemory)
-}
-
-// What a record of that number claims.
-fn claim_at(alloc: Global, row: &ByteRecord, number: u32) -> Result<Claim, Refusal>
-    ensures { Answers (λ claim. claim) result
-        (ok_or (claim_of (fields_of row.now)) (rule_at_line RuleKind.NoticeShape number)) }
-{
-    match claim_from(alloc, row)? {
-        Some(claim) => Ok(claim),
-        None => Err(Refusal::Rule(Rule::at_line(RuleKind::NoticeShape, number))),
+    fn broken(&self) -> RuleKind {
+        RuleKind::NoticeShape
     }
 }
 
@@ -129,16 +104,16 @@ fn entry_in(alloc: Global, row: &ByteRecord) -> Result<Option<Entry>, OutOfMemor
     requires { length (fields_of row.now) ≡ FIELDS }
     ensures { IfOk result (λ entry. entry ≡ entry_of (fields_of row.now)) }
 {
-    let Some(date) = text_in(alloc, field_at(row, DATE), MAX_NAME)? else {
+    let Some(date) = entry_text(alloc, field_at(row, DATE), MAX_NAME)? else {
         return Ok(None);
     };
-    let Some(author) = text_in(alloc, field_at(row, AUTHOR), MAX_NAME)? else {
+    let Some(author) = entry_text(alloc, field_at(row, AUTHOR), MAX_NAME)? else {
         return Ok(None);
     };
-    let Some(recipients) = text_in(alloc, field_at(row, RECIPIENTS), MAX_NAME)? else {
+    let Some(recipients) = entry_text(alloc, field_at(row, RECIPIENTS), MAX_NAME)? else {
         return Ok(None);
     };
-    let Some(description) = text_in(alloc, field_at(row, DESCRIPTION), MAX_DESCRIPTION)? else {
+    let Some(description) = entry_text(alloc, field_at(row, DESCRIPTION), MAX_DESCRIPTION)? else {
         return Ok(None);
     };
     Ok(Some(Entry {
@@ -147,13 +122,6 @@ fn entry_in(alloc: Global, row: &ByteRecord) -> Result<Option<Entry>, OutOfMemor
         recipients,
         description,
     }))
-}
-
-fn field_at(row: &ByteRecord, at: usize) -> &[u8]
-    requires { at < length (fields_of row.now) }
-    ensures { result.now ≡ field_of (fields_of row.now) at }
-{
-    row.get(at).unwrap_or(&[])
 }
 
 // A privilege by its code.
@@ -170,10 +138,10 @@ fn privilege_of(field: &[u8]) -> Option<Basis>
 }
 
 // The text in a field, where a log entry takes it.
-fn text_in(alloc: Global, field: &[u8], limit: usize) -> Result<Option<Text>, OutOfMemory>
+fn entry_text(alloc: Global, field: &[u8], limit: usize) -> Result<Option<Text>, OutOfMemory>
     ensures { IfOk result (λ text. text ≡ text_of limit field.now) }
 {
-    match characters_in(field) {
+    match text_in(field) {
         Some(text) => text_within(text_from(alloc, text)?, limit),
         None => Ok(None),
     }
@@ -193,13 +161,4 @@ fn text_from(alloc: Global, text: &str) -> Result<Text, OutOfMemory>
     ensures { IfOk result (λ copied. copied ≡ chars text.now) }
 {
     Ok(Text::from_string(String::from_str(alloc, text)?))
-}
-
-fn characters_in(field: &[u8]) -> Option<&str>
-    ensures { option_map (λ text. chars text.now) result ≡ characters_of field.now }
-{
-    match str::from_utf8(field) {
-        Ok(text) => Some(text),
-        Err(_) => None,
-    }
 }

@@ -1,5 +1,5 @@
 // The replacement of a production after a notice, written to a folder.
-ghost use Rattle.std.specs.Prelude.{◌≡◌, IfOk, IsTrue};
+ghost use Rattle.std.specs.Prelude.{◌≡◌, ◌<◌, ◌^◌, ◌∷◌, [], IfOk, IsTrue, length};
 ghost use Rattle.std.specs.List.{list_all};
 ghost use Rattle.std.specs.Result.{IfErr, OnOk};
 ghost use Rattle.bp_matter.specs.Matter.{Matter};
@@ -20,10 +20,9 @@ use crate::refusing::refusal;
 use crate::renewing::replaced;
 use bp_core::Text;
 use bp_matter::{Production, Tables};
-use bp_outside::{Folder, FolderRefusal};
-use bp_press::{Gate, Pressed, add_volume};
+use bp_outside::{FileRow, Folder, FolderRefusal, put_file};
+use bp_press::{Covered, FilesInTurn, Pressed};
 use std::alloc::Global;
-use std::thread::Threads;
 
 // What a refusal of the folder means to the caller.
 fn claw_refusal(refusal: FolderRefusal) -> ClawRefusal
@@ -35,16 +34,53 @@ fn claw_refusal(refusal: FolderRefusal) -> ClawRefusal
     }
 }
 
+// Puts a file.
+#[tactic(auto, using(bp_press::proofs::WritingLemmas::puts_ok, bp_press::proofs::WritingLemmas::puts_cut))]
+fn put_row<F: Folder>(alloc: Global, row: &FileRow, folder: &mut F) -> Result<(), FolderRefusal>
+    ensures files { OnOk result (AddsAll (F.shows folder.old) (row.now ∷ []) (F.shows folder.new)) }
+    ensures cut { IfErr result (λ refusal.
+        LeavesCut (F.shows folder.old) (row.now ∷ []) refusal (F.shows folder.new)) }
+{
+    put_file(alloc, folder, row.path.as_str(), row.bytes.as_slice())
+}
+
+// Puts these files in their order. How many there were, and the digest of the last one.
+fn put_files<F: Folder>(
+    alloc: Global,
+    files: FilesInTurn<'_>,
+    folder: &mut F,
+) -> Result<Pressed, FolderRefusal>
+    requires some { 0 < length files }
+    requires few { length files < 2 ^ 32 }
+    ensures told { IfOk result (λ pressed. pressed ≡ pressed_of files.entry) }
+    ensures files { OnOk result
+        (AddsAll (F.shows folder.old) files.entry (F.shows folder.new)) }
+    ensures cut { IfErr result (λ refusal.
+        LeavesCut (F.shows folder.old) files.entry refusal (F.shows folder.new)) }
+{
+    let mut left = files;
+    let mut pressed = Pressed {
+        files: 0,
+        manifest: [0; 32],
+    };
+    while let Some(file) = left.next(alloc)? {
+        put_row(alloc, &file.row, folder)?;
+        pressed = Pressed {
+            files: pressed.files + 1,
+            manifest: file.digest,
+        };
+    }
+    Ok(pressed)
+}
+
 // Writes the replacement of a production of these tables, which breaks no rule.
-fn add_replacement<R: Threads + Sync, F: Folder, G: Gate + Sync>(
-    rt: &R,
+fn add_replacement<F: Folder>(
     alloc: Global,
     tables: &Tables,
     production: &Production,
     volume: &Text,
     notice: &Notice,
     folder: &mut F,
-    gate: &G,
 ) -> Result<Pressed, FolderRefusal>
     requires kept { Keeps tables.now.matter production.now }
     requires fits { IsTrue (list_all claim_fits notice.now) }
@@ -62,7 +98,9 @@ fn add_replacement<R: Threads + Sync, F: Folder, G: Gate + Sync>(
 {
     tables.know_valid();
     let replacement = replaced(alloc, production, notice, volume)?;
-    add_volume(rt, alloc, tables, &replacement, folder, gate)
+    let shown = Covered::of(tables, &replacement);
+    let files = FilesInTurn::over(alloc, &shown)?;
+    put_files(alloc, files, folder)
 }
 
 /// Writes the replacement of a production of these tables, as a volume of this name: each document
@@ -78,19 +116,16 @@ fn add_replacement<R: Threads + Sync, F: Folder, G: Gate + Sync>(
 /// The files depend on the matter by nothing of the documents that the notice names: every other matter
 /// that keeps the production and agrees on its other items gives the same bytes.
 ///
-/// The images are made as `press` makes them: sixteen at a time, each by a job of its own that enters
-/// the gate. It returns if the threads that it joins do.
+/// Each file is made as it is put, and let go before the next, without threads.
 ///
-///     let pressed = replace(&rt, alloc, &tables, &production, &volume, &notice, &mut folder, &OpenGate)?;
-pub fn replace<R: Threads + Sync, F: Folder, G: Gate + Sync>(
-    rt: &R,
+///     let pressed = replace(alloc, &tables, &production, &volume, &notice, &mut folder)?;
+pub fn replace<F: Folder>(
     alloc: Global,
     tables: &Tables,
     production: &Production,
     volume: &Text,
     notice: &Notice,
     folder: &mut F,
-    gate: &G,
 ) -> Result<Pressed, ClawRefusal>
     requires kept { Keeps tables.now.matter production.now }
     requires fits { IsTrue (list_all claim_fits notice.now) }
@@ -119,7 +154,7 @@ pub fn replace<R: Threads + Sync, F: Folder, G: Gate + Sync>(
     if let Some(rule) = refusal(tables, production, volume, notice) {
         return Err(ClawRefusal::Rule(rule));
     }
-    match add_replacement(rt, alloc, tables, production, volume, notice, folder, gate) {
+    match add_replacement(alloc, tables, production, volume, notice, folder) {
         Ok(pressed) => Ok(pressed),
         Err(refusal) => Err(claw_refusal(refusal)),
     }

@@ -110,6 +110,12 @@ some_listed f m list h = omega (arith, length-list f m list h, length-before f m
 pub few_files : (f : Production) (m : Matter) (list : List VolumeFile) → CanBePressed f m → IsListed f m list (files_before f (placed_items f m)) → length list + 1 < 2 ^ 32
 few_files f m list fit h = omega (arith, fit.files, length-list f m list h, length-before f m)
 
+-- and so can those with the manifest, which is one of them
+pub volume_count : (f : Production) (m : Matter) → CanBePressed f m → (0 < length (volume_of f m)) × (length (volume_of f m) < 2 ^ 32)
+volume_count f m fit =
+    let long : length (volume_of f m) ≡ length (rows_before f m) + 1 = sym (ap length (volume-is f m)) ∙ length-append (rows_before f m) (manifest_row f m ∷ []) in
+    (omega (arith, long), omega (arith, long, fit.files, length-before f m))
+
 pub last_after : (files : List FileRow) (row : FileRow) → last_bytes (files ++ row ∷ []) ≡ row.bytes
 last_after [] row = refl
 last_after (x ∷ []) row = refl

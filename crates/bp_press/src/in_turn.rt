@@ -1,5 +1,5 @@
 // The files of a volume, one after another.
-ghost use Rattle.std.specs.Prelude.{◌≡◌, ◌<◌, ◌++◌, All, IfOk, IfSome, OnErr, OnOk, length, slice_index_or};
+ghost use Rattle.std.specs.Prelude.{◌≡◌, ◌<◌, ◌^◌, ◌++◌, All, IfOk, IfSome, OnErr, OnOk, length, slice_index_or};
 ghost use Rattle.bp_outside.specs.Folder.{file};
 ghost use Rattle.bp_press.specs.Batches.{IsDigested, made_by, made_of};
 ghost use Rattle.bp_press.specs.InTurn.{TakesMade};
@@ -54,8 +54,10 @@ impl<'w> FilesInTurn<'w> {
     /// All files of the volume of the production that is shown, whether tables keep it or not.
     pub fn over(alloc: Global, shown: &'w Covered<'w>) -> Result<FilesInTurn<'w>, OutOfMemory>
         requires { CanBePressed (production_shown shown.now) (matter_behind shown.now) }
-        ensures { IfOk result (λ files.
+        ensures files { IfOk result (λ files.
             files ≡ volume_of (production_shown shown.now) (matter_behind shown.now)) }
+        ensures some { IfOk result (λ files. 0 < length files) }
+        ensures few { IfOk result (λ files. length files < 2 ^ 32) }
     {
         let list = list_files(alloc, shown, shown.production())?;
         Ok(FilesInTurn {

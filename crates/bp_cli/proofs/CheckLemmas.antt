@@ -1,6 +1,6 @@
 -- Lemmas of check: from what the check of the volume answered to the outcome of the command, of
 -- which there is one.
-use Rattle.std.proofs.Common.{ℕ, ◌≡◌, true, List, [], ◌++◌, append_assoc, Option, Some, None, Result, Ok, Err, refl, sym, ap, subst, ◌∙◌, inl, inr}
+use Rattle.std.proofs.Common.{ℕ, ◌≡◌, true, List, [], ◌++◌, append_assoc, Option, Some, None, Result, Ok, Err, refl, sym, ap, subst, ◌∙◌}
 use Rattle.std.proofs.Math.Path.{fun_ext}
 use Rattle.std.specs.Prelude.{IfSome}
 use Rattle.std.specs.Result.{IsErr, IsErrAnd}
@@ -13,7 +13,7 @@ use Rattle.bp_rows.specs.Image.{Image}
 use Rattle.bp_tiff.specs.Read.{TiffAnswers}
 use Rattle.bp_tiff.proofs.OneAnswerLemmas.{OneAnswer}
 use Rattle.bp_check.specs.Check.{Operands, check_of}
-use Rattle.bp_check.specs.Checking.{ChecksAs, LeavesAhead, after_step}
+use Rattle.bp_check.specs.Checking.{ChecksAs, after_step}
 use Rattle.bp_check.specs.Checking as checking
 use Rattle.bp_check.specs.Images.{IsTiff, Judging}
 use Rattle.bp_check.specs.declared.checked.Checked.{Checked}
@@ -25,7 +25,7 @@ use Rattle.bp_cli.specs.declared.stops.Stop.{Stop}
 use Rattle.bp_cli.specs.declared.stops.Stop.TheVariants as stops
 use Rattle.bp_cli.specs.Check.{CheckOutcome, StopsForCheck, check_gives, checked_line}
 use Rattle.bp_cli.specs.Commands.{check, uses_of, IsOutcome, ReadsAndWorks}
-use Rattle.bp_cli.specs.Endings.{Outcome, Ending, Ends, ReadAhead, RuleLeft, absent_ahead, done, failed_ahead, failed_source, none_ahead, overlong_ahead, untouched, world}
+use Rattle.bp_cli.specs.Endings.{Outcome, Ending, Ends, done, untouched, world}
 use Rattle.bp_cli.proofs.BurnLemmas.{unused}
 use Rattle.bp_cli.proofs.KeptLemmas.{by_stop, rows_itself, told_itself}
 
@@ -72,31 +72,6 @@ same_kind source kinds.FileAbsent = refl
 same_kind source kinds.FileTooLong = refl
 same_kind source _ = refl
 
--- one read more was refused, by a rule of this kind
-kind_ahead : (before after : SourceView) (kind : RuleKind) → after ≡ checking.after_kind before kind → ReadAhead before after
-kind_ahead before after kinds.FileAbsent is = absent_ahead is
-kind_ahead before after kinds.FileTooLong is = overlong_ahead is
-kind_ahead before after _ is = none_ahead is
-
--- or for any cause
-step_ahead : (before after : SourceView) (refusal : ImportRefusal) → after ≡ after_step {X = Unit {0}} before (Err refusal) → ReadAhead before after
-step_ahead before after (refusals.Rule rule) is = kind_ahead before after rule.kind is
-step_ahead before after refusals.SourceFault is = failed_ahead is
-step_ahead before after refusals.OutOfMemory is = none_ahead is
-
--- what a check leaves of the source where it met a rule, where it failed, and where memory ran out
-rule_left : (s s' : SourceView) (rule : Rule) → LeavesAhead {X = Checked} s (Err (refusals.Rule rule)) s' → RuleLeft true s rule.kind s'
-rule_left s s' rule (inl is) = inl (is ∙ same_kind s rule.kind)
-rule_left s s' rule (inr ahead) = inr (ahead.0, step_ahead s s' ahead.1.0 ahead.1.1)
-
-fault_left : (s s' : SourceView) → LeavesAhead {X = Checked} s (Err refusals.SourceFault) s' → s' ≡ failed_source s
-fault_left s s' (inl is) = is
-fault_left s s' (inr ahead) = absurd ahead.0
-
-memory_left : (s s' : SourceView) → LeavesAhead {X = Checked} s (Err refusals.OutOfMemory) s' → ReadAhead s s'
-memory_left s s' (inl is) = none_ahead is
-memory_left s s' (inr ahead) = step_ahead s s' ahead.1.0 ahead.1.1
-
 -- ---- what the check of the volume answered
 
 -- what the work of check leaves, with the keeper and the folder that it doesn't use
@@ -132,7 +107,7 @@ checked_ends some asked named s s' checked line same answered stays is = λ keep
 }
 
 -- or it stopped
-stop_ends : SomeAnswer → (asked : Operands) (s s' : SourceView) (refusal : ImportRefusal) → IfSome s.files (λ files. ChecksAs files asked (Err refusal)) → LeavesAhead {X = Checked} s (Err refusal) s' → (stop : Stop) → StopsForCheck refusal stop → CheckEnds asked s (Err stop) s'
+stop_ends : SomeAnswer → (asked : Operands) (s s' : SourceView) (refusal : ImportRefusal) → IfSome s.files (λ files. ChecksAs files asked (Err refusal)) → s' ≡ after_step {X = Checked} s (Err refusal) → (stop : Stop) → StopsForCheck refusal stop → CheckEnds asked s (Err stop) s'
 stop_ends some asked s s' (refusals.Rule rule) answered left stop is =
     subst (λ (x : Stop). CheckEnds asked s (Err x) s') (sym is)
     (λ keeper folder. record {
@@ -143,21 +118,21 @@ stop_ends some asked s s' (refusals.Rule rule) answered left stop is =
         found = told_rule s.files asked (judging some) rule (judging_is some) answered;
         gives = refl;
       };
-      source = rule_left s s' rule left;
+      source = left ∙ same_kind s rule.kind;
       keeper = unused keeper;
       quiet = refl;
       folder = refl;
     })
 stop_ends some asked s s' refusals.SourceFault answered left stop is =
     subst (λ (x : Stop). CheckEnds asked s (Err x) s') (sym is)
-    (λ keeper folder. record { used = refl; source = fault_left s s' left; keeper = unused keeper; folder = refl })
+    (λ keeper folder. record { used = refl; source = left; keeper = unused keeper; folder = refl })
 stop_ends some asked s s' refusals.OutOfMemory answered left stop is =
     subst (λ (x : Stop). CheckEnds asked s (Err x) s') (sym is)
-    (λ keeper folder. untouched (memory_left s s' left) (unused keeper) refl)
+    (λ keeper folder. untouched left (unused keeper) refl)
 
 -- by the result that a `?` hands on
 pub refused_ends : SomeAnswer → (asked named : Operands) (s s' : SourceView) (refusal : ImportRefusal) (r : Ending) → IsErr r → IsErrAnd r (StopsForCheck refusal) → named ≡ asked
-    → IfSome s.files (λ files. ChecksAs files named (Err refusal)) → LeavesAhead {X = Checked} s (Err refusal) s' → CheckEnds asked s r s'
+    → IfSome s.files (λ files. ChecksAs files named (Err refusal)) → s' ≡ after_step {X = Checked} s (Err refusal) → CheckEnds asked s r s'
 refused_ends some asked named s s' refusal r is stop same answered left =
     by_stop (λ e. CheckEnds asked s e s') (StopsForCheck refusal) r is stop
     (stop_ends some asked s s' refusal (subst (λ (o : Operands). IfSome s.files (λ files. ChecksAs files o (Err refusal))) same answered) left)
@@ -167,7 +142,7 @@ pub lacking_ends : (asked : Operands) (s s' : SourceView) (r : Ending) → IsErr
 lacking_ends asked s s' r is stop stays =
     by_stop (λ e. CheckEnds asked s e s') (λ x. x ≡ stops.OutOfMemory) r is stop
     (λ x same. subst (λ (y : Stop). CheckEnds asked s (Err y) s') (sym same)
-    (λ keeper folder. untouched (none_ahead stays) (unused keeper) refl))
+    (λ keeper folder. untouched stays (unused keeper) refl))
 
 -- ---- the keeper that check leaves
 

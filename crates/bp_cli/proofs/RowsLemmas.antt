@@ -33,7 +33,7 @@ use Rattle.bp_cli.proofs.CalmLemmas.{IsCalm, freeze_calm}
 use Rattle.bp_cli.proofs.KeptLemmas.{as_loaded, by_stop, count_left, keeps_matter, kept_matter, kept_rule, load_calls, load_calm, load_left, quiet_calls, read_itself, read_left, read_same, stays_left, step_calls}
 
 abbrev pub rows_used : Bool → Uses
-rows_used commits = record { files = false; rows = true; commits = commits; ahead = false }
+rows_used commits = record { files = false; rows = true; commits = commits }
 
 -- a command whose outcome is this one of the matter, and the source that it doesn't use, where the
 -- rows from before are those that were loaded

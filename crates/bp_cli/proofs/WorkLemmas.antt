@@ -8,7 +8,7 @@ use Rattle.bp_cli.specs.declared.stops.Stop.{Stop}
 use Rattle.bp_cli.specs.declared.stops.Stop.TheVariants as stops
 use Rattle.bp_rules.specs.Steps.{never}
 use Rattle.bp_cli.specs.Commands.{CommandLine, burn, init, import, produce, press, log, check, claw, demo, ReadsAndWorks, ReadsAsOften, Works, uses_by, uses_of}
-use Rattle.bp_cli.specs.Endings.{CallsKeeper, Ending, SourceLeft, Uses, none_ahead, untouched, world}
+use Rattle.bp_cli.specs.Endings.{CallsKeeper, Ending, Uses, untouched, world}
 use Rattle.bp_cli.proofs.BurnLemmas.{unused}
 use Rattle.bp_cli.proofs.KeptLemmas.{by_stop, never_rose, rows_itself, told_itself}
 
@@ -24,14 +24,9 @@ nothing_read command s k f e works = record {
   calls = uncalled (uses_by command) k;
 }
 
--- a source that wasn't read is left as it was
-pub left_itself : (ahead : Bool) (source : SourceView) → SourceLeft ahead source source
-left_itself false source = refl
-left_itself true source = none_ahead refl
-
 lacked_works : (command : Option CommandLine) (s : SourceView) (k : KeeperView) (f : FolderView) → Works command (world s k f) (Err stops.OutOfMemory) (world s k f)
 lacked_works None s k f = record { stop = inr refl; same = refl }
-lacked_works (Some c) s k f = untouched (left_itself (uses_of c).ahead s) (unused k) refl
+lacked_works (Some c) s k f = untouched refl (unused k) refl
 
 -- memory to read the words lacked
 pub words_lacked : (command : Option CommandLine) (s : SourceView) (k : KeeperView) (f : FolderView) (e : Ending) → IsErr e → IsErrAnd e (λ x. x ≡ stops.OutOfMemory) → ReadsAndWorks command (world s k f) e (world s k f)

@@ -71,21 +71,21 @@ named_command (name ∷ operands) =
 abbrev pub command_of : List (List ℕ) → Option CommandLine
 command_of words = if list_any is_bad_word words then None else named_command words
 
--- which inputs a command uses, whether it may commit rows, and whether it may read ahead
+-- which inputs a command uses, and whether it may commit rows
 abbrev pub uses_of : CommandLine → Uses
-uses_of (burn b) = record { files = true; rows = false; commits = false; ahead = false }
-uses_of (init digest) = record { files = false; rows = true; commits = true; ahead = false }
-uses_of (import name) = record { files = true; rows = true; commits = true; ahead = false }
-uses_of (produce q) = record { files = false; rows = true; commits = true; ahead = false }
-uses_of (press id) = record { files = false; rows = true; commits = false; ahead = false }
-uses_of (log id) = record { files = false; rows = true; commits = false; ahead = false }
-uses_of (check asked) = record { files = true; rows = false; commits = false; ahead = true }
-uses_of (claw asked) = record { files = true; rows = true; commits = false; ahead = false }
-uses_of (demo asked) = record { files = false; rows = true; commits = true; ahead = false }
+uses_of (burn b) = record { files = true; rows = false; commits = false }
+uses_of (init digest) = record { files = false; rows = true; commits = true }
+uses_of (import name) = record { files = true; rows = true; commits = true }
+uses_of (produce q) = record { files = false; rows = true; commits = true }
+uses_of (press id) = record { files = false; rows = true; commits = false }
+uses_of (log id) = record { files = false; rows = true; commits = false }
+uses_of (check asked) = record { files = true; rows = false; commits = false }
+uses_of (claw asked) = record { files = true; rows = true; commits = false }
+uses_of (demo asked) = record { files = false; rows = true; commits = true }
 
 -- what the command uses, if the words are one
 abbrev pub uses_by : Option CommandLine → Uses
-uses_by None = record { files = false; rows = false; commits = false; ahead = false }
+uses_by None = record { files = false; rows = false; commits = false }
 uses_by (Some c) = uses_of c
 
 -- `burn` and `claw` read from the source once at most; those that use no files, and a line that names

@@ -15,7 +15,6 @@ use Rattle.bp_import.specs.Importing.{after_kind}
 use Rattle.bp_keep.specs.Keeper.{KeeperView, SameRows}
 use Rattle.bp_rules.specs.Steps.{AtMostOnce}
 use Rattle.bp_press.specs.Writing.{AddsPart, with_files}
-use Rattle.bp_tiff.specs.PageRules.{IsPageRule}
 use Rattle.bp_cli.specs.declared.stops.Stop.{Stop}
 use Rattle.bp_cli.specs.declared.stops.Stop.TheVariants as stops
 use Rattle.bp_cli.specs.declared.statuses.TheConstants.{DONE, WORDS_REFUSED, RULE_BROKEN}
@@ -86,13 +85,12 @@ pub record RowsRead (before read after : Option (List Row)) : Type 0 where
 abbrev pub with_rows : Option (List Row) → World → World
 with_rows read w = record w { keeper = record w.keeper { rows = read } }
 
--- which inputs a command uses: the files of the source, and the rows of the keeper; whether it may
--- commit rows, and whether it may read files before their turn
+-- which inputs a command uses: the files of the source, and the rows of the keeper; and whether it may
+-- commit rows
 pub record Uses : Type 0 where
   pub files : Bool
   pub rows : Bool
   pub commits : Bool
-  pub ahead : Bool
 
 -- a count rose once at most, or not at all
 abbrev pub RisesIf : Bool → ℕ → ℕ → Type 0
@@ -111,31 +109,6 @@ failed_source source = record source { faults = risen source.faults }
 -- the folder after a fault
 abbrev pub failed_folder : FolderView → FolderView
 failed_folder folder = record folder { faults = risen folder.faults }
-
--- a file was read before its turn, and that read refused, or none was
-pub data ReadAhead (before after : SourceView) : Type 0 where
-  none_ahead : after ≡ before → ReadAhead before after
-  absent_ahead : after ≡ record before { absences = risen before.absences }
-      → ReadAhead before after
-  overlong_ahead : after ≡ record before { overlong = risen before.overlong }
-      → ReadAhead before after
-  failed_ahead : after ≡ failed_source before → ReadAhead before after
-
--- where memory ran out, the source is as it was, unless a file may have been read before its turn
-abbrev pub SourceLeft : Bool → SourceView → SourceView → Type 0
-SourceLeft false before after = after ≡ before
-SourceLeft true before after = ReadAhead before after
-
--- a rule that the bytes of a file break: of page files, or that its digest is another
-abbrev pub IsFound : RuleKind → Type 0
-IsFound kind = IsPageRule kind ⊎ (kind ≡ kinds.DigestDiffers)
-
--- where a rule was met, the count rose that the rule comes from; and where the bytes of a file broke
--- it, another may have been read before its turn
-abbrev pub RuleLeft : Bool → SourceView → RuleKind → SourceView → Type 0
-RuleLeft false before kind after = after ≡ after_kind before kind
-RuleLeft true before kind after =
-    (after ≡ after_kind before kind) ⊎ (IsFound kind × ReadAhead before after)
 
 -- where rows are told afterwards, they are these; or, of no rows, those from before
 abbrev pub RowsLeft : Option (List Row) → Option (List Row) → Option (List Row) → Type 0
@@ -166,7 +139,7 @@ pub record AddsFiles (Comes : Outcome → Type 0) (before : World) (line : List 
 pub record MeetsRule (uses : Uses) (Comes : Outcome → Type 0) (before : World) (rule : Rule)
     (after : World) : Type 0 where
   pub outcome : Comes (refused rule)
-  pub source : RuleLeft uses.ahead before.source rule.kind after.source
+  pub source : after.source ≡ after_kind before.source rule.kind
   pub keeper : KeeperLeft None before.keeper.faults before.keeper after.keeper
   pub quiet : after.keeper.commits ≡ before.keeper.commits
   pub folder : after.folder ≡ before.folder
@@ -198,7 +171,7 @@ pub record FailsToAdd (Comes : Outcome → Type 0) (before after : World) : Type
 -- memory ran out before rows were kept and a file was begun; or between the two; or while files
 -- were added; or for the line, when all stood
 pub data LacksMemory (uses : Uses) (Comes : Outcome → Type 0) (before after : World) : Type 0 where
-  untouched : SourceLeft uses.ahead before.source after.source
+  untouched : after.source ≡ before.source
       → KeeperLeft None before.keeper.faults before.keeper after.keeper
       → after.folder ≡ before.folder
       → LacksMemory uses Comes before after

@@ -17,7 +17,6 @@ use bp_outside::Source;
 use bp_tiff::one_answer;
 use std::alloc::Global;
 use std::convert::From;
-use std::thread::Threads;
 
 /// Check the volume whose load files stand at two paths, and the files that its manifest lists where
 /// one is named.
@@ -78,9 +77,8 @@ impl From<ImportRefusal> for Stop {
 }
 
 /// Checks a volume of the source. The line that tells how many documents, images and listed files it
-/// has. It returns if the threads do that it starts.
-pub fn check_files<R: Threads + Sync, S: Source>(
-    rt: &R,
+/// has.
+pub fn check_files<S: Source>(
     alloc: Global,
     asked: &Check<'_>,
     source: &mut S,
@@ -94,7 +92,7 @@ pub fn check_files<R: Threads + Sync, S: Source>(
     one_answer();
     let texts = texts_of(alloc, asked)?;
     let manifest = texts.manifest.as_ref();
-    let checked = check_volume(rt, alloc, source, &texts.dat, &texts.opt, manifest)?;
+    let checked = check_volume(alloc, source, &texts.dat, &texts.opt, manifest)?;
     Ok(line_of_counts(alloc, checked)?)
 }
 

@@ -25,11 +25,10 @@ use bp_freeze::found_is_kept;
 use bp_keep::Keeper;
 use bp_matter::{Production, Tables};
 use bp_outside::{Folder, Source};
-use bp_press::{OpenGate, Pressed};
+use bp_press::Pressed;
 use bp_rules::load_tables;
 use std::alloc::Global;
 use std::convert::From;
-use std::thread::Threads;
 
 /// How many operands claw has.
 pub const CLAW_WORDS: usize = 3;
@@ -77,8 +76,7 @@ impl From<ClawRefusal> for Stop {
 
 /// Puts the replacement of a kept production after a notice, which is a file of the source. The line
 /// that tells its labels, how many files it has, and the digest of its manifest.
-pub fn claw_volume<R: Threads + Sync, S: Source, K: Keeper, F: Folder>(
-    rt: &R,
+pub fn claw_volume<S: Source, K: Keeper, F: Folder>(
     alloc: Global,
     asked: &ClawLine<'_>,
     source: &mut S,
@@ -99,7 +97,6 @@ pub fn claw_volume<R: Threads + Sync, S: Source, K: Keeper, F: Folder>(
     match tables.production(&id) {
         None => Err(Stop::Broken(Rule::bare(RuleKind::NoProduction))),
         Some(production) => replace_after(
-            rt,
             alloc,
             &tables,
             production,
@@ -124,8 +121,7 @@ fn file_named<S: Source>(alloc: Global, named: &str, source: &mut S) -> Result<B
 }
 
 // Puts the replacement after the notice that these bytes hold.
-fn replace_after<R: Threads + Sync, F: Folder>(
-    rt: &R,
+fn replace_after<F: Folder>(
     alloc: Global,
     tables: &Tables,
     production: &Production,
@@ -140,13 +136,12 @@ fn replace_after<R: Threads + Sync, F: Folder>(
 {
     let notice = read_notice(alloc, file)?;
     let volume = text_of(alloc, volume)?;
-    put_replacement(rt, alloc, tables, production, &volume, &notice, folder)
+    put_replacement(alloc, tables, production, &volume, &notice, folder)
 }
 
 #[tactic(auto, using(crate::proofs::LabelLemmas::kept_labels))]
 // Puts the replacement after a notice. The line that is printed of it.
-fn put_replacement<R: Threads + Sync, F: Folder>(
-    rt: &R,
+fn put_replacement<F: Folder>(
     alloc: Global,
     tables: &Tables,
     production: &Production,
@@ -160,9 +155,7 @@ fn put_replacement<R: Threads + Sync, F: Folder>(
         (F.shows folder.old) result (F.shows folder.new) }
 {
     tables.know_valid();
-    let pressed = replace(
-        rt, alloc, tables, production, volume, notice, folder, &OpenGate,
-    )?;
+    let pressed = replace(alloc, tables, production, volume, notice, folder)?;
     Ok(replacement_line(alloc, volume, production, pressed)?)
 }
 

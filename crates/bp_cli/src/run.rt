@@ -315,8 +315,8 @@ fn work<R: Threads + Sync, S: Source, K: Keeper, F: Folder>(
         Some(Command::Produce(request)) => produce_volume(rt, alloc, request, keeper, folder),
         Some(Command::Press(id)) => press_kept(rt, alloc, id, keeper, folder),
         Some(Command::Log(id)) => log_kept(alloc, id, keeper),
-        Some(Command::Check(asked)) => check_files(rt, alloc, &asked, source),
-        Some(Command::Claw(asked)) => claw_volume(rt, alloc, &asked, source, keeper, folder),
+        Some(Command::Check(asked)) => check_files(alloc, &asked, source),
+        Some(Command::Claw(asked)) => claw_volume(alloc, &asked, source, keeper, folder),
         Some(Command::Demo(asked)) => demo_volume(rt, alloc, asked, keeper, folder),
     }
 }

@@ -24,7 +24,6 @@ MADE = {
     ("bp_matter/src/kept_page.rt", "hold"): "Arc's own error",
     ("bp_matter/src/kept_page.rt", "share"): "Arc's count of holders is full",
     ("bp_outside/src/memory/door.rt", "read"): "the call's own want, noted in the exchange",
-    ("bp_claw/src/notice_files.rt", "read_record"): "csv's reader answers an error, which in memory is want of memory",
     ("bp_outside/src/memory/door.rt", "write"): "the call's own want, noted in the exchange",
     ("bp_rules/src/histories.rt", "answer_next"): "room for an answer was refused",
     ("bp_rules/src/steps.rt", "make"): "room for a change was refused",

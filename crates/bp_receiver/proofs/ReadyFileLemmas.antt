@@ -1,6 +1,6 @@
 -- Files that are ready: found by id and path, and with one more.
 use Rattle.std.proofs.Common.{◌≡◌, ℕ, Bool, true, false, ◌↔◌, List, [], ◌∷◌, Some, None, sym, subst, ◌∙◌, inl, inr}
-use Rattle.std.specs.Prelude.{All, codes, encode_utf8_all}
+use Rattle.std.specs.Prelude.{All, OnErr, OnOk, Result, Ok, Err, codes, encode_utf8_all}
 use Rattle.std.specs.List.{find}
 use Rattle.std.specs.Str.{bytes_eq}
 use Rattle.std.specs.Str.Iter.{HasSubslice}
@@ -95,3 +95,20 @@ one-text path bytes has other same image text not = (
     | inr t ↦ text.1 (subst (λ (bs : List ℕ). HasSubslice bs texts) (sym same) t)
   ],
 )
+
+-- the same where there may have been no memory for it
+pub ready-added : {T E : Type 0} (m : Matter) (before after : List ReadyFile) (file : ReadyFile)
+    (has : Bool) (made : Result T E)
+    → OnOk made (after ≡ file ∷ before)
+    → OnErr made (after ≡ before)
+    → ((has ≡ true) ↔ IsOfOneItem file.path)
+    → has ≡ false
+    → find (is_ready_at file.id file.path) before ≡ None
+    → IsGiven m file.id file.path file.bytes
+    → AreReady m before
+    → AreReady m after
+ready-added m before after file has (Ok done) added left one not none given are =
+    subst (AreReady m) (sym added)
+    (ready-more m before file given (λ is. false≢true (sym not ∙ one.1 is)) none are)
+ready-added m before after file has (Err why) added left one not none given are =
+    subst (AreReady m) (sym left) are

@@ -174,9 +174,9 @@ class Habits(Case):
         told = self.report(volume.words(), 1)
         self.assertIn("tivrenan check: refused 51 DatEncoding 0 0 0\n", told)
         for why in ("The DAT is UTF-16", "Digests stand in capitals", "BEGDOC and ENDDOC have other names", "A path has a drive",
-                    "A path has other capitals than the file", "A file that the manifest lists isn't there", "A file has another digest"):
+                    "A path has other capitals than the file", "compressed in another way than Group 4", "A file that the manifest lists isn't there", "A file has another digest"):
             self.assertIn(why, told)
-        self.assertIn("due:   BegBates for BEGDOC", told)
+        self.assertIn("due:   BEGDOC in place of BegBates", told)
 
     def test_lists_in_utf_16(self):
         """An OPT and a manifest as PowerShell writes them."""

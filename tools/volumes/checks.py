@@ -110,6 +110,19 @@ class Check:
         except Unreadable:
             return None, Fault(None, *place, found=path)
 
+    def meant(self, told, which, place, number):
+        """The path that a load file tells, its bytes, and the fault of one of these; behind it path and bytes of the file that is meant."""
+        path, data, fault = allowed(told), None, None
+        if path is None:
+            fault = Fault(Rule(63, line=number), *place, path_kind(told), found=told)
+            path = self.find(told)
+        else:
+            data, fault = self.taken(path, which, place, number)
+            path = fault and fault.due or path
+        if fault and path and data is None and path != allowed(told):
+            data, _ = self.taken(path, which, place, number)
+        return path, data, fault
+
     # ---- what is read
 
     def operands(self):
@@ -216,10 +229,10 @@ class Check:
         found = names.map_columns(columns)
         if columns and ("BEGDOC" not in columns or "ENDDOC" not in columns or len(set(columns)) < len(columns)):
             twice = sorted({column for column in columns if columns.count(column) > 1})
-            meant = [f"{columns[found[name]]} for {name}" for name in ("BEGDOC", "ENDDOC") if name in found and name not in columns]
             missing = [name for name in ("BEGDOC", "ENDDOC") if name not in columns]
-            kind = "twice" if not missing else "other names" if len(meant) == len(missing) else ""
-            yield Fault(Rule(110), self.paths[0], ", ".join(columns), kind, "; ".join(meant), ", ".join(twice if not missing else missing))
+            due = [f"{name} in place of {columns[found[name]]}" if name in found else name for name in missing]
+            kind = "twice" if not missing else "other names" if all(name in found for name in missing) else ""
+            yield Fault(Rule(110), self.paths[0], ", ".join(columns), kind, "; ".join(due), ", ".join(twice))
         for name in ("BEGDOC", "ENDDOC", "PAGECOUNT", "TEXTPATH"):
             if name not in columns and name in found:
                 for _, values, _ in self.volume.rows:
@@ -298,17 +311,12 @@ class Check:
     def images(self):
         self.named = [(self.paths[0], "the DAT"), (self.paths[1], "the OPT")]
         for number, _, _, told, *_, text in self.volume.lines:
-            path = allowed(told)
+            path, data, fault = self.meant(told, IS_IMAGE, (self.paths[1], text), number)
             self.named.append((path, "the image"))
-            if path is None:
-                yield Fault(Rule(63, line=number), self.paths[1], text, path_kind(told), found=told)
-                continue
-            data, fault = self.taken(path, IS_IMAGE, (self.paths[1], text), number)
-            self.named[-1] = (fault and fault.due or path, "the image")
-            rule = None if fault else self.page_rule_of(path, data)
             if fault:
                 yield fault
-            elif rule:
+            rule = self.page_rule_of(path, data) if data is not None else None
+            if rule:
                 yield Fault(rule.at(number), self.paths[1], text, kind_of_file(data), found=path)
 
     def texts(self):
@@ -316,13 +324,8 @@ class Check:
             told = values.get("TEXTPATH")
             if not told:
                 continue
-            path = allowed(told)
+            path, _, fault = self.meant(told, IS_TEXT, (self.paths[0], text), number)
             self.named.append((path, "the text"))
-            if path is None:
-                yield Fault(Rule(63, line=number), self.paths[0], text, path_kind(told), found=told)
-                continue
-            _, fault = self.taken(path, IS_TEXT, (self.paths[0], text), number)
-            self.named[-1] = (fault and fault.due or path, "the text")
             if fault:
                 yield fault
 

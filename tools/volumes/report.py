@@ -98,10 +98,11 @@ def page_of(report, when):
 
 def fault_part(number, group):
     what, mend = advice.said(group[0])
+    told = rows_of(group)
+    columns = [at for at in range(4) if at == 0 or any(row[at] for row in told)]
     titles = ("Where", "What stands there", "Found", "Due")
-    head = "".join(f"<th>{title}</th>" for title in titles)
-    rows = "\n".join("<tr>" + "".join(f"<td{' class=line' if at == 1 else ''}>{escape(value)}</td>" for at, value in enumerate(row)) + "</tr>"
-                     for row in rows_of(group))
+    head = "".join(f"<th>{titles[at]}</th>" for at in columns)
+    rows = "\n".join("<tr>" + "".join(f"<td{' class=line' if at == 1 else ''}>{escape(row[at])}</td>" for at in columns) + "</tr>" for row in told)
     return (f"<h2>{number}. {escape(what[0].upper() + what[1:])}</h2>\n"
             f"<p class=note>{escape(advice.name_of(group[0]))}: {some(len(group), 'time')}</p>\n<p class=mend>{escape(mend)}</p>\n"
             f"<table>\n<tr>{head}</tr>\n{rows}\n</table>\n{escape(more_of(group))}")

@@ -151,6 +151,7 @@ check_habit ': its paths begin in another folder' list.txt
 # of words, where there is a matter
 mkdir LET_001
 cp "$here/out/office/matter.db" .
+habit 'Nothing was written.' import LET_001/
 habit 'the name has no / at its end, which a shell puts there: tivrenan import LET_001' import LET_001/
 habit 'go to the folder that it lies in, or move it here' import scans/LET_001
 for each in 'PREFIX is abc, with small letters: ABC#29#R-9 VOL009 abc 8 1 2' 'PREFIX is AB1, with a digit at its end#29#R-9 VOL009 AB1 8 1 2' \

@@ -19,6 +19,8 @@ STEEPEST = 5  # of 255, a cell
 INK, TONE = 0.3, 0.8  # of the paper's brightness
 CONTRAST, DARKEST, BRIGHTEST = 0.8, 0.5, 0.75  # the threshold: of the mean; no less and no more of the paper
 LEAST_THRESHOLD = 40  # of 255: a page that is black all over
+STEP = 8  # of 255, between thresholds, so that most cells have their neighbour's
+EACH_ROW = 2  # every other row of a cell is looked at
 LEAST_PAPER, PAPER = 200, 0.9  # of 255: what is paper at all; of that, what is white beside a picture
 FEWEST_CELLS = 6  # of a picture
 MOST_OF_A_PAGE = 0.5  # toned cells
@@ -39,7 +41,7 @@ class Cells:
         self.spans = [(left, min(left + self.cell, self.width)) for left in range(0, self.width, self.cell)]
         self.means, self.brights = [], []
         for top in range(0, self.height, self.cell):
-            self.look(range(top, min(top + self.cell, self.height)))
+            self.look(range(top, min(top + self.cell, self.height), EACH_ROW))
 
     def row(self, at):
         start = self.start + at * self.width
@@ -93,7 +95,7 @@ def thresholds_of(cells, paper):
     found = []
     for means, bright in zip(around(cells.means), paper):
         row = [min(max(CONTRAST * mean, DARKEST * white), BRIGHTEST * white) for mean, white in zip(means, bright)]
-        found.append([int(max(LEAST_THRESHOLD, each)) for each in row])
+        found.append([round(max(LEAST_THRESHOLD, each) / STEP) * STEP for each in row])
     return found
 
 

@@ -53,14 +53,16 @@ export class Many {
     this.family.textContent = `the family of document ${doc.doc}`
     this.stop.disabled = true
     this.dialog.showModal()
-    const members = await this.familyOf(doc)
+    const members = await this.familyOf(doc, () => this.dialog.open)
+    if (members.length >= 25) this.told.textContent = ''
     this.family.textContent = `the family of document ${doc.doc} (${counted(members)})`
   }
 
   // the numbers of a family, which stand one after another
-  async familyOf(doc) {
+  async familyOf(doc, goesOn = () => true) {
     const found = []
-    for (let number = doc.parent; number <= this.review.count; number += 1) {
+    for (let number = doc.parent; number <= this.review.count && goesOn(); number += 1) {
+      if (found.length > 0 && found.length % 25 === 0) this.told.textContent = `The family has ${counted(found)} and more.`
       const member = this.review.rows.get(number) ?? (await this.review.lookAt(number, true))
       if (member.parent !== doc.parent) break
       found.push(number)

@@ -17,6 +17,7 @@ PAGES = 1200
 
 MEASURE = """(() => {
   window.times = []
+  window.stood = []
   let start = null
   const title = document.getElementById('title'), ink = document.getElementById('ink')
   addEventListener('keydown', (event) => { start = event.timeStamp }, true)
@@ -24,6 +25,7 @@ MEASURE = """(() => {
     if (start === null || ink.dataset.state !== 'whole') return
     const from = start
     start = null
+    stood.push(performance.now() - from)
     requestAnimationFrame(() => {
       const frame = new MessageChannel()
       frame.port1.onmessage = () => times.push(performance.now() - from)
@@ -70,9 +72,11 @@ def try_next(person):
         person.key("j")
         person.until(f"times.length === {count + 1}")
         time.sleep(PAUSE)
-    times = sorted(person.js("times"))
-    middle, late = times[len(times) // 2], times[int(len(times) * 0.95)]
-    print(f"the next document: {middle:.0f} ms in the middle of {KEYS}, {late:.0f} ms at 95 of 100, {times[-1]:.0f} ms at most")
+    times, stood = sorted(person.js("times")), sorted(person.js("stood"))
+    middle = times[len(times) // 2]
+    for what, found in (("stands in the page", stood), ("is on the screen", times)):
+        print(f"the next document {what} after {found[len(found) // 2]:.0f} ms in the middle of {KEYS}, "
+              f"{found[int(len(found) * 0.95)]:.0f} ms at 95 of 100, {found[-1]:.0f} ms at most")
     if os.getloadavg()[0] > os.cpu_count():
         print(f"NOT TRIED: within {DUE} ms, as others have the processors")
     else:

@@ -23,7 +23,7 @@ USUAL = {
               " OCRTEXTPATH TEXTPRECEDENCE PRODTEXTPATH OCRTEXT TEXTFILELINK",
     NATIVE: "NATIVEPATH NATIVELINK NATIVEFILE NATIVEFILELINK NATIVEFILEPATH FILEPATHNATIVE DOCLINK LINK",
 }
-BY_NAME = {name: ours for ours, names in reversed(USUAL.items()) for name in names.split()}
+LONGEST = 1000  # letters of a name that are looked at
 
 
 class BadMap(Exception):
@@ -31,17 +31,17 @@ class BadMap(Exception):
 
 
 def plain(name):
-    return re.sub("[^A-Z0-9]", "", name.upper())
+    return re.sub("[^A-Z0-9]", "", name[:LONGEST].upper())
 
 
 def map_columns(columns, told=None):
     """For each of our names the place of the producer's column, as far as there is one; `told` maps their names to ours."""
     told = {plain(theirs): ours for theirs, ours in (told or {}).items()}
-    found = {}
+    titles, found = [plain(column) for column in columns], {}
     for ours, names in USUAL.items():
-        places = [(0, at) for at, column in enumerate(columns) if told.get(plain(column)) == ours]
+        places = [(0, at) for at, title in enumerate(titles) if told.get(title) == ours]
         for rank, name in enumerate(names.split(), 1):
-            places += [(rank, at) for at, column in enumerate(columns) if plain(column) == name and plain(column) not in told]
+            places += [(rank, at) for at, title in enumerate(titles) if title == name and title not in told]
         if places:
             found[ours] = min(places)[1]
     return found

@@ -1,4 +1,4 @@
-"""A report of all faults of a volume for its producer, as a text and as an HTML page without a script."""
+"""A report of the faults of a volume for its producer, as a text and as an HTML page without a script."""
 from dataclasses import dataclass
 from html import escape
 

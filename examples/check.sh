@@ -105,6 +105,14 @@ change_dat '1s/BEGDOC/BegBates/; 1s/ENDDOC/End Bates/'
 check_habit '; BegBates looks like BEGDOC; End Bates looks like ENDDOC'
 change_dat '1s/BEGDOC/PRODBEG/'
 check_habit '; PRODBEG looks like BEGDOC'
+for each in 'Bates Beg' 'Prod Beg' 'Begin Bates' begno 'Beginning Bates Number' 'First Page' 'BEG_CONTROL_NUMBER' 'Production Begin'; do
+    change_dat "1s/BEGDOC/$each/"
+    check_habit "; $each looks like BEGDOC"
+done
+for each in 'Bates End' PRODEND 'End Bates' ENDNO 'Ending Bates Number' 'Last Page' 'Control Number End'; do
+    change_dat "1s/ENDDOC/$each/"
+    check_habit "; $each looks like ENDDOC"
+done
 change_dat '1s/WITHHELD/BEGDOC/'
 check_habit '; BEGDOC stands twice'
 LC_ALL=C sed 's/\xc3\xbe//g; s/\x14/,/g' whole.dat > $data.DAT

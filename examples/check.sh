@@ -105,6 +105,14 @@ change_dat '1s/BEGDOC/BegBates/; 1s/ENDDOC/End Bates/'
 check_habit '; BegBates looks like BEGDOC; End Bates looks like ENDDOC'
 change_dat '1s/BEGDOC/PRODBEG/'
 check_habit '; PRODBEG looks like BEGDOC'
+for each in 'Bates Beg' 'Prod Beg' 'Begin Bates' begno 'Beginning Bates Number' 'First Page' 'BEG_CONTROL_NUMBER' 'Production Begin'; do
+    change_dat "1s/BEGDOC/$each/"
+    check_habit "; $each looks like BEGDOC"
+done
+for each in 'Bates End' PRODEND 'End Bates' ENDNO 'Ending Bates Number' 'Last Page' 'Control Number End'; do
+    change_dat "1s/ENDDOC/$each/"
+    check_habit "; $each looks like ENDDOC"
+done
 change_dat '1s/WITHHELD/BEGDOC/'
 check_habit '; BEGDOC stands twice'
 LC_ALL=C sed 's/\xc3\xbe//g; s/\x14/,/g' whole.dat > $data.DAT
@@ -154,6 +162,14 @@ cp "$here/out/office/matter.db" .
 habit 'Nothing was written.' import LET_001/
 habit 'the name has no / at its end, which a shell puts there: tivrenan import LET_001' import LET_001/
 habit 'go to the folder that it lies in, or move it here' import scans/LET_001
+cp -r "$here/CVI_001" .
+mv CVI_001/load.dat CVI_001/LOAD.DAT
+habit 'there is CVI_001/LOAD.DAT: capitals and small letters differ' import CVI_001
+mv CVI_001/LOAD.DAT CVI_001/load.dat
+LC_ALL=C sed -i '3s/IMAGES/Images/' CVI_001/load.opt
+habit 'looked for CVI_001/Images/' import CVI_001
+LC_ALL=C sed -i '3s/,Images/,IMAGES/; 3s/\.TIF/.tif/' CVI_001/load.opt
+habit '.TIF: capitals and small letters differ' import CVI_001
 for each in 'PREFIX is abc, with small letters: ABC#29#R-9 VOL009 abc 8 1 2' 'PREFIX is AB1, with a digit at its end#29#R-9 VOL009 AB1 8 1 2' \
     'VOLUME is Vol009, with small letters: VOL009#32#R-9 Vol009 ABX 8 1 2' 'ID is R.9, with a character#32#R.9 VOL009 ABX 8 1 2' \
     'the fields that were asked for are: Author#22#R-9 VOL009 ABX 8 1 2 Author' 'AUTHOR is chosen twice#40#R-9 VOL009 ABX 8 1 2 AUTHOR AUTHOR' \

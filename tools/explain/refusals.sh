@@ -14,6 +14,7 @@ explain_refusal() {
     case $1,$refusal in
         check,*) tell_in_volume "${refusal#refused }" "${2-}" "${3-}" "${4-}" ;;
         import,'refused 63 '*' 0 0 0'*) tell_batch_name "${2-}" ;;
+        import,'refused 54 '*) tell_in_batch "${refusal#refused }" "${2-}" ;;
         produce,*) shift && tell_request "${refusal#refused }" "$@" ;;
     esac
 }
@@ -95,6 +96,22 @@ tell_batch_name() {
         *[!A-Za-z0-9_-]*) say "$1 has other characters: give the folder another name" ;;
         *) [ ${#1} -le 32 ] || say "the name has ${#1} characters" ;;
     esac
+}
+
+# number, name, line, a, b as one word, then the batch: its file that isn't there
+tell_in_batch() {
+    batch=$2
+    # shellcheck disable=SC2086 # the words of the line
+    set -- $1
+    case $4 in
+        0) absent=load.dat ;;
+        1) absent=load.opt ;;
+        2) absent=words.csv ;;
+        *) absent=$(LC_ALL=C awk -F , -v line="$3" '{ sub(/\r$/, "") } $0 != "" && ++count == line { print $3; exit }' "$batch/load.opt" 2> /dev/null) ;;
+    esac
+    absent=$(solidus "$batch/$absent" | first_name)
+    say "looked for $absent"
+    tell_other_name "$absent"
 }
 
 # the refusal's number and so on, then ID, VOLUME, PREFIX, WIDTH, FROM, TO and the fields

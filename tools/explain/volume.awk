@@ -74,8 +74,9 @@ function fault(path,    parts, count, at, real) {
 }
 function refused_path(    name) {
     if (line == 0) {
-        for (name in ENVIRON) if ((name == "dat" || name == "opt" || name == "manifest") && ENVIRON[name] != "" && fault(ENVIRON[name]) != "")
-            return "it is the word " toupper(name) ": " ENVIRON[name] ", " fault(ENVIRON[name])
+        for (name in ENVIRON)
+            if (name ~ /^(dat|opt|manifest)$/ && ENVIRON[name] != "" && fault(ENVIRON[name]) != "")
+                return "it is the word " toupper(name) ": " ENVIRON[name] ", " fault(ENVIRON[name])
         return ""
     }
     if (fault(field(line, 3)) != "") return "it is the path of the image in line " line " of the OPT: " field(line, 3) ", " fault(field(line, 3))
@@ -86,10 +87,11 @@ function column_of(name,    plain) {
     plain = toupper(name)
     gsub(/[^A-Z0-9]/, "", plain)
     if (plain == "BEGDOC" || plain == "ENDDOC") return plain
-    if (plain ~ /^(PROD)?(BEG(IN|INNING)?|FIRST|START)(BATES|BATESNUM(BER)?|NO|NUM|NUMBER|PAGE|DOCNO|DOCNUMBER|PROD|DOCID|CONTROL)?(BEG)?$/) return "BEGDOC"
-    if (plain ~ /^(BATES|PROD(UCTION)?|DOC|CONTROL(NUMBER)?)(BEG(IN|INNING)?|START|FIRST)$/) return "BEGDOC"
-    if (plain ~ /^(PROD)?(END(ING)?|LAST|STOP)(BATES|BATESNUM(BER)?|NO|NUM|NUMBER|PAGE|DOCNO|DOCNUMBER|PROD|DOCID|CONTROL)?$/) return "ENDDOC"
-    if (plain ~ /^(BATES|PROD(UCTION)?|DOC|CONTROL(NUMBER)?)(END(ING)?|LAST|STOP)$/) return "ENDDOC"
+    sub(/NUMBER|NUM|NO$/, "", plain)
+    if (plain ~ /^(PROD)?(BEG(IN|INNING)?|FIRST|START)(BATES|PAGE|DOC|PROD|DOCID|CONTROL)?$/) return "BEGDOC"
+    if (plain ~ /^(BATES|PROD(UCTION)?|DOC|CONTROL)(BEG(IN|INNING)?|START|FIRST)$/) return "BEGDOC"
+    if (plain ~ /^(PROD)?(END(ING)?|LAST|STOP)(BATES|PAGE|DOC|PROD|DOCID|CONTROL)?$/) return "ENDDOC"
+    if (plain ~ /^(BATES|PROD(UCTION)?|DOC|CONTROL)(END(ING)?|LAST|STOP)$/) return "ENDDOC"
     return ""
 }
 function columns_found(    count, at, all, like, hints, seen) {
@@ -113,37 +115,48 @@ function manifest_fault(text,    digest) {
     if (is_hex(digest, 32)) return "the digest is an MD5, of 32 characters; SHA-256 has 64"
     if (is_hex(digest, 40)) return "the digest is a SHA-1, of 40 characters; SHA-256 has 64"
     if (is_hex(digest, 64) && digest ~ /[A-F]/) return "the digest has capitals, as PowerShell writes them; due are 0-9 and a-f"
-    if (is_hex(digest, 64) && substr(text, 65, 2) == " *") return "before the path stands a space and *, as sha256sum writes it for --binary; due are two spaces"
+    if (is_hex(digest, 64) && substr(text, 65, 2) == " *")
+        return "before the path stands a space and *, as sha256sum writes it for --binary; due are two spaces"
     if (is_hex(digest, 64) && substr(text, 65, 2) != "  ") return "between digest and path due are two spaces"
     if (is_hex(digest, 64)) return length(text) == 66 ? "it has no path" : ""
     if (match(text, /[0-9a-fA-F]+"?\r?$/) && RLENGTH >= 64) return "the digest stands behind the path; it is due before it"
     return "it doesn't begin with a SHA-256, of 64 characters"
 }
+function ends_in(text, end) { return length(text) >= length(end) && substr(text, length(text) - length(end) + 1) == end }
 # a file that isn't in the manifest: how it stands there in another way
 function other_line(path,    at, text, count) {
     path = slashes(path)
     count = listed
     for (at = 1; at <= count; at++) {
         text = slashes(substr(manifest[at], 67))
-        if (text == path "\r") return "the lines of the manifest end in CR LF, so that each path has a CR at its end; due is LF alone: tr -d \"\\r\" < MANIFEST > copy"
+        if (text == path "\r")
+            return "the lines of the manifest end in CR LF, so that each path has a CR at its end; due is LF alone: " \
+                "tr -d \"\\r\" < MANIFEST > copy"
         sub(/\r$/, "", text)
         if (tolower(text) == tolower(path)) return "line " at " of the manifest has " text ": capitals and small letters differ"
-        if (length(text) > length(path) && substr(text, length(text) - length(path)) == "/" path || length(path) > length(text) && substr(path, length(path) - length(text)) == "/" text)
+        if (ends_in(text, "/" path) || ends_in(path, "/" text))
             return "line " at " of the manifest has " text ": its paths begin in another folder"
     }
     return ""
+}
+# what parts the values of a DAT that has no þ
+function other_signs() {
+    if (dat[1] ~ /\303\276/) return ""
+    return dat[1] ~ /\t/ ? "it has tabs between values, and no þ around them" : \
+        dat[1] ~ /,/ ? "it has commas between values, and no þ around them" : ""
 }
 # an OPT whose images are files of several pages has a line a document
 function many_pages(    pages) {
     pages = field(line - 1, 7)
     if (field(line - 1, 4) == "Y" && field(line, 4) == "Y" && pages > 1 && found - place == pages - 1)
-        return "line " line - 1 " stands for a document of " pages " pages, and is its only line: its file has all its pages. Due is a file and a line a page; tiffsplit makes such files"
+        return "line " line - 1 " stands for a document of " pages " pages, and is its only line: its file has all its pages. " \
+            "Due is a file and a line a page; tiffsplit makes such files"
     return ""
 }
 function told() {
     if (rule == 54) return "looked for " slashes(path_of_read(place))
     if (rule == 55) return "the file is " slashes(path_of_read(place))
-    if (rule == 50) return "line " line " of the DAT is: " cut(dat[line]) (dat[1] ~ /\303\276/ ? "" : dat[1] ~ /\t/ ? "\nit has tabs between values, and no þ around them" : dat[1] ~ /,/ ? "\nit has commas between values, and no þ around them" : "")
+    if (rule == 50) return "line " line " of the DAT is: " cut(dat[line]) "\n" other_signs()
     if (rule == 63) return refused_path()
     if (rule == 110) return columns_found()
     if (rule == 53) return "line " line " of the OPT is: " cut(opt[line])

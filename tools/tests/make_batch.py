@@ -790,12 +790,16 @@ class Refusals(Case):
         self.put("sub/letter.docx", b"PK\x03\x04..")
         self.put("sub/photo.jpg", b"\xff\xd8\xff..")
         self.put("text.tif", "no picture")
+        self.put("a.heic", b"\0\0\0\x18ftypheic\0\0\0\0")
+        self.put("a.gif", b"GIF89a..")
+        self.put("mail.eml", "Received: from a\n")
         self.put("a®b.pdf", "%PDF-1.4")
         os.symlink(self.room, self.path("link"))
         self.put("locked.pdf", pdf_of([text_at(100, 700, "page")])[:-200])
         self.put("inside.pdf", pdf_of([text_at(100, 700, "page") + "(unended"]))
         self.put("fields.csv", "FILE,A\nGOOD.pdf,x\nnone.pdf,y\ngood.pdf\n")
         self.refused("empty.pdf: the file is empty", "sub/letter.docx: .* print it to a PDF", "sub/photo.jpg: the picture is damaged",
+                     "a.heic: .*heif-convert makes a JPEG of it", "a.gif: .*makes a PNG of it", "mail.eml: a message",
                      "text.tif: neither a PDF nor a TIFF, PNG or JPEG picture", "its name has a control character, þ or ®", "link: a link",
                      "locked.pdf: the PDF was cut off: it has no end, pdfinfo says: .*; have it sent once more",
                      "inside.pdf: the PDF is damaged, pdfto.* says: Syntax Error", "line 4: 1 values under 2 columns",

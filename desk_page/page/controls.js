@@ -20,7 +20,10 @@ export function listen({ review, paper, boxes, documents, listing, call, held, s
   on('take_back', () => last.takeBack())
   on('show_many', () => many.open())
   on('look_at_all', () => listing.lookAtAll(say))
-  on('leave', () => leave())
+  on('leave', () => {
+    clearTimeout(place.soon)
+    leave()
+  })
   on('show_keys', () => showKeys())
   on('close_keys', () => the('keys').close())
   on('look', () => lookAgain(review))

@@ -71,7 +71,7 @@ function build(review, place) {
     ...(held.isUnsent() ? ['a held field'] : []),
     ...(entry.isUnsent() ? ['the log entry'] : []),
   ]
-  review.addEventListener('page', () => place.keepLink(review.doc.doc, review.page))
+  review.addEventListener('page', () => place.keepLinkSoon(review.doc.doc, review.page))
   keepFilter(listing, place)
   new Ahead(review, (number, by) => listing.next(number, by))
   return { review, paper, boxes, documents, listing, call, held, second, many, last, place }

@@ -122,7 +122,7 @@ export class Paper {
 
   put({ across, down, key, scale, wide, high }, grey) {
     if (this.painted !== this.image || this.paintedKey !== key) {
-      Object.assign(this.ink, { width: across, height: down })
+      if (this.ink.width !== across || this.ink.height !== down) Object.assign(this.ink, { width: across, height: down })
       this.ink.getContext('2d').putImageData(imageOf(grey, across, down), 0, 0)
       Object.assign(this, { painted: this.image, paintedKey: key })
     }

@@ -1,6 +1,7 @@
 // Where somebody was: in the address, as a link (`#24/3` is document 24, page 3), and by person for the life of the tab.
 import { digestOfText } from './digest.js'
 
+const SOON = 200 // milliseconds
 const LINK = /^#([1-9]\d{0,8})(?:\/([1-9]\d{0,8}))?$/
 
 export function placeIn(link) {
@@ -29,8 +30,14 @@ export class Place {
     sessionStorage.setItem(this.name, JSON.stringify(this.kept))
   }
 
-  // the open document and page
+  // The open document and page; soon, as a browser takes its time to write an address, and the page comes first.
+  keepLinkSoon(doc, page) {
+    clearTimeout(this.soon)
+    this.soon = setTimeout(() => this.keepLink(doc, page), SOON)
+  }
+
   keepLink(doc, page) {
+    clearTimeout(this.soon)
     const link = `#${doc}/${page}`
     this.keep({ link })
     window.history.replaceState(null, '', link)

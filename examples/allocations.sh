@@ -4,7 +4,7 @@
 # words, a broken rule or a fault. Ends with a status other than 0 where one doesn't. A run can end with 0 though one of
 # its allocations was refused, where it does without; so the script ends after four runs in a row that end with 0.
 # Words: the form to read and the one to write, plain or g4; `plain` where none is given. A third: how many allocations each run goes on.
-# Needs rt; each run takes about 20 seconds.
+# Needs rt; each run compiles the whole program, which takes minutes.
 set -eu
 cd "$(dirname "$0")/../crates/bp_main"
 from=${1:-plain} to=${2:-plain} step=${3:-1}

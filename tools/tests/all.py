@@ -72,8 +72,6 @@ PARTS = {
     "guide": Part("examples/guide.py", 15),
     "desks": Part("examples/desks.sh", 15, desks=16),
     "doors": Part("examples/doors.sh", 10, [("curl", "curl"), ("rt", "the kit, which has rt,")], desks=1),
-    # every twenty-fifth allocation, since each takes 20 seconds and more
-    "allocations": Part("examples/allocations.sh plain g4 25", 20, [("rt", "the kit, which has rt,")]),
 }
 
 

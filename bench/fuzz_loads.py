@@ -3,9 +3,8 @@ readers of load files and paths stand in tools/volumes/profile.py, and random ca
 import re
 
 from fuzz_tools import Rule, answer, damaged, said, told_text
-from volumes.profile import (  # noqa: F401
-    BETWEEN, DIGITS, MARK, NEWLINE, QUOTE, as_text, dat_columns, dat_line, dat_records, lines_in, path_of, read_dat, read_dat_lines, read_opt,
-)
+from volumes.profile import BETWEEN, DIGITS, MARK, NEWLINE, QUOTE, as_text, path_of, read_dat, read_opt
+from volumes.profile import dat_columns, dat_records, read_dat_lines  # noqa: F401
 
 
 def can_be_written(columns, rows):

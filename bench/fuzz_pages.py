@@ -2,10 +2,8 @@
 strangers write them, whole and damaged. What reads them stands in tools/volumes/page_files.py. A page's row is the list of
 its changing elements, as in t6_model.py."""
 import t6_model
-from fuzz_tools import Rule, answer, damaged, hex_word, said, told_bytes
-from volumes.page_files import (  # noqa: F401
-    LONG, RATIONAL, SHORT, File, Page, can_be_a_page, flipped, lines_of_strip, read_tiff, turned,
-)
+from fuzz_tools import answer, damaged, hex_word, said, told_bytes
+from volumes.page_files import LONG, RATIONAL, SHORT, Page, can_be_a_page, flipped, lines_of_strip, read_tiff, turned  # noqa: F401
 
 UNITS = {1: "none", 2: "inch", 3: "centimetre"}
 GLYPHS = dict(

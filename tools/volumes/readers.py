@@ -4,12 +4,11 @@ import re
 
 from batch import documents, pdf_files, picture_files, tiff_files
 from batch.refused import Refused
-from batch.sources import HEAD, Source, kind_of
+from batch.sources import Source, kind_of
 
 TOOLS = {"PDF": pdf_files.TOOLS, "TIFF": tiff_files.TOOLS, "PNG": picture_files.TOOLS, "JPEG": picture_files.TOOLS}
 OWN_TOOLS = ("ppmtopgm", "pgmtopbm", "pamtotiff", "pamdepth")
 AS_FINE = 1_000_000  # pixels to the inch: a picture keeps its pixels
-__all__ = ["HEAD", "OWN_TOOLS", "TOOLS", "changed", "kind_or_none", "open_file"]
 
 
 def kind_or_none(path, name):

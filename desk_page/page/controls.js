@@ -124,7 +124,8 @@ async function openUnsettled(review) {
     if (progressOf(doc) === 'settled') return true
     found = number
     return false
-  }, (k) => say(`Looking for one that isn’t settled: ${k.toLocaleString('en')} of ${others.toLocaleString('en')} documents. Escape stops.`))
+  }, (k) => say(`Looking for one that isn’t settled: ${k.toLocaleString('en')} of ${others.toLocaleString('en')} documents. `
+    + 'Escape stops.'))
   if (review.doc.doc !== from) return null
   if (found !== undefined) return review.open(found)
   if (isStopped) return `Stopped: the ${done.toLocaleString('en')} documents after ${from} are settled.`

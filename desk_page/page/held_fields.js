@@ -40,7 +40,8 @@ export class HeldFields {
 
   // `field 2, AUTHOR (PI), field 5 (AC)`
   inWords(doc) {
-    return doc.held.length === 0 ? 'no field' : doc.held.map(({ field, basis }) => `${this.nameOf(field)} (${basis})`).join(', ')
+    if (doc.held.length === 0) return 'no field'
+    return doc.held.map(({ field, basis }) => `${this.nameOf(field)} (${basis})`).join(', ')
   }
 
   show(doc) {
@@ -76,7 +77,9 @@ export class HeldFields {
       this.learn(came[0].field, name)
       return `${name} is held back, as field ${came[0].field}.`
     }
-    if (came.length === 0) return `Nothing changed: ${name} was held back for ${basis.value} before. Held: ${this.inWords(after)}.`
+    if (came.length === 0) {
+      return `Nothing changed: ${name} was held back for ${basis.value} before. Held: ${this.inWords(after)}.`
+    }
     throw new NotNow(`The desk took it, but somebody else was at the same document. Held now: ${this.inWords(after)}.`)
   }
 
@@ -88,7 +91,9 @@ export class HeldFields {
     const gone = before.held.filter((it) => !after.held.some((other) => other.field === it.field))
     if (gone.length === 1) this.learn(gone[0].field, name)
     if (gone.length === 1 && gone[0].field === field) return `${name} is freed: it was field ${field}.`
-    if (gone.length === 0) throw new NotNow(`Nothing was freed: ${name} isn’t held here. Held still: ${this.inWords(after)}.`)
+    if (gone.length === 0) {
+      throw new NotNow(`Nothing was freed: ${name} isn’t held here. Held still: ${this.inWords(after)}.`)
+    }
     throw new NotNow(`${name} isn’t field ${field}. Freed was ${gone.map((it) => this.nameOf(it.field)).join(', ')}. `
       + `Held still: ${this.inWords(after)}.`)
   }

@@ -20,7 +20,8 @@ export class LastCall {
     if (last.length === 0) throw new NotNow('This window made no call that could be taken back.')
     if (last.length > 1 && !this.isWarned) {
       this.isWarned = true
-      return `Take back the calls of ${last.length.toLocaleString('en')} documents (${last[0].after.doc} to ${last.at(-1).after.doc})? Press Z again.`
+      const span = `${last[0].after.doc} to ${last.at(-1).after.doc}`
+      return `Take back the calls of ${last.length.toLocaleString('en')} documents (${span})? Press Z again.`
     }
     this.keep([])
     const failed = []

@@ -27,7 +27,8 @@ export class Listing extends EventTarget {
 
   choose(filter) {
     this.filter = filter in FILTERS || filter === 'marked' ? filter : 'all'
-    this.numbers = this.filter === 'all' ? null : [...this.review.rows.keys()].sort((a, b) => a - b).filter((number) => this.takes(number))
+    const told = () => [...this.review.rows.keys()].sort((a, b) => a - b)
+    this.numbers = this.filter === 'all' ? null : told().filter((number) => this.takes(number))
     this.dispatchEvent(new CustomEvent('change'))
   }
 
@@ -89,7 +90,8 @@ export class Listing extends EventTarget {
 
   // Looks at each document that wasn't told yet. The answer says what came of it.
   async lookAtAll(far) {
-    const untold = Array.from({ length: this.review.count }, (_, k) => k + 1).filter((number) => !this.review.rows.has(number))
+    const all = Array.from({ length: this.review.count }, (_, k) => k + 1)
+    const untold = all.filter((number) => !this.review.rows.has(number))
     const { done, isStopped } = await walk(untold.length, (k) => this.review.lookAt(untold[k], true).then(() => true), (k) =>
       far(`Looked at ${k.toLocaleString('en')} of ${untold.length.toLocaleString('en')} documents. Escape stops.`))
     return isStopped ? `Stopped after ${done.toLocaleString('en')} documents.` : 'Every document was looked at.'

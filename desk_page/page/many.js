@@ -39,7 +39,8 @@ export class Many {
     const { marked, doc } = this.review
     if (!marked.delete(doc.doc)) marked.add(doc.doc)
     this.review.tell('marked', doc.doc)
-    return marked.has(doc.doc) ? `Document ${doc.doc} is marked; X calls all that are (${marked.size}).` : `Document ${doc.doc} isn’t marked.`
+    if (!marked.has(doc.doc)) return `Document ${doc.doc} isn’t marked.`
+    return `Document ${doc.doc} is marked; X calls all that are (${marked.size}).`
   }
 
   async open() {
@@ -91,8 +92,8 @@ export class Many {
     if (this.asked?.words === words) return this.make(this.asked.shown, call)
     this.stop.disabled = false
     const shown = []
-    await walk(numbers.length, async (k) => { shown.push(await this.review.lookAt(numbers[k])) }, (k) => this.far('Looked at', k, numbers))
-      .finally(() => { this.stop.disabled = true })
+    const look = async (k) => { shown.push(await this.review.lookAt(numbers[k])) }
+    await walk(numbers.length, look, (k) => this.far('Looked at', k, numbers)).finally(() => { this.stop.disabled = true })
     if (shown.length < numbers.length) return 'Stopped: nothing was called.'
     this.asked = { words, shown }
     const called = shown.filter((doc) => doc.editor !== 0).map(({ doc }) => doc)

@@ -129,7 +129,8 @@ export class Paper {
     this.scale = scale
     const [left, top] = isOnSide(this.turns) ? [high, wide] : [wide, high]
     Object.assign(this.paper.style, { width: `${left}px`, height: `${top}px` })
-    Object.assign(this.turned.style, { width: `${wide}px`, height: `${high}px`, transform: transformOf(this.turns, wide, high) })
+    const transform = transformOf(this.turns, wide, high)
+    Object.assign(this.turned.style, { width: `${wide}px`, height: `${high}px`, transform })
     this.over.setAttribute('viewBox', `0 0 ${this.image.width} ${this.image.height}`)
     // lines and letters of the drawing are as thick on the screen at each size
     this.over.style.setProperty('--point', `${1 / scale}px`)
@@ -188,7 +189,8 @@ export class Paper {
     const on = this.paper.getBoundingClientRect()
     const sheet = this.sheet.getBoundingClientRect()
     const at = this.viewOf(x + 0.5, y + 0.5)
-    this.sheet.scrollBy(on.left + at.x - sheet.left - this.sheet.clientWidth / 2, on.top + at.y - sheet.top - this.sheet.clientHeight / 2)
+    const right = on.left + at.x - sheet.left - this.sheet.clientWidth / 2
+    this.sheet.scrollBy(right, on.top + at.y - sheet.top - this.sheet.clientHeight / 2)
   }
 
   // scrolls so that a rectangle of the page is in sight

@@ -156,9 +156,11 @@ export class Receiver {
     }
     try {
       const { kept, all, isStopped } = await how(this.volume, { far: (text) => this.tell(text), failed })
-      const text = `${kept.toLocaleString('en')} of ${all.toLocaleString('en')} files are saved, each with the digest that the manifest tells.`
+      const text = `${kept.toLocaleString('en')} of ${all.toLocaleString('en')} files are saved, each with the digest that the `
+        + 'manifest tells.'
       if (kept === all) return text
-      throw new NotNow(`${isStopped ? 'Stopped. ' : ''}${how === saveAsArchive ? 'No archive was made: not all files came.' : text}`)
+      const told = how === saveAsArchive ? 'No archive was made: not all files came.' : text
+      throw new NotNow(`${isStopped ? 'Stopped. ' : ''}${told}`)
     } catch (why) {
       if (why.name === 'AbortError') return 'No folder was chosen.'
       throw why

@@ -12,7 +12,8 @@ function readManifest(bytes, volume) {
   if (lines.pop() !== '') throw new NotNow('The manifest has no end: fetch it anew.')
   return new Map(lines.map((line) => {
     const found = LINE.exec(line)
-    if (found === null || !found[2].startsWith(`${volume}/`) || found[2].split('/').some((part) => part === '' || /^\.+$/.test(part))) {
+    const isPath = (path) => path.startsWith(`${volume}/`) && !path.split('/').some((part) => part === '' || /^\.+$/.test(part))
+    if (found === null || !isPath(found[2])) {
       throw new NotNow(`The manifest has a line that is none: ${line}`)
     }
     return [found[2], found[1]]
@@ -68,7 +69,8 @@ export class Volume {
 
   // the first and the last label: the names of the images
   labels() {
-    const names = this.paths().filter((path) => path.startsWith(`${this.name}/IMAGES/`)).map((path) => path.split('/').at(-1).split('.')[0])
+    const images = this.paths().filter((path) => path.startsWith(`${this.name}/IMAGES/`))
+    const names = images.map((path) => path.split('/').at(-1).split('.')[0])
     return names.length === 0 ? null : { first: names[0], last: names.at(-1), count: names.length }
   }
 }

@@ -78,11 +78,11 @@ for each in README.md docs/STATUSES.md docs/FORMATS.md docs/PROMISES.md docs/GUI
     [ ! -e "$top/$each" ] || file "$each" "$doc/${each##*/}"
 done
 # their pictures, where they stand here
-for each in "$top"/examples/*.png; do file "examples/${each##*/}" "$doc/examples/${each##*/}"; done
-sed -i -E 's#\]\((\.\./)?desk_page/#](../../tivrenan/desk_page/#' "$into/$doc/README.md" "$into/$doc/GUIDE.md"
+for each in "$top"/examples/*.png "$top/examples/cluster.svg"; do file "examples/${each##*/}" "$doc/examples/${each##*/}"; done
+sed -i -E -e 's#\]\((\.\./)?desk_page/#](../../tivrenan/desk_page/#' -e 's#\]\(\.\./examples/#](examples/#' "$into/$doc/README.md" "$into/$doc/GUIDE.md"
 file LICENSE "$doc/copyright"
 file examples/letter.tif "$doc/examples/letter.tif"
-program examples/cluster.sh "$doc/examples/cluster.sh"
+for each in cluster.sh cluster_figure.py; do program "examples/$each" "$doc/examples/$each"; done
 folder examples/CVI_001 "$doc/examples/CVI_001"
 
 for page in "$top"/man/*.1; do

@@ -57,6 +57,7 @@ PARTS = {
     "backup": Part("tools/tests/backup.py", 5),
     "services": Part("tools/tests/services.py", 15),
     "cluster": Part("tools/tests/cluster.py", 10),
+    "reckoned": Part("examples/cluster_figure.py check", 2),
     "office": Part("examples/office.sh", 10, OFFICE, desks=1),
     "deliver": Part("examples/deliver.sh", 10, [("curl", "curl")], desks=1),
     "check": Part("examples/check.sh", 10, OFFICE, desks=1),

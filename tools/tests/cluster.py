@@ -155,14 +155,14 @@ def split(around, room, pages):
     for matter, *_ in whole + halves:
         with open(f"{room}/matters/{matter}.key", "w", encoding="ascii") as file:
             file.write("key\n")
-    if count > 20000:
-        status, told, _ = run(around, room, "whole.csv")
-        check("one matter refuses so many", status == 1 and "refused 35 MatterFull" in told, told)
-        print(told, flush=True)
     begun = time.monotonic()
     status, told, said = run(around, room, "halves.csv")
     print(told, said, f"{time.monotonic() - begun:.0f} s on the clock", flush=True)
     check("two matters take them", status == 0 and told.count(": done: ") == 2, (told, said))
+    if count > 20000:
+        status, told, _ = run(around, room, "whole.csv")
+        check("one matter refuses so many", status == 1 and "refused 35 MatterFull" in told, told)
+        print(told, flush=True)
 
 
 def main(words):

@@ -86,8 +86,8 @@ def serve_page():
         "-keyout", "/etc/ssl/private/review.key", "-out", "/etc/ssl/certs/review.pem", due=0)
     run("cp", "-r", "/usr/share/tivrenan/desk_page", "/srv/desk_page", due=0)
     run("mkdir", "-p", "/srv/desk_page/fields", due=0)
-    with open("/usr/share/doc/tivrenan/examples/nginx/tivrenan-matters.conf", encoding="utf-8") as file:
-        text = re.sub("<(review[.]office[.]example|/[a-z_/.]*)>", r"\1", file.read())
+    # as GUIDE says
+    text = run("sed", r"s#<\(review[.]office[.]example\|/[a-z_/.]*\)>#\1#", "/usr/share/doc/tivrenan/examples/nginx/tivrenan-matters.conf", due=0).stdout
     own = """upstream wall {
     hash $http_desk_key;
     server unix:/run/tivrenan/wall/1.sock max_fails=0;

@@ -1,7 +1,7 @@
 # What is made of this repository beside its proofs; CONTRIBUTING.md says how it is proved.
 PREFIX ?= /usr/local
 
-.PHONY: all dist install man check check-tools
+.PHONY: all dist deb install uninstall man check check-tools
 
 all:
 	./tivrenan build
@@ -10,8 +10,15 @@ all:
 dist:
 	tools/dist.sh
 
+# a package of Debian in dist/, of what `make install` puts, with its units
+deb:
+	tools/deb.sh
+
 install:
 	tools/install.sh $(PREFIX)
+
+uninstall:
+	tools/uninstall.sh $(PREFIX)
 
 man:
 	docs/write_man.py
@@ -22,4 +29,4 @@ check:
 
 # of that the programs for offices, and what installs and packs
 check-tools:
-	tools/tests/all.py manual install report batch take faults forms fetch
+	tools/tests/all.py manual install folder deb backup services cluster report batch take faults forms fetch

@@ -10,9 +10,10 @@ import sys
 
 TOP = os.path.dirname(os.path.dirname(os.path.abspath(__file__)))
 DATE = "2026-11-28"
-COMMANDS = "burn init import serve deliver produce press log claw check demo help".split()
-SCRIPTS = "make_batch matter_report take_volume check_report volume_as fetch_volume".split()
-PROGRAMS = {f"tivrenan-{script.replace('_', '-')}": script for script in SCRIPTS}
+TABLE = "tools/launcher/commands"
+SCRIPTS = "make_batch matter_report take_volume check_report volume_as fetch_volume matter_backup matter_restore matter_audit".split()
+NAMES = {f"matter_{name}": f"tivrenan-{name}" for name in ("backup", "restore", "audit")}
+PROGRAMS = {NAMES.get(script, f"tivrenan-{script.replace('_', '-')}"): script for script in SCRIPTS}
 
 
 def said(*words):
@@ -42,6 +43,13 @@ def text_of(path):
         return file.read()
 
 
+def commands():
+    """The names in the table of commands; those of the launcher's own stand together under the first of them."""
+    names = re.findall(r"^(command|own) +(\w+)$", text_of(TABLE), re.MULTILINE)
+    own = [name for kind, name in names if kind == "own"]
+    return [name for kind, name in names if kind == "command"] + own[:1]
+
+
 def command_of(name):
     """A command by `tivrenan help NAME`: how it is called, what it does, what its words are."""
     usage, _, words = said("tivrenan", "help", name).partition("\n\n")
@@ -64,8 +72,6 @@ def statuses():
         number, _, means = (cell.strip() for cell in re.split(r"(?<!\\)\|", row)[1:4])
         lines += [".TP", f".B {number}", paragraph(means)]
     own = {
-        "64": "No words were given; the usage was printed on standard error.",
-        "69": "The program isn't built from the sources as they stand, and can't be; or it is installed, and can't be run.",
         "126, 127": "The system could not start the program.",
         "128 and more": "A signal, by this number and 128, ended the program.",
     }
@@ -82,11 +88,11 @@ def launcher_page():
         the volume: pages with their boxes burned in and their numbers, slip sheets, texts, load files, privilege log. It writes the
         replacement of a volume in which a document went out by mistake, and checks volumes of any producer. It prints one line; what a refusal means and what to do is said on standard error."""))
     lines.append(".SH COMMANDS")
-    for name in COMMANDS:
+    for name in commands():
         lines += command_of(name)
     lines += [".SH EXIT STATUS", *statuses()]
     for file, what in {
-        "matter.db": "the matter of the current folder; each command makes it where there is none",
+        "matter.db": "the matter of the current folder",
         "matter.db-wal": "the log of the database while a command runs, or after one that was killed",
         "out": "the folder below the current one into which all files are written",
     }.items():
@@ -94,7 +100,7 @@ def launcher_page():
         lines += [".TP", f".I {plain(file)}", plain(what)]
     lines += [".SH EXAMPLES", ".nf", plain("tivrenan init $(printf %s 'the key of the lead' | sha256sum | cut -c1-64)"),
               plain("tivrenan import CVI_001"), plain("tivrenan serve 1 1000"),
-              plain("tivrenan produce R-1 VOL001 ABC 8 1 12 AUTHOR"), plain("tivrenan claw R-1 VOL002 notice.csv"),
+              plain("tivrenan produce R-1 VOL001 ABC 8 1 12 AUTHOR"), plain("tivrenan claw R-1 VOL001B notice.csv"),
               plain("cd out && tivrenan check VOL001/DATA/VOL001.DAT VOL001/DATA/VOL001.OPT VOL001/MANIFEST.TXT"), ".fi"]
     others = [f".BR {plain(name)} (1)," for name in PROGRAMS]
     return lines + [".SH SEE ALSO", *others[:-1], others[-1].rstrip(","), ".PP",

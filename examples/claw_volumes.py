@@ -1,7 +1,7 @@
 #!/usr/bin/env python3
 """Looks by public readers at a volume and at its replacement after a notice (FRCP 26(b)(5)(B)).
 
-Words: the folder that has the volumes VOL001 and VOL002, and the notice. The batch CVI_001 is beside this file. Ends with
+Words: the folder that has the volumes VOL001 and VOL001B, and the notice. The batch CVI_001 is beside this file. Ends with
 status 1 and one line at the first thing that isn't as it should be: the same paths under the other name; images and texts
 of documents that the notice doesn't name equal byte for byte; a sheet under each label of the others, pixel by pixel the
 one that the volume has for a document that was withheld, but for its label; DAT, OPT and log; and no word of a named
@@ -15,7 +15,7 @@ import os
 import subprocess
 import sys
 
-OLD, NEW = "VOL001", "VOL002"
+OLD, NEW = "VOL001", "VOL001B"
 # the documents of the volume in their order, and how many pages each document of the batch has
 PRODUCED = [1, 2, 3, 4, 5, 6, 9, 10, 11, 12]
 PAGES = [3, 2, 5, 1, 4, 2, 3, 1, 2, 4, 1, 3]

@@ -1,4 +1,23 @@
-# Bash's completion of tivrenan's words. Installed as share/bash-completion/completions/tivrenan.
+# Bash's completion of tivrenan's words, by the table of commands. Installed as share/bash-completion/completions/tivrenan.
+
+# the table: of this clone, or installed
+_tivrenan_table() {
+    local here=${BASH_SOURCE[0]%/*} each
+    for each in "$here/launcher/commands" "$here/../../tivrenan/tools/launcher/commands"; do
+        [ ! -r "$each" ] || { printf '%s\n' "$each" && return; }
+    done
+}
+
+# the names of the commands; with a word those of the launcher too
+_tivrenan_names() { awk -v own="$1" '$1 == "command" || own && $1 == "own" { print $2 }' "$(_tivrenan_table)"; }
+
+# command, place of a word: what is offered there
+_tivrenan_offer() {
+    awk -v name="$1" -v place="$2" '
+        $1 == "command" || $1 == "own" { told = $2 == name }
+        told && $1 == "offer" && $2 == place { $1 = $2 = ""; print }
+    ' "$(_tivrenan_table)"
+}
 
 # what a batch is: a folder here with load files
 _tivrenan_batches() {
@@ -9,18 +28,17 @@ _tivrenan_batches() {
 }
 
 _tivrenan() {
-    local word=${COMP_WORDS[COMP_CWORD]} command=${COMP_WORDS[1]} at=$COMP_CWORD words=
+    local word=${COMP_WORDS[COMP_CWORD]} words
     COMPREPLY=()
-    case $at,$command in
-        1,*) words='burn init import serve deliver produce press log claw check demo help version build' ;;
-        2,help) words='burn init import serve deliver produce press log claw check demo statuses rules' ;;
-        2,import) words=$(_tivrenan_batches "$word") ;;
-        2,serve) words='1 2 4 8 16' ;;
-        2,deliver) words=1000 ;;
-        2,build) words='look gate' ;;
-        3,demo) words='10 200 2000' ;;
-        2,burn | 3,deliver | 4,claw | [234],check) mapfile -t COMPREPLY < <(compgen -f -- "$word") && compopt -o filenames && return ;;
-        8,burn) words='plain g4' ;;
+    if [ "$COMP_CWORD" -eq 1 ]; then
+        words=$(_tivrenan_names own)
+    else
+        words=$(_tivrenan_offer "${COMP_WORDS[1]}" $((COMP_CWORD - 1)))
+    fi
+    case $words in
+        *files*) mapfile -t COMPREPLY < <(compgen -f -- "$word") && compopt -o filenames 2> /dev/null && return ;;
+        *batches*) words=$(_tivrenan_batches "$word") ;;
+        *commands*) words="${words/commands/} $(_tivrenan_names)" ;;
     esac
     mapfile -t COMPREPLY < <(compgen -W "$words" -- "$word")
 }
@@ -46,4 +64,4 @@ _tivrenan_program() {
 
 complete -F _tivrenan tivrenan
 complete -F _tivrenan_program tivrenan-make-batch tivrenan-matter-report tivrenan-take-volume tivrenan-check-report \
-    tivrenan-volume-as tivrenan-fetch-volume
+    tivrenan-volume-as tivrenan-fetch-volume tivrenan-backup tivrenan-restore tivrenan-audit

@@ -15,7 +15,7 @@ export class Refused extends Error {
 // No desk answered, and a call may have been made or not.
 export class NoAnswer extends Error {}
 
-const DESKS = '/desk'
+const DESKS = 'desk'
 const FILES = ['image/tiff', 'application/octet-stream']
 
 // What a key may be made of: a field of HTTP carries these as they are, and blanks around them are dropped.

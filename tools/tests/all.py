@@ -52,6 +52,12 @@ OFFICE = [("curl", "curl"), ("sqlite3", "sqlite3"), ("tifftopnm", "netpbm"), ("t
 PARTS = {
     "manual": Part("docs/write_man.py check", 5),
     "install": Part("tools/tests/install.sh", 10, [("make", "make"), ("bash", "bash")]),
+    "folder": Part("tools/tests/folder.py", 10, desks=2),
+    "deb": Part("tools/tests/deb.py", 10, [("dpkg-deb", "dpkg")]),
+    "backup": Part("tools/tests/backup.py", 5),
+    "services": Part("tools/tests/services.py", 15),
+    "cluster": Part("tools/tests/cluster.py", 10),
+    "reckoned": Part("examples/cluster_figure.py check", 2),
     "office": Part("examples/office.sh", 10, OFFICE, desks=1),
     "deliver": Part("examples/deliver.sh", 10, [("curl", "curl")], desks=1),
     "check": Part("examples/check.sh", 10, OFFICE, desks=1),

@@ -223,6 +223,20 @@ cp "$top/tivrenan" "$room/alone/"
 status_of "$room/alone/tivrenan" init x
 check 'without program and sources it ends with 69' is "$status" 69
 
+echo 'make uninstall'
+cp -R "$room/usr" "$room/usr4"
+echo x > "$room/usr4/share/other"
+(cd "$room/usr4" && find . ! -type d ! -path ./share/other | sed 's#^./##') > "$room/there"
+echo 'lib/tivrenan/bp_main' >> "$room/there"
+check 'the list has all that was put there' is "$(LC_ALL=C sort "$room/there" | diff - "$room/usr4/share/tivrenan/INSTALLED")" ''
+status_of "$room/usr4/share/tivrenan/uninstall.sh"
+check 'it takes it away' is "$status" 0
+check 'and nothing else' is "$(cd "$room/usr4" && find . -type f)" './share/other'
+status_of make -C "$copy" uninstall PREFIX="$room/usr4"
+check 'twice is said' holds 'nothing is installed below' "$room/said"
+status_of "$copy/tools/install.sh" --help
+check 'it tells its words' is "$status$(head -n 1 "$room/said")" '0usage: tools/install.sh PREFIX'
+
 echo 'completion'
 mkdir -p VOL_1
 : > VOL_1/load.opt
@@ -241,8 +255,15 @@ _tivrenan_program tivrenan-make-batch
 echo "\${COMPREPLY[*]}"
 END
 check 'words are completed' is "$(bash "$room/complete.bash" | tr '\n' ';')" 'init import;VOL_1;plain;statuses;pdf;leaf;'
-commands=$(sed -n "s/^commands='\(.*\)'$/\1/p" "$top/tivrenan")
-check 'all commands are completed' is "$(sed -n "s/^ *1,[*]) words='\(.*\)' ;;/\1/p" "$top/tools/completion.bash")" "$commands help version build"
+echo "words tivrenan ''" >> "$room/complete.bash"
+table=$room/usr/share/tivrenan/tools/launcher/commands
+check 'all commands are completed' is "$(bash "$room/complete.bash" | tail -n 1)" "$(awk '$1 == "command" || $1 == "own" { print $2 }' "$table" | tr '\n' ' ' | sed 's/ $//')"
+# a new command is written once, in the table
+printf '\ncommand  fold\noperands NAME TIMES\ndoes     folds\nform     TIMES  number 1 9\nsignal   Nothing.\n' >> "$table"
+check 'a command of the table is completed' is "$(bash "$room/complete.bash" | tail -n 1 | tr ' ' '\n' | grep -x fold)" fold
+status_of "$room/usr/bin/tivrenan" help fold
+check 'its usage is told' is "$(head -n 1 "$room/said")" 'usage: tivrenan fold NAME TIMES'
+sed -i '/^command  fold$/,$d' "$table"
 rm -r VOL_1
 
 # archive, prefix: unpacked and run by nobody where that can be, in a folder of its own; `words` are tried
@@ -280,6 +301,10 @@ status_of $nobody $plain "$unpacked/bin/tivrenan" init x
 check 'it runs where it is unpacked' is "$status$(cat "$room/said")" '0ran init x'
 status_of "$unpacked/install.sh" "$room/usr2"
 check 'it installs itself' is "$status" 0
+status_of "$unpacked/install.sh" "$room/usr2"
+check 'and once more over itself' is "$status" 0
+status_of "$unpacked/install.sh" --help
+check 'it tells its words, too' holds '^usage: install.sh' "$room/said"
 status_of "$copy/tools/install.sh" "$room/usr"
 check 'as make install does' is "$(diff -r "$room/usr" "$room/usr2")" ''
 echo x >> "$unpacked/lib/tivrenan/bp_main"

@@ -1,0 +1,1 @@
+"""What tivrenan-backup and tivrenan-restore share. No contract speaks of them."""

@@ -1,10 +1,10 @@
 #!/usr/bin/env python3
 """Draws the two plots of README.md of the figures in figures.csv: speeds.svg and growth.svg. `draw_figures.py check` writes
-nothing and compares: the plots are those of the figures, and each figure stands in README.md, in the words of the column
-`stands`.
+nothing and says where a plot isn't that of the figures.
 
-A figure is one number or two (`1.1 to 1.4`); in `speeds` it is divided by its peer's. The plots have a ground of their own,
-and follow the reader's choice of dark or light.
+A figure is one number or two (`1.1 to 1.4`). In `speeds` it is the ratio, or ours over the peer's where no ratio stands; in
+`growth` it is ours. Rows without a plot stand in the table of README.md alone (write_table.py). The plots have a ground of
+their own, and follow the reader's choice of dark or light.
 """
 import csv
 import math
@@ -32,14 +32,15 @@ def read():
 
 def span(row):
     """The least and the most of a figure, over its peer's."""
-    ends = [float(each) / float(row["peer"]) for each in row["ours"].split(" to ")]
-    return ends[0], ends[-1]
+    ends = [float(each) for each in (row["ratio"] or row["ours"]).split(" to ")]
+    over = 1 if row["ratio"] or not row["peer"] else float(row["peer"])
+    return ends[0] / over, ends[-1] / over
 
 
 def told(row):
     """The figure as it was measured, or over its peer's."""
-    if row["peer"] == "1":
-        return row["ours"]
+    if row["ratio"] or not row["peer"]:
+        return row["ratio"] or row["ours"]
     over = span(row)[0]
     return f"{over:,.0f}" if over >= 10 else f"{over:.2f}"
 
@@ -152,20 +153,8 @@ def files():
     return {f"{name}.svg": draw([row for row in rows if row["plot"] == name]) for name, draw in (("speeds", speeds), ("growth", growth))}
 
 
-def numbers_of(row):
-    return [*row["ours"].split(" to "), *([row["peer"]] if row["peer"] != "1" else [])]
-
-
 def faults():
-    """What isn't as it should be."""
-    with open(os.path.join(HERE, "README.md"), encoding="utf-8") as file:
-        readme = " ".join(file.read().split())
-    for row in read():
-        stands = row["stands"]
-        if stands not in readme:
-            yield f"README.md doesn't say: {stands}"
-        if not all(number in stands.replace(",", "") for number in numbers_of(row)):
-            yield f"{row['name']}: {row['ours']} isn't said by: {stands}"
+    """Which plots aren't those of the figures."""
     for name, text in files().items():
         path = os.path.join(HERE, name)
         if not os.path.exists(path) or open(path, encoding="utf-8").read() != text:

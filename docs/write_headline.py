@@ -197,9 +197,15 @@ def page():
     kit = [f"- `{path}`: {', '.join(f'`{it}`' for it in sorted(words))}" for path, words in sorted(walk.of_kit.items())]
     head = f"""# The headline, to be read
 
-Whoever wants to believe the headline of README has this to read, and nothing else of the sources: the clauses of `run`, which are proved,
-and every definition that they reach. `docs/write_headline.py` writes this page from the sources, and the gate checks that it is theirs. In
-all: {'; '.join(told)}.
+Whoever wants to believe the headline of README has this to read: the clauses of `run`, which are proved, and every definition that they
+reach. `docs/write_headline.py` writes this page from the sources, and the gate checks that it is theirs. In all: {'; '.join(told)}.
+Cases of commands other than `produce`, `press` and `serve` are left out of definitions that go by cases. That a database tells its rows
+is `rows_told` of `bp_keep_sql`, and that a disk tells no files is `Untold` of `bp_outside`: both stand outside this page.
+
+**To read it.** Begin at `RunsCommand`, the first definition below; each name stands further down, room by room from the program to the
+ground. `A → B` is a premise and what follows, or the type of a function; `a ≡ b` says that they are equal; `×` and `⊎` are and, or; `λ x. t` is
+the function of x; `x ∷ xs` a list with x before xs; a `record` is all of its fields, a `data` one of its cases. Of a lent object `old` and
+`new` are before and after the call, `now` is where it isn't changed.
 
 The call that the program makes:
 

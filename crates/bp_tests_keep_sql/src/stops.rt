@@ -97,8 +97,14 @@ fn text(alloc: Global, text: &str) -> Result<String, AllocError> {
 
 // Whether all was done, and the files of the keeper that was handed back.
 fn left_by(ended: Ended<Rows, MemDoor>) -> Result<(bool, Files<Fused>), Fail> {
-    match ended.keeper {
-        Some(keeper) => Ok((ended.status == 0, close(keeper.into_connection()))),
+    let Ended {
+        status,
+        keeper,
+        doors: _,
+        history: _,
+    } = ended;
+    match keeper {
+        Some(keeper) => Ok((status == 0, close(keeper.into_connection()))),
         None => Err(Fail::from("no keeper came back")),
     }
 }

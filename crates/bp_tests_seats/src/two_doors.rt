@@ -1,13 +1,14 @@
 // Doors are served at once: each of two waits in its first read until the other has begun to be read.
 ghost use Rattle.std.specs.Prelude.{◌≡◌, ◌<◌, length, true, All, IfOk};
 ghost use Rattle.bp_outside.specs.Door.{DoorView, Reads, Writes, after_accept, after_hang_up};
-ghost use Rattle.bp_seats.specs.Seats.{Desked, IsSeatOf};
+ghost use Rattle.bp_seats.specs.Seats.{IsSeatOf};
+ghost use Rattle.bp_tests_seats.specs.Pairs.{IsPair};
 
 use crate::matters::begun;
 use crate::stage::{Pair, start_pair};
 use bp_keep::MemKeeper;
 use bp_outside::{Door, DoorRefusal};
-use bp_seats::{Post, PostOf, Seat, serve_all};
+use bp_seats::{Desk, Post, PostOf, Seat, serve_all};
 use std::alloc::Global;
 use std::process::Abort;
 use std::sync::atomic::{AtomicU64, Ordering};
@@ -129,14 +130,16 @@ fn is_well(text: &[u8]) -> bool {
 
 // Each seat at a door of its own, at which the lead adds another reviewer.
 fn posts_of<'a>(
+    desk: &Desk<MemKeeper>,
     alloc: Global,
     one: Seat<MemKeeper>,
     two: Seat<MemKeeper>,
     flags: &'a (AtomicU64, AtomicU64),
 ) -> Result<Vec<Post<MemKeeper, MeetingDoor<'a>>>, Fail>
-    ensures { (desk : Desked) → IsSeatOf desk one → IsSeatOf desk two
-        → IfOk result (λ posts. All (λ post. IsSeatOf desk post.seat) posts.items) }
+    requires { IsPair desk.now one two }
+    ensures { IfOk result (λ posts. All (λ post. IsSeatOf desk.now post.seat) posts.items) }
 {
+    let _ = desk;
     let mut posts = Vec::new(alloc);
     posts.push(PostOf {
         seat: one,
@@ -164,7 +167,7 @@ fn two_doors(rt: HostRuntime) -> Result<(), Fail> {
     let alloc = rt.alloc();
     let flags = (AtomicU64::new(0), AtomicU64::new(0));
     let Pair { desk, one, two } = start_pair(alloc, begun(alloc)?, 10)?;
-    let mut posts = posts_of(alloc, one, two, &flags)?;
+    let mut posts = posts_of(&desk, alloc, one, two, &flags)?;
     serve_all(&desk, &rt, alloc, &mut posts, 1);
     look(&rt, posts.as_slice());
     Ok(())

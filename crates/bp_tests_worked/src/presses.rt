@@ -97,6 +97,7 @@ fn two_images(rt: HostRuntime) {
 const TWENTY_IMAGES: &str = "files
 file V/load.dat þBEGDOCþ%14þBEGATTACHþ%0aþA01þ%14þþ%0a
 file V/load.opt A01,,b.tif,Y%0aA02,,b.tif%0aA03,,b.tif%0aA04,,b.tif%0aA05,,b.tif%0aA06,,b.tif%0aA07,,b.tif%0aA08,,b.tif%0aA09,,b.tif%0aA10,,b.tif%0aA11,,b.tif%0aA12,,b.tif%0aA13,,b.tif%0aA14,,b.tif%0aA15,,b.tif%0aA16,,b.tif%0aA17,,b.tif%0aA18,,b.tif%0aA19,,b.tif%0aA20,,b.tif%0a
+file V/words.csv -
 image V/b.tif plain 200 8 1 0 0 0 0
 begin 1
 import V = 1 20

@@ -19,19 +19,12 @@ import urllib.request
 
 sys.dont_write_bytecode = True
 import apart  # noqa: E402
+from counted import Counted  # noqa: E402
 
 TOP = os.path.dirname(os.path.dirname(os.path.dirname(os.path.abspath(__file__))))
 PROGRAM = os.path.join(TOP, "crates/bp_main/out/bp_main")
 CALL = {"responsive": True, "treatment": "Produce", "designation": ""}
-checks, failed = 0, 0
-
-
-def check(name, holds, seen=""):
-    global checks, failed
-    checks += 1
-    if not holds:
-        failed += 1
-        print(f"backup.py: not so: {name} {seen}")
+check = Counted("backup.py")
 
 
 def run(*words, cwd=None):
@@ -206,8 +199,7 @@ def main():
         apart.end_begun()
         os.chdir("/")
         shutil.rmtree(room, ignore_errors=True)
-    print(f"{checks} checks, {failed} not as expected")
-    sys.exit(1 if failed else 0)
+    check.end()
 
 
 main()

@@ -16,6 +16,7 @@ import time
 
 sys.dont_write_bytecode = True
 import apart  # noqa: E402
+from counted import Counted  # noqa: E402
 
 TOP = os.path.dirname(os.path.dirname(os.path.dirname(os.path.abspath(__file__))))
 CLUSTER = os.path.join(TOP, "examples/cluster.sh")
@@ -46,15 +47,7 @@ JobAcctGatherType=jobacct_gather/none
 NodeName=localhost NodeAddr=127.0.0.1 CPUs={cpus} State=UNKNOWN
 PartitionName=all Nodes=localhost Default=YES MaxTime=INFINITE State=UP
 """
-checks, failed = 0, 0
-
-
-def check(name, holds, seen=""):
-    global checks, failed
-    checks += 1
-    if not holds:
-        failed += 1
-        print(f"cluster.py: not so: {name} {seen}", flush=True)
+check = Counted("cluster.py")
 
 
 def digest(key):
@@ -191,8 +184,7 @@ def main(words):
     finally:
         apart.end_begun()
         shutil.rmtree(room, ignore_errors=True)
-    print(f"{checks} checks, {failed} not as expected")
-    sys.exit(1 if failed else 0)
+    check.end()
 
 
 main(sys.argv[1:])

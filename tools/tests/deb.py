@@ -10,19 +10,12 @@ import sys
 
 sys.dont_write_bytecode = True
 import rooms  # noqa: E402
+from counted import Counted  # noqa: E402
 
 TOP = os.path.dirname(os.path.dirname(os.path.dirname(os.path.abspath(__file__))))
 OWN_PLACES = ("/usr/share/tivrenan", "/usr/lib/tivrenan", "/usr/bin/tivrenan", "/etc/logrotate.d/tivrenan", "/usr/share/doc/tivrenan",
               "/lib/systemd/system/tivrenan-desk@.service", "/usr/share/man/man1/tivrenan.1.gz")
-checks, failed = 0, 0
-
-
-def check(name, holds, seen=""):
-    global checks, failed
-    checks += 1
-    if not holds:
-        failed += 1
-        print(f"deb.py: not so: {name} {seen}")
+check = Counted("deb.py")
 
 
 def packed(revision):
@@ -105,8 +98,7 @@ def main():
     except rooms.NotHere as why:
         print(f"deb.py: installing is NOT TRIED: {why}")
     os.remove(second)
-    print(f"{checks} checks, {failed} not as expected")
-    sys.exit(1 if failed else 0)
+    check.end()
 
 
 main()

@@ -23,20 +23,13 @@ import urllib.request
 
 sys.dont_write_bytecode = True
 import apart  # noqa: E402
+from counted import Counted  # noqa: E402
 
 TOP = os.path.dirname(os.path.dirname(os.path.dirname(os.path.abspath(__file__))))
 TIVRENAN = os.path.join(TOP, "tivrenan")
 PORT = 48201
 SECONDS = 60
-checks, failed = 0, 0
-
-
-def check(name, holds, seen=""):
-    global checks, failed
-    checks += 1
-    if not holds:
-        failed += 1
-        print(f"folder.py: not so: {name} {seen}")
+check = Counted("folder.py")
 
 
 def run(*words):
@@ -276,8 +269,7 @@ def main():
         apart.end_begun()
         os.chdir("/")
         shutil.rmtree(room, ignore_errors=True)
-    print(f"{checks} checks, {failed} not as expected")
-    sys.exit(1 if failed else 0)
+    check.end()
 
 
 main()

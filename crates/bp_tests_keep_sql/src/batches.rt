@@ -23,17 +23,13 @@ fn folder(alloc: Global, header: &str) -> Result<FileList, AllocError> {
     Ok(FileList::from_vec(files))
 }
 
-// The files of such a folder.
-pub fn source(alloc: Global, header: &str) -> Result<MemSource, Fail> {
+// The batch `B1` of this header alone.
+pub fn batch(alloc: Global, header: &str) -> Result<Batch, Fail> {
     let files = folder(alloc, header)?;
     if !paths_differ(&files) {
         return Err(AllocError.into());
     }
-    Ok(MemSource::over(files, NumberList::new(alloc)))
-}
-
-// The batch `B1` of this header alone.
-pub fn batch(alloc: Global, header: &str) -> Result<Batch, Fail> {
+    let mut source = MemSource::over(files, NumberList::new(alloc));
     let name = Text::from_string(String::from_str(alloc, "B1")?);
-    Ok(read_batch(alloc, &mut source(alloc, header)?, &name)?)
+    Ok(read_batch(alloc, &mut source, &name)?)
 }

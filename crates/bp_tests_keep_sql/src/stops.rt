@@ -1,19 +1,15 @@
-// The command `import` over a disk that stops at each of its calls in turn, and is opened again.
-use crate::batches::{HEADER, source};
+// An import over a disk that stops at each of its calls in turn, and is opened again.
+use crate::batches::{HEADER, batch};
 use crate::sql_rows::beginning;
-use bp_cli::run::{Ended, run};
-use bp_core::{Bytes, NumberList};
 use bp_keep::Keeper;
 use bp_keep_sql::SqlKeeper;
-use bp_outside::{FileList, MemDoor, MemFolder, MemOut, MemSource};
-use bp_rules::load_tables;
+use bp_matter::Batch;
+use bp_rules::{load_tables, step_import};
 use sqlite::{Connection, FileStore, Files, Options};
 use sqlite_disk::{Crash, Disk, Fuse, Memory};
 use std::alloc::{AllocError, Global};
 use std::process::Abort;
-use std::sync::Wait;
 use std::test::Fail;
-use std::thread::Threads;
 
 type Fused = Fuse<Memory>;
 
@@ -65,62 +61,28 @@ fn begun(alloc: Global) -> Result<Files<Fused>, Fail> {
     Ok(files)
 }
 
-type Rows = SqlKeeper<FileStore<Fused>>;
-
-// Runs `import B1`. Whether the batch came in, and the files after it.
-fn import<R: Threads + Wait + Sync>(
-    rt: &R,
-    alloc: Global,
-    conn: Database,
-    source: &mut MemSource,
-) -> Result<(bool, Files<Fused>), Fail> {
-    let words = [text(alloc, "import")?, text(alloc, "B1")?];
-    let mut folder = MemFolder::over(FileList::new(alloc), NumberList::new(alloc));
-    let mut out = MemOut::over(Bytes::from_vec(Vec::new(alloc)), NumberList::new(alloc));
-    let doors: Vec<MemDoor> = Vec::new(alloc);
-    let ended = run(
-        rt,
-        alloc,
-        &words,
-        source,
-        SqlKeeper::over(conn),
-        &mut folder,
-        &mut out,
-        doors,
-    );
-    left_by(ended)
-}
-
-fn text(alloc: Global, text: &str) -> Result<String, AllocError> {
-    String::from_str(alloc, text)
-}
-
-// Whether all was done, and the files of the keeper that was handed back.
-fn left_by(ended: Ended<Rows, MemDoor>) -> Result<(bool, Files<Fused>), Fail> {
-    let Ended {
-        status,
-        keeper,
-        doors: _,
-        history: _,
-    } = ended;
-    match keeper {
-        Some(keeper) => Ok((status == 0, close(keeper.into_connection()))),
-        None => Err(Fail::from("no keeper came back")),
-    }
+// Whether the batch came in, and the files after it.
+fn import(alloc: Global, conn: Database, batch: &Batch) -> (bool, Files<Fused>) {
+    let mut keeper = SqlKeeper::over(conn);
+    let made = match load_tables(alloc, &mut keeper) {
+        Ok(mut tables) => step_import(alloc, &mut tables, &mut keeper, batch).is_ok(),
+        Err(_) => false,
+    };
+    (made, close(keeper.into_connection()))
 }
 
 // The same over copies of these files, of which each stops after so many calls.
-fn stopped<R: Threads + Wait + Sync>(
-    rt: &R,
+fn stopped(
     alloc: Global,
     from: &Files<Fused>,
     log: u64,
     db: u64,
+    batch: &Batch,
 ) -> Result<(bool, Files<Fused>), Fail> {
     let log = fused(alloc, from.log.inner().bytes(), log)?;
     let db = fused(alloc, from.db.inner().bytes(), db)?;
     match open(alloc, Files { log, db }) {
-        Ok(conn) => import(rt, alloc, conn, &mut source(alloc, HEADER)?),
+        Ok(conn) => Ok(import(alloc, conn, batch)),
         Err(files) => Ok((false, files)),
     }
 }
@@ -136,27 +98,21 @@ fn found(alloc: Global, mut files: Files<Fused>) -> Result<usize, Fail> {
 
 // The matter is the one before the import or the one after it; where it came in, the one after.
 // Whether it came in.
-fn stands<R: Abort + Threads + Wait + Sync>(
-    rt: &R,
+fn stands(
+    rt: &impl Abort,
     alloc: Global,
     from: &Files<Fused>,
     log: u64,
     db: u64,
 ) -> Result<bool, Fail> {
-    let (made, files) = stopped(rt, alloc, from, log, db)?;
+    let (made, files) = stopped(alloc, from, log, db, &batch(alloc, HEADER)?)?;
     let batches = found(alloc, files)?;
     assert!(rt; batches == 1 || (batches == 0 && !made));
     Ok(made)
 }
 
 // Stops each call from the first of these on, until one import comes in.
-fn stops<R: Abort + Threads + Wait + Sync>(
-    rt: &R,
-    alloc: Global,
-    of_log: bool,
-    first: u64,
-    end: u64,
-) -> Result<bool, Fail> {
+fn stops(rt: &impl Abort, alloc: Global, of_log: bool, first: u64, end: u64) -> Result<bool, Fail> {
     let from = begun(alloc)?;
     for calls in first..end {
         let log = if of_log { calls } else { u64::MAX };

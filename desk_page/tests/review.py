@@ -213,7 +213,9 @@ def try_second(person, office, shots):
     office.ask(ELLIS, "POST", "/docs/3/call", call)
     person.does(lambda: person.key("l"), "as it stands now")
     for number, pages in ((3, 5), (5, 4), (10, 4)):
-        person.open(number)
+        # document 3 is open, as it stands now; opened anew it may be shown as it was fetched ahead
+        if number != 3:
+            person.open(number)
         for page in range(2, pages + 1):
             person.turn(page, pages)
         person.ask_confirm()

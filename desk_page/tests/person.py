@@ -10,6 +10,7 @@ from chromium import Chromium
 from office import BATCH
 
 CTRL, SHIFT = 2, 8
+READ = 0.8  # seconds after which somebody may have read that a document was changed
 counts = [0, 0]  # of what was as due, and what wasn't
 
 

@@ -12,7 +12,7 @@ import sys
 import time
 
 from office import BATCH, ELLIS, LEAD, MARLOW, TOP, Office
-from person import CTRL, Person, canvas_is, check, finish
+from person import CTRL, READ, Person, canvas_is, check, finish
 
 with open(os.path.join(BATCH, "load.dat"), encoding="utf-8-sig") as dat:
     FIELDS = [name.strip("þ") for name in dat.readline().rstrip("\r\n").split("\x14")]
@@ -212,10 +212,9 @@ def try_second(person, office, shots):
     check("and is shown as it stands", "Withhold WP" in person.text("state") and "not confirmed" in person.text("state"), person.text("state"))
     office.ask(ELLIS, "POST", "/docs/3/call", call)
     person.does(lambda: person.key("l"), "as it stands now")
+    time.sleep(READ)
     for number, pages in ((3, 5), (5, 4), (10, 4)):
-        # document 3 is open, as it stands now; opened anew it may be shown as it was fetched ahead
-        if number != 3:
-            person.open(number)
+        person.open(number)
         for page in range(2, pages + 1):
             person.turn(page, pages)
         person.ask_confirm()

@@ -11,9 +11,8 @@ import sys
 import time
 
 from office import ELLIS, LEAD, MARLOW, Office
-from person import Person, canvas_is, check, finish, nameless, scan
+from person import READ, Person, canvas_is, check, finish, nameless, scan
 
-READ = 0.8  # seconds after which somebody may have read that a document was changed
 PRODUCE = dict(responsive=True, treatment="Produce", designation="")
 
 

@@ -9,7 +9,11 @@
 #   sends first       one that sends a megabyte before it reads: the door has enough of 65,536 bytes, and the reply comes whole
 #   curl again        the door goes on after each of them
 # Prints a line for each, and what the door said; ends with status 1 where a reply isn't as it is due.
-# Needs rt on PATH where the program isn't built; curl and python3.
+#
+#   doors.sh [built]    with `built` nothing is proved or built: where the gate or rt didn't build the job from the sources as they stand,
+#                       that is said, and nothing is tried
+#
+# Needs curl and python3; rt on PATH where the job isn't built.
 set -eu
 here=$(CDPATH='' cd -- "$(dirname -- "$0")" && pwd)
 crate=$here/../crates/bp_timing
@@ -22,7 +26,13 @@ trap '[ -z "$door" ] || kill "$door" 2> /dev/null || :; rm -rf "$scratch"' EXIT
 
 stop() { echo "doors.sh: $1" >&2; exit 1; }
 
-(cd "$crate" && rt run -- code_page "$here/letter.tif" 1) > "$scratch/build.log" 2>&1 || stop "$(tail -n 3 "$scratch/build.log")"
+if [ ! -x "$timing" ] || [ -n "$(find "$here/../crates" -name '*.rt' -newer "$timing")" ]; then
+    if [ "${1-}" = built ]; then
+        echo "doors.sh: real peers at a door NOT TRIED: bp_timing isn't built from the sources as they stand"
+        exit 0
+    fi
+    (cd "$crate" && rt run -- code_page "$here/letter.tif" 1) > "$scratch/build.log" 2>&1 || stop "$(tail -n 3 "$scratch/build.log")"
+fi
 failed=0
 
 # what came, what is due, the peer

@@ -24,13 +24,13 @@ data=VOL001/DATA/VOL001
 cp $data.OPT whole.opt
 cp $data.DAT whole.dat
 
-# what is due on standard error, among else; words
-explained() {
+# what is due on standard error, among else; a command and its words. The files are whole again then
+told() {
     due=$1
     shift
-    said=$("$tivrenan" check $data.DAT $data.OPT "$@" 2>&1 > /dev/null) || :
+    said=$("$tivrenan" "$@" 2>&1 > /dev/null) || :
     case $said in
-        *"$due"*) printf 'explained: %s\n' "$due" ;;
+        *"$due"*) printf 'told: %s\n' "$due" ;;
         *)
             printf 'check.sh: the launcher said: %s\nand not: %s\n' "$said" "$due" >&2
             exit 1
@@ -39,6 +39,7 @@ explained() {
     cp whole.opt $data.OPT
     cp whole.dat $data.DAT
 }
+explained() { due=$1 && shift && told "$due" check $data.DAT $data.OPT "$@"; }
 
 # a pattern of sed, for a line of the OPT or of the DAT
 change_opt() { LC_ALL=C sed "$1" whole.opt > $data.OPT; }
@@ -75,107 +76,91 @@ explained 'the file is VOL001/TEXT/0001/ABC00000004.TXT' list.txt
 sed '36s/^./g/; 36s/^g/0/' VOL001/MANIFEST.TXT | sed '36s/^..../0000/' > list.txt
 explained "the file is $data-LOG.CSV, and the digest that was due 0000" list.txt
 
-# what vendors' habits are told by: of one refusal what is due
-habit() {
-    due=$1
-    shift
-    said=$("$tivrenan" "$@" 2>&1 > /dev/null) || :
-    case $said in
-        *"$due"*) printf 'told: %s\n' "$due" ;;
-        *)
-            printf 'check.sh: the launcher said: %s\nand not: %s\n' "$said" "$due" >&2
-            exit 1
-            ;;
-    esac
-    cp whole.opt $data.OPT
-    cp whole.dat $data.DAT
-}
-check_habit() { due=$1 && shift && habit "$due" check $data.DAT $data.OPT "$@"; }
-
+# what vendors' habits are told by
 change_opt '3s/VOL001.IMAGES/D:\\VOL001\\IMAGES/2; 3s/,VOL001.IMAGES/,D:\\VOL001\\IMAGES/'
-check_habit 'it is the path of the image in line 3 of the OPT: D:\VOL001\IMAGES\0001\ABC00000003.TIF, which has a drive'
+explained 'it is the path of the image in line 3 of the OPT: D:\VOL001\IMAGES\0001\ABC00000003.TIF, which has a drive'
 change_opt '3s/,VOL001.IMAGES/,\\VOL001\\IMAGES/'
-check_habit 'the path of the image in line 3 of the OPT: \VOL001\IMAGES\0001\ABC00000003.TIF, which has / or \ at its front'
+explained 'the path of the image in line 3 of the OPT: \VOL001\IMAGES\0001\ABC00000003.TIF, which has / or \ at its front'
 change_dat '3s/VOL001.TEXT/..\\VOL001\\TEXT/'
-check_habit 'it is TEXTPATH of record 2 of the DAT: ..\VOL001\TEXT\0001\ABC00000004.TXT, which has the part .., to a folder above'
-habit 'it is the word OPT: ../x.opt, which has the part ..' check $data.DAT ../x.opt
+explained 'it is TEXTPATH of record 2 of the DAT: ..\VOL001\TEXT\0001\ABC00000004.TXT, which has the part .., to a folder above'
+told 'it is the word OPT: ../x.opt, which has the part ..' check $data.DAT ../x.opt
 change_dat '1s/BEGDOC/BegBates/; 1s/ENDDOC/End Bates/'
-check_habit 'the DAT has the columns BegBates, End Bates, BEGATTACH, '
+explained 'the DAT has the columns BegBates, End Bates, BEGATTACH, '
 change_dat '1s/BEGDOC/BegBates/; 1s/ENDDOC/End Bates/'
-check_habit '; BegBates looks like BEGDOC; End Bates looks like ENDDOC'
+explained '; BegBates looks like BEGDOC; End Bates looks like ENDDOC'
 change_dat '1s/BEGDOC/PRODBEG/'
-check_habit '; PRODBEG looks like BEGDOC'
+explained '; PRODBEG looks like BEGDOC'
 for each in 'Bates Beg' 'Prod Beg' 'Begin Bates' begno 'Beginning Bates Number' 'First Page' 'BEG_CONTROL_NUMBER' 'Production Begin'; do
     change_dat "1s/BEGDOC/$each/"
-    check_habit "; $each looks like BEGDOC"
+    explained "; $each looks like BEGDOC"
 done
 for each in 'Bates End' PRODEND 'End Bates' ENDNO 'Ending Bates Number' 'Last Page' 'Control Number End'; do
     change_dat "1s/ENDDOC/$each/"
-    check_habit "; $each looks like ENDDOC"
+    explained "; $each looks like ENDDOC"
 done
 change_dat '1s/WITHHELD/BEGDOC/'
-check_habit '; BEGDOC stands twice'
+explained '; BEGDOC stands twice'
 LC_ALL=C sed 's/\xc3\xbe//g; s/\x14/,/g' whole.dat > $data.DAT
-check_habit 'it has commas between values, and no þ around them'
+explained 'it has commas between values, and no þ around them'
 change_opt '3s/IMAGES.0001/Images\\0001/'
-check_habit 'there is VOL001/IMAGES/0001/ABC00000003.TIF: capitals and small letters differ'
+explained 'there is VOL001/IMAGES/0001/ABC00000003.TIF: capitals and small letters differ'
 change_opt 's/,VOL001\\IMAGES/,IMAGES/'
-check_habit 'there is VOL001/IMAGES/0001/ABC00000001.TIF: the path begins in another folder, VOL001'
+explained 'there is VOL001/IMAGES/0001/ABC00000001.TIF: the path begins in another folder, VOL001'
 iconv -f UTF-8 -t UTF-16 whole.opt > $data.OPT
-check_habit "$data.OPT is in UTF-16, as Windows' tools write it, and has to be UTF-8: iconv -f UTF-16 -t UTF-8 $data.OPT > copy"
+explained "$data.OPT is in UTF-16, as Windows' tools write it, and has to be UTF-8: iconv -f UTF-16 -t UTF-8 $data.OPT > copy"
 iconv -f UTF-8 -t UTF-16LE whole.dat > $data.DAT
-check_habit "$data.DAT is in UTF-16"
+explained "$data.DAT is in UTF-16"
 # an OPT of files of several pages: a line a document
 change_opt '/,Y,/!d'
-check_habit 'line 1 stands for a document of 3 pages, and is its only line: its file has all its pages'
+explained 'line 1 stands for a document of 3 pages, and is its only line: its file has all its pages'
 
 # of lines of a manifest
 list() { LC_ALL=C sed "$1" VOL001/MANIFEST.TXT > list.txt; }
 list 's/$/\r/'
-check_habit 'the lines of the manifest end in CR LF, so that each path has a CR at its end' list.txt
+explained 'the lines of the manifest end in CR LF, so that each path has a CR at its end' list.txt
 list '2s/^[0-9a-f]*/\U&/'
-check_habit 'the digest has capitals, as PowerShell writes them' list.txt
+explained 'the digest has capitals, as PowerShell writes them' list.txt
 list '2s/  / */'
-check_habit 'before the path stands a space and *, as sha256sum writes it for --binary' list.txt
+explained 'before the path stands a space and *, as sha256sum writes it for --binary' list.txt
 list '2s/^[0-9a-f]\{32\}//'
-check_habit 'the digest is an MD5, of 32 characters' list.txt
+explained 'the digest is an MD5, of 32 characters' list.txt
 list '2s/^[0-9a-f]\{24\}//'
-check_habit 'the digest is a SHA-1, of 40 characters' list.txt
+explained 'the digest is a SHA-1, of 40 characters' list.txt
 list '2s/\(.*\)  \(.*\)/\2  \1/'
-check_habit 'the digest stands behind the path' list.txt
+explained 'the digest stands behind the path' list.txt
 list '2s/.*//'
-check_habit 'the line is empty' list.txt
+explained 'the line is empty' list.txt
 list '2s/  /,/'
-check_habit 'between digest and path due are two spaces' list.txt
+explained 'between digest and path due are two spaces' list.txt
 list '1s/^/\xef\xbb\xbf/'
-check_habit 'the file begins with a byte order mark' list.txt
+explained 'the file begins with a byte order mark' list.txt
 iconv -f UTF-8 -t UTF-16 VOL001/MANIFEST.TXT > list.txt
-check_habit 'list.txt is in UTF-16' list.txt
+explained 'list.txt is in UTF-16' list.txt
 list '/ABC00000004.TXT/s/TEXT/Text/'
-check_habit 'has VOL001/Text/0001/ABC00000004.TXT: capitals and small letters differ' list.txt
+explained 'has VOL001/Text/0001/ABC00000004.TXT: capitals and small letters differ' list.txt
 list 's#  VOL001/#  #'
-check_habit ': its paths begin in another folder' list.txt
+explained ': its paths begin in another folder' list.txt
 
 # of words, where there is a matter
 mkdir LET_001
 cp "$here/out/office/matter.db" .
-habit 'Nothing was written.' import LET_001/
-habit 'the name has no / at its end, which a shell puts there: tivrenan import LET_001' import LET_001/
-habit 'go to the folder that it lies in, or move it here' import scans/LET_001
+told 'Nothing was written.' import LET_001/
+told 'the name has no / at its end, which a shell puts there: tivrenan import LET_001' import LET_001/
+told 'go to the folder that it lies in, or move it here' import scans/LET_001
 cp -r "$here/CVI_001" .
 mv CVI_001/load.dat CVI_001/LOAD.DAT
-habit 'there is CVI_001/LOAD.DAT: capitals and small letters differ' import CVI_001
+told 'there is CVI_001/LOAD.DAT: capitals and small letters differ' import CVI_001
 mv CVI_001/LOAD.DAT CVI_001/load.dat
 LC_ALL=C sed -i '3s/IMAGES/Images/' CVI_001/load.opt
-habit 'looked for CVI_001/Images/' import CVI_001
+told 'looked for CVI_001/Images/' import CVI_001
 LC_ALL=C sed -i '3s/,Images/,IMAGES/; 3s/\.TIF/.tif/' CVI_001/load.opt
-habit '.TIF: capitals and small letters differ' import CVI_001
+told '.TIF: capitals and small letters differ' import CVI_001
 for each in 'PREFIX is abc, with small letters: ABC#29#R-9 VOL009 abc 8 1 2' 'PREFIX is AB1, with a digit at its end#29#R-9 VOL009 AB1 8 1 2' \
     'VOLUME is Vol009, with small letters: VOL009#32#R-9 Vol009 ABX 8 1 2' 'ID is R.9, with a character#32#R.9 VOL009 ABX 8 1 2' \
     'the fields that were asked for are: Author#22#R-9 VOL009 ABX 8 1 2 Author' 'AUTHOR is chosen twice#40#R-9 VOL009 ABX 8 1 2 AUTHOR AUTHOR' \
     'PAGECOUNT is a column that the DAT of each volume has of itself#40#R-9 VOL009 ABX 8 1 2 PAGECOUNT'; do
     due=${each%%#*} words=${each##*#}
     # shellcheck disable=SC2086 # a list of words
-    habit "$due" produce $words
+    told "$due" produce $words
 done
 echo 'each refusal is explained by its place in the volume'

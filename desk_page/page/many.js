@@ -4,6 +4,7 @@ import { keepCapitals } from './capitals.js'
 import { changeInWords, isAlike } from './changes.js'
 import { NoAnswer } from './desk.js'
 import { reasonOf } from './messages.js'
+import { openButton } from './open_button.js'
 import { Changed, NotNow } from './review.js'
 import { stopWalk, walk } from './walk.js'
 
@@ -141,14 +142,7 @@ export class Many {
 
   refusal(number, why) {
     const row = document.createElement('li')
-    const button = document.createElement('button')
-    button.type = 'button'
-    button.textContent = `Open document ${number}`
-    button.addEventListener('click', this.act(() => {
-      this.dialog.close()
-      return this.review.open(number)
-    }))
-    row.append(button, ` ${reasonOf(why)}`)
+    row.append(openButton(this, number), ` ${reasonOf(why)}`)
     return row
   }
 }

@@ -2,6 +2,7 @@
 // at the machine where the matter lies, once the desk is ended: the page says how.
 import { keepCapitals } from './capitals.js'
 import { Refused } from './desk.js'
+import { openButton } from './open_button.js'
 import { NotNow } from './review.js'
 import { TREATMENTS } from './states.js'
 
@@ -136,13 +137,6 @@ export class Productions {
 
   // the document that is in the way
   offer(number) {
-    const button = document.createElement('button')
-    button.type = 'button'
-    button.textContent = `Open document ${number}`
-    button.addEventListener('click', this.act(() => {
-      this.dialog.close()
-      return this.review.open(number)
-    }))
-    this.told.append(' ', button)
+    this.told.append(' ', openButton(this, number))
   }
 }

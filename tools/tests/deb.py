@@ -41,8 +41,8 @@ def spoil(path):
 def live(run, root, first, second):
     """What an office does with it, from the first day to the last."""
     for path in (first, second):
-        shutil.copy(path, f"{root}/root/")
-    first, second = (f"/root/{os.path.basename(path)}" for path in (first, second))
+        shutil.copy(path, f"{root}/srv/")
+    first, second = (f"/srv/{os.path.basename(path)}" for path in (first, second))
     told = run("dpkg", "-i", first)
     check("it installs", told.returncode == 0, told.stdout + told.stderr)
     told = run("tivrenan", "version")

@@ -20,9 +20,9 @@ After=basic.target nginx.service dbus.service systemd-logind.service
 
 [Service]
 Type=oneshot
-ExecStart=/usr/bin/python3 /root/services_trial.py
-StandardOutput=file:/root/trial.out
-StandardError=file:/root/trial.out
+ExecStart=/usr/bin/python3 /srv/services_trial.py
+StandardOutput=file:/srv/trial.out
+StandardError=file:/srv/trial.out
 ExecStopPost=/usr/bin/systemctl poweroff --no-block
 """
 
@@ -37,11 +37,11 @@ def furnish(root, run, package):
     lacking = [name for name in rooms.PACKAGES_OF_SERVICES if not os.path.exists(f"{root}/{name}")]
     if lacking or not os.path.exists(f"{root}/usr/lib/nginx/modules/ngx_http_js_module.so"):
         raise rooms.NotHere(f"the root has no {', '.join(lacking) or 'libnginx-mod-http-js'}")
-    shutil.copy(package, f"{root}/root/tivrenan.deb")
-    told = run("dpkg", "-i", "/root/tivrenan.deb")
+    shutil.copy(package, f"{root}/srv/tivrenan.deb")
+    told = run("dpkg", "-i", "/srv/tivrenan.deb")
     if told.returncode:
         sys.exit(f"services.py: the package couldn't be installed: {told.stdout}{told.stderr}")
-    shutil.copy(f"{HERE}/services_trial.py", f"{root}/root/")
+    shutil.copy(f"{HERE}/services_trial.py", f"{root}/srv/")
     with open(f"{root}/lib/systemd/system/trial.service", "w", encoding="ascii") as file:
         file.write(UNIT)
     with open(f"{root}/lib/systemd/system/trial.target", "w", encoding="ascii") as file:
@@ -60,7 +60,7 @@ def boot(root):
         said = told.stdout + told.stderr
     except subprocess.TimeoutExpired as ended:
         said = str(ended.stdout)
-    path = f"{root}/root/trial.out"
+    path = f"{root}/srv/trial.out"
     if not os.path.exists(path):
         print("\n".join(said.splitlines()[-15:]))
         return None

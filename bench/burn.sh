@@ -11,27 +11,21 @@
 # needs.
 set -eu
 here=$(CDPATH='' cd -- "$(dirname -- "$0")" && pwd)
-top=$here/..
-program=$top/crates/bp_main/out/bp_main
+. "$here/../trials/common.sh"
 unset GLIBC_TUNABLES
 
-stop() { echo "burn.sh: $1" >&2; exit 1; }
+need 'gcc, libtiff-tools, valgrind' cc tiffcmp tiffcp valgrind
 
-for tool in cc tiffcmp tiffcp valgrind; do
-    command -v "$tool" > /dev/null || stop "needs $tool (Debian: gcc, libtiff-tools, valgrind)"
-done
+make_scratch
 
-scratch=$(mktemp -d)
-trap 'rm -rf "$scratch"' EXIT
-
-echo '#include <tiffio.h>' | cc -E - > /dev/null 2>&1 || stop "needs tiffio.h (Debian: libtiff-dev)"
+need_header tiffio.h libtiff-dev
 cc -O2 -o "$scratch/burn_peer" "$here/burn_peer.c" -ltiff
 cc -O2 -o "$scratch/side_by_side" "$here/side_by_side.c"
 
 cd "$scratch"
 mkdir plain g4
 "$here/pages.sh" plain
-printf 'P4\n8 1\n\125' | python3 "$here/plain_page.py" 300 > plain/small.tif
+printf 'P4\n8 1\n\125' | python3 "$top/trials/plain_page.py" 300 > plain/small.tif
 for page in letter form halftone dithered random white large; do tiffcp -c g4 -r 64 "plain/$page.tif" "g4/$page.tif"; done
 
 # label, rounds, page, box

@@ -10,15 +10,11 @@
 # Needs rt on PATH and python3.
 set -eu
 here=$(CDPATH='' cd -- "$(dirname -- "$0")" && pwd)
-bench=$here/../crates/bp_bench/out/bp_bench
-letter=$here/../examples/letter.tif
+. "$here/../trials/common.sh"
 count=${1:-1000000}
 few=240
-scratch=$(mktemp -d)
-trap 'rm -rf "$scratch"' EXIT
-(cd "$here/../crates/bp_bench" && rt run -- codes white index 1) > "$scratch/build.log" 2>&1 || { cat "$scratch/build.log"; exit 1; }
-
-stop() { echo "calls.sh: $1" >&2; exit 1; }
+make_scratch
+build_bench
 
 # job, its words but the last, calls: the seconds of a call
 call_of() {

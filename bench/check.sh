@@ -7,13 +7,11 @@
 # is wanted. A word: how many pages, 2,000 where none is given. Needs rt on PATH, python3, sha256sum and tiffinfo (libtiff-tools).
 set -eu
 here=$(CDPATH='' cd -- "$(dirname -- "$0")" && pwd)
-bench=$here/../crates/bp_bench/out/bp_bench
-letter=$here/../examples/letter.tif
+. "$here/../trials/common.sh"
 pages=${1:-2000}
 [ -d /dev/shm ] && TMPDIR=${TMPDIR:-/dev/shm} && export TMPDIR
-scratch=$(mktemp -d)
-trap 'rm -rf "$scratch"' EXIT
-(cd "$here/../crates/bp_bench" && rt run -- codes white index 1) < /dev/null > "$scratch/build.log" 2>&1 || { cat "$scratch/build.log"; exit 1; }
+make_scratch
+build_bench
 
 cat > "$scratch/turns.py" << 'END'
 import os, resource, subprocess, sys, time

@@ -1,13 +1,12 @@
 #!/bin/sh
 # Reading run codes: nanoseconds for each code by bp_codes' index, by a plain scan of its rows, and by a table
-# in C over the same bits. The checksums of equal runs must agree. Build the program first: `rt run -- codes
-# white index 1` in crates/bp_bench.
+# in C over the same bits. The checksums of equal runs must agree. Needs rt on PATH and gcc.
 set -eu
-here="$(cd "$(dirname "$0")" && pwd)"
-bench="$here/../crates/bp_bench/out/bp_bench"
-tables="$here/../crates/bp_codes/src/tables.rt"
-scratch="$(mktemp -d)"
-trap 'rm -rf "$scratch"' EXIT
+here=$(CDPATH='' cd -- "$(dirname -- "$0")" && pwd)
+. "$here/../trials/common.sh"
+tables=$top/crates/bp_codes/src/tables.rt
+make_scratch
+build_bench
 cc -O2 -o "$scratch/codes" "$here/codes.c"
 
 now() { date +%s%N; }

@@ -5,21 +5,17 @@
 # which share nothing. At most 1.5 times their time is wanted. What one process takes for them, and what the system takes to make as many files
 # of those sizes, by a plain loop in C, is told beside.
 # Words: how many pages, 2,000 where none is given; rounds, 3; a folder for what is written, a new one where none is given.
-# Needs the built program, rt on PATH, python3, gcc, taskset (Debian: util-linux).
+# Needs rt on PATH, python3, gcc, taskset (Debian: util-linux).
 set -eu
 here=$(CDPATH='' cd -- "$(dirname -- "$0")" && pwd)
-program=$here/../crates/bp_main/out/bp_main
-bench=$here/../crates/bp_bench/out/bp_bench
+. "$here/../trials/common.sh"
 pages=${1:-2000}
 rounds=${2:-3}
 export GLIBC_TUNABLES="${GLIBC_TUNABLES-glibc.pthread.stack_cache_size=200000000}" # as the launcher sets it
 [ ! -w /dev/shm ] || export TMPDIR="${TMPDIR:-/dev/shm}"
-scratch=${3:-$(mktemp -d)}
-mkdir -p "$scratch"
-trap 'rm -rf "$scratch"' EXIT
-
-[ -x "$program" ] || { echo "demo.sh: the program isn't built: ./tivrenan build" >&2; exit 1; }
-(cd "$here/../crates/bp_bench" && rt run -- codes white index 1) > "$scratch/build.log" 2>&1 || { cat "$scratch/build.log"; exit 1; }
+if [ -n "${3-}" ]; then mkdir -p "$3" && scratch=$3; else make_scratch; fi
+build
+build_bench
 
 cat > "$scratch/once.sh" << END
 #!/bin/sh

@@ -8,10 +8,13 @@
     demo_model.py days                  the lines of crates/bp_days/data/demo.txt
 """
 import hashlib
+import os
 import pathlib
 import sys
 
-import fuzz_pages
+sys.dont_write_bytecode = True
+sys.path.insert(0, os.path.join(os.path.dirname(os.path.abspath(__file__)), "..", "trials"))
+import fuzz_pages  # noqa: E402
 
 WIDTH, HEIGHT, WORDS = 850, 1100, 40
 DESIGNATION, VOLUME, PREFIX = "CONFIDENTIAL", "DEMO", "DM-"

@@ -6,11 +6,10 @@
 # A word: how many documents, 10,000 where none is given, which is the most that a matter has. Needs rt on PATH and python3.
 set -eu
 here=$(CDPATH='' cd -- "$(dirname -- "$0")" && pwd)
-bench=$here/../crates/bp_bench/out/bp_bench
+. "$here/../trials/common.sh"
 docs=${1:-10000}
-scratch=$(mktemp -d)
-trap 'rm -rf "$scratch"' EXIT
-(cd "$here/../crates/bp_bench" && rt run -- codes white index 1) > "$scratch/build.log" 2>&1 || { cat "$scratch/build.log"; exit 1; }
+make_scratch
+build_bench
 
 # job, documents: the seconds of one
 one_of() {

@@ -7,13 +7,11 @@
 # A word: how many letter pages, 200 where none is given. Needs rt on PATH, python3 and tiffcp (Debian: libtiff-tools).
 set -eu
 here=$(CDPATH='' cd -- "$(dirname -- "$0")" && pwd)
-bench=$here/../crates/bp_bench/out/bp_bench
-letter=$here/../examples/letter.tif
+. "$here/../trials/common.sh"
 pages=${1:-200}
-command -v tiffcp > /dev/null || { echo "import.sh: needs tiffcp (Debian: libtiff-tools)" >&2; exit 1; }
-scratch=$(mktemp -d)
-trap 'rm -rf "$scratch"' EXIT
-(cd "$here/../crates/bp_bench" && rt run -- codes white index 1) > "$scratch/build.log" 2>&1 || { cat "$scratch/build.log"; exit 1; }
+need libtiff-tools tiffcp
+make_scratch
+build_bench
 
 # the files of an almost white page of 64 by 32 pixels, uncompressed, and of a white one of 20,000 by 10,000, of which a row is a bit 1 in T.6
 python3 - "$scratch" << 'END'

@@ -12,19 +12,15 @@
 # Needs rt on PATH where the program isn't built; python3, gcc, valgrind, libsqlite3-dev, and 2 GB of room.
 set -eu
 here=$(CDPATH='' cd -- "$(dirname -- "$0")" && pwd)
-crate=$here/../crates/bp_timing
-timing=$crate/out/bp_timing
+. "$here/../trials/common.sh"
 rounds=${1:-3}
 scratch=$(mktemp -d ${2:+-p "$2"})
-trap 'rm -rf "$scratch"' EXIT
 room=$scratch/room
 file=$room/matter.db
 
-stop() { echo "keep_sql.sh: $1" >&2; exit 1; }
-
-(cd "$crate" && rt run -- code_page "$here/../examples/letter.tif" 1) > "$scratch/build.log" 2>&1 ||
-    stop "$(tail -n 3 "$scratch/build.log")"
-echo '#include <sqlite3.h>' | cc -E - > /dev/null 2>&1 || stop "needs sqlite3.h (Debian: libsqlite3-dev)"
+build_crate bp_timing code_page "$letter" 1
+timing=$built
+need_header sqlite3.h libsqlite3-dev
 cc -O2 -o "$scratch/keep_peer" "$here/keep_peer.c" -lsqlite3
 
 echo "in ms of the processor, and on the clock          keeper      statements         sqlite3   keeper / statements   statements / sqlite3"

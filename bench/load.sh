@@ -2,13 +2,12 @@
 # Reading load files: bp_load beside plain loops in C over the same bytes (load.c), in one interleaved run. A
 # reading's time is that of a run with many readings, less that of a run with one (which also makes the file and
 # the checksum); printed are the medians of seven rounds, and the median ratio of a round. The checksums must
-# agree. The program is built by `rt run` in crates/bp_bench.
+# agree. Needs rt on PATH and gcc.
 set -eu
-here="$(cd "$(dirname "$0")" && pwd)"
-bench="$here/../crates/bp_bench/out/bp_bench"
-scratch="$(mktemp -d)"
-trap 'rm -rf "$scratch"' EXIT
-(cd "$here/../crates/bp_bench" && rt run -- dat 1 1) > "$scratch/build.log" 2>&1 || { cat "$scratch/build.log"; exit 1; }
+here=$(CDPATH='' cd -- "$(dirname -- "$0")" && pwd)
+. "$here/../trials/common.sh"
+make_scratch
+build_bench
 cc -O2 -o "$scratch/load" "$here/load.c"
 
 now() { date +%s%N; }
@@ -27,7 +26,7 @@ compare() {
         echo "$1: the checksums differ: $ours by bp_load, $theirs by the loop in C"
         exit 1
     fi
-    for round in 1 2 3 4 5 6 7; do
+    for _ in 1 2 3 4 5 6 7; do
         echo "$(time_of "$bench" "$1" "$2" "$3") $(time_of "$scratch/load" "$1" "$2" "$3")"
     done > "$scratch/rounds"
     awk -v job="$1" -v size="$2" -v sum="$ours" '

@@ -7,12 +7,10 @@
 # Needs rt on PATH and python3.
 set -eu
 here=$(CDPATH='' cd -- "$(dirname -- "$0")" && pwd)
-bench=$here/../crates/bp_bench/out/bp_bench
-letter=$here/../examples/letter.tif
+. "$here/../trials/common.sh"
 pages=${1:-450}
-scratch=$(mktemp -d)
-trap 'rm -rf "$scratch"' EXIT
-(cd "$here/../crates/bp_bench" && rt run -- matter - 1 1 1) > "$scratch/build.log" 2>&1 || { cat "$scratch/build.log"; exit 1; }
+make_scratch
+build_bench
 
 "$bench" matter "$letter" "$pages" 1 1 > "$scratch/run.log" 2>&1 || { cat "$scratch/run.log"; exit 1; }
 

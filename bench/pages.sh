@@ -13,20 +13,17 @@
 set -eu
 [ $# -eq 1 ] || { echo "usage: pages.sh FOLDER" >&2; exit 1; }
 here=$(CDPATH='' cd -- "$(dirname -- "$0")" && pwd)
+. "$here/../trials/common.sh"
 
-for tool in groff gs ppmforge pamditherbw pbmtext pnmtile python3; do
-    command -v "$tool" > /dev/null ||
-        { echo "pages.sh: needs $tool (Debian: groff, ghostscript, netpbm, python3)" >&2; exit 1; }
-done
+need 'groff, ghostscript, netpbm, python3' groff gs ppmforge pamditherbw pbmtext pnmtile python3
 
 mkdir -p "$1"
 cd "$1"
-scratch=$(mktemp -d)
-trap 'rm -rf "$scratch"' EXIT
+make_scratch
 
-plain_page() { pamtopnm | python3 "$here/plain_page.py" 300; }
+plain_page() { pamtopnm | python3 "$top/trials/plain_page.py" 300; }
 
-tifftopnm -quiet "$here/../examples/letter.tif" > "$scratch/letter.pbm"
+tifftopnm -quiet "$letter" > "$scratch/letter.pbm"
 plain_page < "$scratch/letter.pbm" > letter.tif
 
 groff -t -Tps -P-pletter "$here/form.roff" |

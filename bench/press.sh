@@ -9,19 +9,13 @@
 # Needs rt on PATH, python3, and of Debian netpbm.
 set -eu
 here=$(CDPATH='' cd -- "$(dirname -- "$0")" && pwd)
-bench=$here/../crates/bp_bench/out/bp_bench
-letter=$here/../examples/letter.tif
+. "$here/../trials/common.sh"
 pages=${1:-100}
 rounds=${2:-3}
 
-stop() { echo "press.sh: $1" >&2; exit 1; }
-
-for tool in pbmmake pbmtext pnmcat pnmpaste pamtotiff tifftopnm pamcut python3; do
-    command -v "$tool" > /dev/null || stop "needs $tool (Debian: netpbm, python3)"
-done
-scratch=$(mktemp -d)
-trap 'rm -rf "$scratch"' EXIT
-(cd "$here/../crates/bp_bench" && rt run -- codes white index 1) > "$scratch/build.log" 2>&1 || { cat "$scratch/build.log"; exit 1; }
+need 'netpbm, python3' pbmmake pbmtext pnmcat pnmpaste pamtotiff tifftopnm pamcut python3
+make_scratch
+build_bench
 
 words=300
 out=$scratch/out

@@ -10,14 +10,11 @@
 # Needs rt on PATH, python3.
 set -eu
 here=$(CDPATH='' cd -- "$(dirname -- "$0")" && pwd)
-bench=$here/../crates/bp_bench/out/bp_bench
+. "$here/../trials/common.sh"
 letters=${1:-400} smalls=${2:-2000} rounds=${3:-3}
 
-stop() { echo "receive.sh: $1" >&2; exit 1; }
-
-scratch=$(mktemp -d)
-trap 'rm -rf "$scratch"' EXIT
-(cd "$here/../crates/bp_bench" && rt run -- codes white index 1) > "$scratch/build.log" 2>&1 || { cat "$scratch/build.log"; exit 1; }
+make_scratch
+build_bench
 
 # the path: the length of the reply is that of the file and of its head
 same_length() {
@@ -47,5 +44,5 @@ over() {
             printf "%s of %d %s: once %.4f s, a hundred times %.4f s, %.2f times (at most 2)\n", path, n, called, once, hundred, hundred / once }'
     done
 }
-over 'letter pages' "$here/../examples/letter.tif" "$letters" 300
+over 'letter pages' "$letter" "$letters" 300
 over 'small pages' - "$smalls" 0

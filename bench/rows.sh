@@ -13,18 +13,14 @@
 # made already can stand in a folder, whose whole path is in PAGES.
 set -eu
 here=$(CDPATH='' cd -- "$(dirname -- "$0")" && pwd)
-crate=$here/../crates/bp_timing
-timing=$crate/out/bp_timing
+. "$here/../trials/common.sh"
 rounds=${1:-7}
 [ $# -eq 0 ] || shift
 [ $# -gt 0 ] || set -- letter form white halftone dithered random
-scratch=$(mktemp -d)
-trap 'rm -rf "$scratch"' EXIT
+make_scratch
 
-stop() { echo "rows.sh: $1" >&2; exit 1; }
-
-(cd "$crate" && rt run -- code_page "$here/../examples/letter.tif" 1) > "$scratch/build.log" 2>&1 ||
-    stop "$(tail -n 3 "$scratch/build.log")"
+build_crate bp_timing code_page "$letter" 1
+timing=$built
 cc -O2 -shared -fPIC -o "$scratch/heap_peak.so" "$here/heap_peak.c"
 pages=${PAGES:-$scratch/pages}
 [ -d "$pages" ] || "$here/pages.sh" "$pages"

@@ -13,22 +13,15 @@
 # Needs rt on PATH where a program isn't built; python3, curl, gcc, libsqlite3-dev, and the port 48201 free.
 set -eu
 here=$(CDPATH='' cd -- "$(dirname -- "$0")" && pwd)
-top=$here/..
-crate=$top/crates/bp_serving_time
-timing=$crate/out/bp_serving_time
-letter=$top/examples/letter.tif
+. "$here/../trials/common.sh"
 rounds=${1:-5} count=${2:-9999} pages=${3:-100} commits=${4:-200}
-docs=10000 port=48201
+docs=10000
 scratch=$(mktemp -d ${5:+-p "$5"})
-desk=
-trap '[ -z "$desk" ] || kill "$desk" 2> /dev/null || :; rm -rf "$scratch"' EXIT
 
-stop() { echo "serve.sh: $1" >&2; exit 1; }
-
-(cd "$crate" && rt run -- read "$crate/data/request" 1) > "$scratch/build.log" 2>&1 || stop "$(tail -n 3 "$scratch/build.log")"
-"$top/tivrenan" build > "$scratch/build.log" 2>&1 || stop "$(tail -n 3 "$scratch/build.log")"
-program=$top/crates/bp_main/out/bp_main
-echo '#include <sqlite3.h>' | cc -E - > /dev/null 2>&1 || stop "needs sqlite3.h (Debian: libsqlite3-dev)"
+build_crate bp_serving_time read "$top/crates/bp_serving_time/data/request" 1
+timing=$built
+build
+need_header sqlite3.h libsqlite3-dev
 cc -O2 -o "$scratch/keep_peer" "$here/keep_peer.c" -lsqlite3
 for each in bare client; do cc -O2 -o "$scratch/serve_$each" "$here/serve_$each.c"; done
 
@@ -81,8 +74,7 @@ awk -v desk="$(median "$scratch/pages")" -v bare="$(median "$scratch/bare_pages"
 
 room=$scratch/room
 mkdir "$room"
-ln -s "$(cd "$top/examples/CVI_001" && pwd)" "$room/CVI_001"
-digest() { printf %s "$1" | sha256sum | cut -c1-64; }
+ln -s "$batch" "$room/CVI_001"
 (cd "$room" && "$program" init "$(digest 'the key of the lead')" && "$program" import CVI_001) > "$scratch/made" 2>&1 ||
     stop "the matter isn't made: $(cat "$scratch/made")"
 (cd "$room" && exec "$program" serve 1 1) > "$scratch/served" 2>&1 &

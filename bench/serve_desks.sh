@@ -11,18 +11,13 @@
 # Needs rt on PATH where the program isn't built; python3, gcc, and those ports free.
 set -eu
 here=$(CDPATH='' cd -- "$(dirname -- "$0")" && pwd)
-top=$here/..
-crate=$top/crates/bp_serving_time
-timing=$crate/out/bp_serving_time
+. "$here/../trials/common.sh"
 rounds=${1:-5} count=${2:-16000} pages=${3:-320}
-docs=10000 port=48201
-scratch=$(mktemp -d)
-desk=
-trap '[ -z "$desk" ] || kill "$desk" 2> /dev/null || :; rm -rf "$scratch"' EXIT
+docs=10000
+make_scratch
 
-stop() { echo "serve_desks.sh: $1" >&2; exit 1; }
-
-(cd "$crate" && rt run -- read "$crate/data/request" 1) > "$scratch/build.log" 2>&1 || stop "$(tail -n 3 "$scratch/build.log")"
+build_crate bp_serving_time read "$top/crates/bp_serving_time/data/request" 1
+timing=$built
 cc -O2 -o "$scratch/serve_client" "$here/serve_client.c"
 
 . "$here/serve_requests.sh"
@@ -70,7 +65,6 @@ idle() {
 # the median of a file's numbers
 median() { sort -n "$1" | awk '{ row[NR] = $1 } END { print (row[int((NR + 1) / 2)] + row[int(NR / 2) + 1]) / 2 }'; }
 
-letter=$top/examples/letter.tif
 for _ in $(seq "$rounds"); do
     round "$scratch/calls_1" 1 1 "$count" "$scratch/call" - "$docs"
     round "$scratch/calls_16" 16 16 "$count" "$scratch/call" - "$docs"

@@ -2,13 +2,12 @@
 # Words and pages: bp_text and bp_burn beside plain loops in C over the same input (text.c), in one interleaved run. A
 # turn's time is that of a run with many turns, less that of a run with one (which also makes the input and the checksum);
 # printed are the medians of seven rounds, and the median ratio of a round. The checksums of words and of kept words must
-# agree; the page in C has no text in its band. The program is built by `rt run` in crates/bp_bench.
+# agree; the page in C has no text in its band. Needs rt on PATH and gcc.
 set -eu
-here="$(cd "$(dirname "$0")" && pwd)"
-bench="$here/../crates/bp_bench/out/bp_bench"
-scratch="$(mktemp -d)"
-trap 'rm -rf "$scratch"' EXIT
-(cd "$here/../crates/bp_bench" && rt run -- words 1 1) > "$scratch/build.log" 2>&1 || { cat "$scratch/build.log"; exit 1; }
+here=$(CDPATH='' cd -- "$(dirname -- "$0")" && pwd)
+. "$here/../trials/common.sh"
+make_scratch
+build_bench
 cc -O2 -o "$scratch/text" "$here/text.c"
 
 now() { date +%s%N; }
@@ -29,7 +28,7 @@ compare() {
         echo "$title: the checksums differ: $ours by the crate, $theirs by the loop in C"
         exit 1
     fi
-    for round in 1 2 3 4 5 6 7; do
+    for _ in 1 2 3 4 5 6 7; do
         echo "$(time_of "$bench" "$turns" "$@") $(time_of "$scratch/text" "$turns" "$@")"
     done > "$scratch/rounds"
     awk -v title="$title" '

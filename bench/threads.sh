@@ -11,23 +11,17 @@
 # Needs rt on PATH, python3, gcc, taskset (Debian: util-linux), and of Debian netpbm.
 set -eu
 here=$(CDPATH='' cd -- "$(dirname -- "$0")" && pwd)
-bench=$here/../crates/bp_bench/out/bp_bench
-letter=$here/../examples/letter.tif
+. "$here/../trials/common.sh"
 pages=${1:-2000}
 rounds=${2:-3}
 processors=$(nproc)
 words=300
 
-stop() { echo "threads.sh: $1" >&2; exit 1; }
-
-for tool in taskset tifftopnm python3; do
-    command -v "$tool" > /dev/null || stop "needs $tool"
-done
+need 'util-linux, netpbm, python3' taskset tifftopnm python3
 export GLIBC_TUNABLES="${GLIBC_TUNABLES-glibc.pthread.stack_cache_size=200000000}" # as the launcher sets it
 [ ! -w /dev/shm ] || export TMPDIR="${TMPDIR:-/dev/shm}"
-scratch=$(mktemp -d)
-trap 'rm -rf "$scratch"' EXIT
-(cd "$here/../crates/bp_bench" && rt run -- codes white index 1) > "$scratch/build.log" 2>&1 || { cat "$scratch/build.log"; exit 1; }
+make_scratch
+build_bench
 out=$scratch/out
 tifftopnm -quiet "$letter" > "$scratch/letter.pbm"
 
@@ -45,7 +39,7 @@ awk -v n="$pages" -v p="$processors" -v time="$1" -v one="$2" -v all="$5" -v spe
         one / all, one / all / p, 1000 * spent / n }'
 
 cc -O2 -o "$scratch/threads" "$here/threads.c" -lpthread
-for round in $(seq "$rounds"); do "$scratch/threads" "$(awk -v one="$one" -v n="$pages" 'BEGIN { print 1000 * one / n }')" 30; done | sort -n > "$scratch/plain"
+for _ in $(seq "$rounds"); do "$scratch/threads" "$(awk -v one="$one" -v n="$pages" 'BEGIN { print 1000 * one / n }')" 30; done | sort -n > "$scratch/plain"
 awk -v one="$one" -v all="$all" '{ best = $1 } NR == 1 { least = $1 } END {
     printf "as many threads of a plain C program for jobs of the same time: %.2f to %.2f times as fast as one; press %.2f of the best\n",
         least, best, one / all / best }' "$scratch/plain"

@@ -13,18 +13,15 @@
 # Needs rt on PATH where the program isn't built; python3.
 set -eu
 here=$(CDPATH='' cd -- "$(dirname -- "$0")" && pwd)
-crate=$here/../crates/bp_serving_time
-timing=$crate/out/bp_serving_time
-letter=$here/../examples/letter.tif
+. "$here/../trials/common.sh"
+usual=$top/crates/bp_serving_time/data/request
 rounds=${1:-5} percent=${2:-100}
-scratch=$(mktemp -d)
-trap 'rm -rf "$scratch"' EXIT
+make_scratch
 
-stop() { echo "web_speed.sh: $1" >&2; exit 1; }
+build_crate bp_serving_time read "$usual" 1
+timing=$built
 
-(cd "$crate" && rt run -- read "$crate/data/request" 1) > "$scratch/build.log" 2>&1 || stop "$(tail -n 3 "$scratch/build.log")"
-
-python3 - "$crate/data/request" "$scratch" << 'END'
+python3 - "$usual" "$scratch" << 'END'
 import json
 import sys
 
@@ -45,7 +42,7 @@ def request(name, more):
 request("string", {"note": "x" * 1048480})
 request("members", {f"m{at:06}": at for at in range(66220)})
 END
-cp "$crate/data/request" "$scratch/usual"
+cp "$usual" "$scratch/usual"
 
 # the times of some commands, one a line: few jobs, many, the commands parted by --
 timed() {

@@ -7,19 +7,10 @@
 # Needs rt on PATH where the program isn't built; curl, python3, and Debian's sqlite3, libtiff-tools and netpbm.
 set -eu
 here=$(CDPATH='' cd -- "$(dirname -- "$0")" && pwd)
-for tool in curl python3 sqlite3 tifftopnm; do
-    command -v "$tool" > /dev/null || { echo "office.sh: needs $tool" >&2; exit 1; }
-done
-tivrenan=$here/../tivrenan
+. "$here/../trials/common.sh"
+need 'curl, python3, sqlite3, netpbm' curl python3 sqlite3 tifftopnm
 "$tivrenan" build
-
-room=$here/out/office
-rm -rf "$room"
-mkdir -p "$room"
-ln -s "$here/CVI_001" "$room/CVI_001"
-cd "$room"
-
-. "$here/commands.sh"
+enter_room "$here/out/office"
 
 # gives a command, behind which the log has been copied into matter.db: it has its header alone, and no page
 closes() {
@@ -30,26 +21,7 @@ closes() {
 lead='the key of the lead' reviewer='the key of Ellis' second='the key of Marlow'
 
 # The desk takes so many connections, each with one request, and then ends.
-port=48201 connections=26 desk=
-# the desk leads a group of its own, so that the launcher and the program below it are ended together
-trap '[ -z "$desk" ] || kill -- "-$desk" 2> /dev/null || :' EXIT
-trap 'exit 130' INT
-trap 'exit 143' TERM
-
-# status and body that are due, key, what curl is given more: method and target, and the body of a POST
-ask() {
-    wanted=$1 due=$2 key=$3 method=$4 target=$5
-    shift 5
-    body=${1-}
-    echo "$method $target $body"
-    set -- -s --retry 20 --retry-connrefused --retry-delay 1 -H "Desk-Key: $key" -w '\n%{http_code}'
-    case $method in POST) set -- "$@" --data-binary "$body" ;; esac
-    told=$(curl "$@" "http://127.0.0.1:$port$target") || stop "no reply"
-    echo "    $(echo "$told" | tail -n 1) $(echo "$told" | sed '$d')"
-    [ "$told" = "$due
-$wanted" ] || stop "what was due: $wanted $due"
-}
-done='{"done":true}'
+connections=26
 
 # document, responsive, treatment, designation
 decide() {
@@ -74,9 +46,7 @@ closes 2 'refused 42 MatterThere 0 0 0' init "$(digest "$lead")"
 closes 0 'batch CVI_001 documents 12 pages 31' import CVI_001
 closes 2 'refused 26 Unsettled 0 1 0' produce R-1 VOL001 ABC 8 1 12 AUTHOR
 
-echo "\$ tivrenan serve 1 $connections"
-setsid "$tivrenan" serve 1 "$connections" > served 2> /dev/null &
-desk=$!
+open_desk serve 1 "$connections"
 
 ask 200 '{"staff":2}' "$lead" POST /staff "{\"name\":\"Ellis\",\"role\":\"Reviewer\",\"digest\":\"$(digest "$reviewer")\"}"
 ask 200 '{"staff":3}' "$lead" POST /staff "{\"name\":\"Marlow\",\"role\":\"Second\",\"digest\":\"$(digest "$second")\"}"
@@ -85,7 +55,7 @@ ask 200 '{"staff":3}' "$lead" POST /staff "{\"name\":\"Marlow\",\"role\":\"Secon
 uncalled='"designation":"","doc":3,"editor":0,"entry":null,"held":[],"pages":5,"parent":1,"responsive":false,"treatment":"Produce"'
 ask 200 "{\"boxes\":[],\"confirmer\":0,$uncalled}" "$reviewer" GET /docs/3
 echo 'GET /docs/3/pages/1'
-curl -s -H "Desk-Key: $reviewer" "http://127.0.0.1:$port/docs/3/pages/1" > seen.tif
+fetch "$reviewer" /docs/3/pages/1 > seen.tif
 scan=CVI_001/$(awk -F , '$4 == "Y" { doc++ } doc == 3 { gsub(/\\/, "/", $3); print $3; exit }' CVI_001/load.opt)
 tifftopnm "$scan" > scan.pnm 2> /dev/null
 tifftopnm seen.tif 2> /dev/null | cmp - scan.pnm || stop "the page isn't the scan"
@@ -113,21 +83,18 @@ entry 3 2019-03-04 Ng 'Ortiz, Berg' 'Letter asking counsel for advice on the lea
 entry 10 2019-05-02 Berg Ng 'Note quoting counsel'
 
 # a reviewer may not confirm, a second person may
-ask 403 '{"a":0,"b":0,"line":0,"name":"RoleRefused","rule":12}' "$reviewer" POST /docs/3/confirm '{}'
+ask 403 "$(broken 12 RoleRefused)" "$reviewer" POST /docs/3/confirm '{}'
 ask 200 "$done" "$second" POST /docs/3/confirm '{}'
 ask 200 "$done" "$second" POST /docs/5/confirm '{}'
 ask 200 "$done" "$second" POST /docs/10/confirm '{}'
 
-wait "$desk" || stop "the desk ended with $?"
-desk=
-cat served
-[ "$(cat served)" = "served $connections" ] || stop "the desk took another number of calls"
+closed "served $connections"
 
 volume='production R-1 labels ABC00000001 to ABC00000023 files 37 manifest '
 closes 0 "$volume*" produce R-1 VOL001 ABC 8 1 12 AUTHOR
 line=$told
 [ "${line#"$volume"}" = "$(sha256sum < out/VOL001/MANIFEST.TXT | cut -c1-64)" ] || stop "the manifest has another digest"
-"$here/check_volume.py" out
+"$top/trials/check_volume.py" out
 closes 0 "$line" press R-1
 closes 0 '*Note quoting counsel*' log R-1
 

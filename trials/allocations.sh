@@ -6,12 +6,14 @@
 # Words: the form to read and the one to write, plain or g4; `plain` where none is given. A third: how many allocations each run goes on.
 # Needs rt; each run compiles the whole program, which takes minutes.
 set -eu
-cd "$(dirname "$0")/../crates/bp_main"
+here=$(CDPATH='' cd -- "$(dirname -- "$0")" && pwd)
+. "$here/common.sh"
+cd "$top/crates/bp_main"
 from=${1:-plain} to=${2:-plain} step=${3:-1}
 case $to in
     plain) length=187 ;;
     g4) length=204 ;;
-    *) echo "allocations.sh: the form is plain or g4" >&2; exit 1 ;;
+    *) stop "the form is plain or g4" ;;
 esac
 
 # a page of 8 by 1 pixels: the white one of the stored run, or a black one in Group 4
@@ -20,11 +22,11 @@ black_in_g4() {
     printf '\6' && tail -c +128 data/a.tif | head -c 59 && printf '\046\242\200\010\000\200'
 }
 
-trap 'rm -f a.tif' EXIT
+trap 'rm -f a.tif; leave' EXIT
 case $from in
     plain) cp data/a.tif a.tif ;;
     g4) black_in_g4 > a.tif ;;
-    *) echo "allocations.sh: the form is plain or g4" >&2; exit 1 ;;
+    *) stop "the form is plain or g4" ;;
 esac
 
 at=1

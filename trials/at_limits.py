@@ -24,7 +24,9 @@ import time
 
 sys.dont_write_bytecode = True
 HERE = os.path.dirname(os.path.abspath(__file__))
-sys.path.insert(0, os.path.join(HERE, "..", "tools", "tests"))
+BENCH = os.path.join(HERE, "..", "bench")
+for folder in (os.path.join(HERE, "..", "tools", "tests"), BENCH):
+    sys.path.insert(0, folder)
 import apart
 import demo_model
 import fuzz_batch as batches
@@ -658,7 +660,7 @@ def journal(room):
     room.fresh()
     days.write_rows(room.folder, matters.rows_of(matter))
     client, request = os.path.join(room.folder, "client"), os.path.join(room.folder, "request")
-    subprocess.run(["cc", "-O2", "-o", client, os.path.join(HERE, "serve_client.c")], check=True)
+    subprocess.run(["cc", "-O2", "-o", client, os.path.join(BENCH, "serve_client.c")], check=True)
     data = f"GET /docs/1 HTTP/1.1\r\nDesk-Key: {KEY}\r\n\r\n".encode()
     room.write("request", data)
     half = 1048576 // 2

@@ -6,20 +6,17 @@
 # Needs rt on PATH where the program isn't built; python3, and Debian's libtiff-tools and netpbm.
 set -eu
 here=$(CDPATH='' cd -- "$(dirname -- "$0")" && pwd)
-for tool in python3 tiffcp pnmtotiff sha256sum; do
-    command -v "$tool" > /dev/null || { echo "check.sh: needs $tool" >&2; exit 1; }
-done
-tivrenan=$here/../tivrenan
+. "$here/common.sh"
+need 'python3, libtiff-tools, netpbm' python3 tiffcp pnmtotiff sha256sum
 "$tivrenan" build
 
-volumes=$here/out/office/out
-[ -e "$volumes/VOL001/MANIFEST.TXT" ] || "$here/office.sh" > /dev/null
-"$here/checked_volumes.py" "$volumes" "$here/../crates/bp_main/out/bp_main"
+office=$top/examples/out/office
+[ -e "$office/out/VOL001/MANIFEST.TXT" ] || "$top/examples/office.sh" > /dev/null
+"$here/checked_volumes.py" "$office/out" "$program"
 
-room=$(mktemp -d)
-trap 'rm -rf "$room"' EXIT
-cp -r "$volumes/VOL001" "$room"
-cd "$room"
+make_scratch
+cp -r "$office/out/VOL001" "$scratch"
+cd "$scratch"
 data=VOL001/DATA/VOL001
 cp $data.OPT whole.opt
 cp $data.DAT whole.dat
@@ -32,8 +29,8 @@ told() {
     case $said in
         *"$due"*) printf 'told: %s\n' "$due" ;;
         *)
-            printf 'check.sh: the launcher said: %s\nand not: %s\n' "$said" "$due" >&2
-            exit 1
+            stop "the launcher said: $said
+and not: $due"
             ;;
     esac
     cp whole.opt $data.OPT
@@ -143,11 +140,11 @@ explained ': its paths begin in another folder' list.txt
 
 # of words, where there is a matter
 mkdir LET_001
-cp "$here/out/office/matter.db" .
+cp "$office/matter.db" .
 told 'Nothing was written.' import LET_001/
 told 'the name has no / at its end, which a shell puts there: tivrenan import LET_001' import LET_001/
 told 'go to the folder that it lies in, or move it here' import scans/LET_001
-cp -r "$here/CVI_001" .
+cp -r "$batch" .
 mv CVI_001/load.dat CVI_001/LOAD.DAT
 told 'there is CVI_001/LOAD.DAT: capitals and small letters differ' import CVI_001
 mv CVI_001/LOAD.DAT CVI_001/load.dat

@@ -1,7 +1,7 @@
 #!/usr/bin/env python3
 """Reads a batch by the rules of an import, written here once more, and prints what it found in each document.
 
-Words: the batch's folder; without it CVI_001, beside this file. Ends with status 1 and one line at the first rule that
+Words: the batch's folder; without it examples/CVI_001. Ends with status 1 and one line at the first rule that
 is broken, in the order in which an import is to test them: the name, load.dat, load.opt, the breaks between documents,
 the families, words.csv, each image, the words on their pages. A rule stands with its number and name. Then come what a
 vendor's files say beside the rules (ENDDOC, ENDATTACH, PGCOUNT, pages in load.opt), and that no other images lie there.
@@ -334,7 +334,7 @@ def main():
     if len(sys.argv) > 2:
         sys.exit("usage: check_batch.py [FOLDER]")
     own = len(sys.argv) == 1
-    folder = os.path.join(os.path.dirname(os.path.abspath(__file__)), "CVI_001") if own else sys.argv[1]
+    folder = os.path.join(os.path.dirname(os.path.abspath(__file__)), "..", "examples", "CVI_001") if own else sys.argv[1]
     name = os.path.basename(os.path.abspath(folder))
     if not re.fullmatch("[A-Za-z0-9_-]{1,32}", name):
         refuse("63 PathRefused", name, "a batch's name is 1 to 32 of A-Z, a-z, 0-9, - and _")

@@ -1,7 +1,7 @@
 #!/usr/bin/env python3
 """Opens a volume by public readers, and looks in it for what the example batch withholds.
 
-Words: the folder that has the volume VOL001; the folder of the batch CVI_001 is beside this file. Ends with status 1 and
+Words: the folder that has the volume VOL001; the batch is examples/CVI_001. Ends with status 1 and
 one line at the first thing that isn't as it should be. What is expected stands here and in the batch, and nowhere in the
 product: which documents are withheld, which boxes and fields are covered, and the load files and the log line by line.
 
@@ -38,7 +38,7 @@ LOG = (
     "ABC00000016,ABC00000019,Redacted,AC,2019-05-02,Berg,Ng,Note quoting counsel\n"
 )
 HERE = os.path.dirname(os.path.abspath(__file__))
-BATCH = os.path.join(HERE, "CVI_001")
+BATCH = os.path.join(HERE, "..", "examples", "CVI_001")
 
 
 def fail(why):

@@ -4,7 +4,7 @@ volumes that other tools wrote (Python's csv, netpbm, libtiff) and that are righ
 refuses, each by its name.
 
 Words: the folder that has the volume VOL001, and the program. Ends with status 1 where a line or a status is another. With
---model in place of the program, bench/check_model.py is asked.
+--model in place of the program, trials/check_model.py is asked.
 
 Needs sha256sum, Debian's netpbm and libtiff-tools.
 """
@@ -18,7 +18,7 @@ import sys
 import tempfile
 
 HERE = os.path.dirname(os.path.abspath(__file__))
-MODEL = [sys.executable, os.path.join(HERE, "..", "bench", "check_model.py"), "check", "."]
+MODEL = [sys.executable, os.path.join(HERE, "check_model.py"), "check", "."]
 QUOTE, BETWEEN, MARK = "\u00fe", "\u0014", "\ufeff"
 
 

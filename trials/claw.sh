@@ -6,14 +6,12 @@
 # Needs rt on PATH where the program isn't built; python3, and Debian's sqlite3 and netpbm.
 set -eu
 here=$(CDPATH='' cd -- "$(dirname -- "$0")" && pwd)
-for tool in python3 sqlite3 tifftopnm sha256sum; do
-    command -v "$tool" > /dev/null || { echo "claw.sh: needs $tool" >&2; exit 1; }
-done
-tivrenan=$here/../tivrenan
+. "$here/common.sh"
+need 'python3, sqlite3, netpbm' python3 sqlite3 tifftopnm sha256sum
 "$tivrenan" build
 
-office=$here/out/office
-[ -e "$office/out/VOL001/MANIFEST.TXT" ] || "$here/office.sh" > /dev/null
+office=$top/examples/out/office
+[ -e "$office/out/VOL001/MANIFEST.TXT" ] || "$top/examples/office.sh" > /dev/null
 room=$here/out/claw
 rm -rf "$room"
 mkdir -p "$room"
@@ -21,21 +19,6 @@ cp -r "$office/matter.db" "$office/out" "$room"
 cp "$here/claw_notice.csv" "$room/notice.csv"
 cd "$room"
 
-stop() { echo "claw.sh: $1" >&2; exit 1; }
-
-# status, printed line (as a pattern), words
-run() {
-    wanted=$1 line=$2
-    shift 2
-    echo "\$ tivrenan $*"
-    status=0
-    told=$("$tivrenan" "$@" 2> /dev/null) || status=$?
-    echo "$told"
-    # shellcheck disable=SC2254 # the line is a pattern
-    case $status,$told in "$wanted",$line) ;; *) stop "ended with $status, and not with $wanted and '$line'" ;; esac
-}
-
-rows() { sqlite3 matter.db 'SELECT * FROM kept ORDER BY kind, k1, k2' | sha256sum; }
 before=$(rows)
 
 replacement='replacement VOL001B labels ABC00000001 to ABC00000023 files 37 manifest '
@@ -69,4 +52,4 @@ run 2 'refused 54 FileAbsent 0 0 0' claw R-1 VOL001B none.csv
 run 2 'refused 63 PathRefused 0 0 0' claw R-1 VOL001B ../notice.csv
 [ ! -e out/VOL003 ] || stop "a refused notice left files"
 [ "$(rows)" = "$before" ] || stop "the rows of the matter changed"
-echo 'the replacement stands in examples/out/claw/out/VOL001B, and is as it should be'
+echo 'the replacement stands in trials/out/claw/out/VOL001B, and is as it should be'

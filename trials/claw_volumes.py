@@ -1,7 +1,7 @@
 #!/usr/bin/env python3
 """Looks by public readers at a volume and at its replacement after a notice (FRCP 26(b)(5)(B)).
 
-Words: the folder that has the volumes VOL001 and VOL001B, and the notice. The batch CVI_001 is beside this file. Ends with
+Words: the folder that has the volumes VOL001 and VOL001B, and the notice. The batch is examples/CVI_001. Ends with
 status 1 and one line at the first thing that isn't as it should be: the same paths under the other name; images and texts
 of documents that the notice doesn't name equal byte for byte; a sheet under each label of the others, pixel by pixel the
 one that the volume has for a document that was withheld, but for its label; DAT, OPT and log; and no word of a named
@@ -23,7 +23,7 @@ FIRST_IMAGE = 4182
 # the label of a sheet that the volume has, and the rows of its sheet above the label
 SHEET, ROWS = "ABC00000006", 2200
 HERE = os.path.dirname(os.path.abspath(__file__))
-WORDS = os.path.join(HERE, "CVI_001", "words.csv")
+WORDS = os.path.join(HERE, "..", "examples", "CVI_001", "words.csv")
 
 
 def fail(why):

@@ -4,18 +4,17 @@
 # in the two cases of permissions (Debian's setpriv).
 set -eu
 here=$(CDPATH='' cd -- "$(dirname -- "$0")" && pwd)
-command -v sqlite3 > /dev/null || { echo "clerk.sh: needs sqlite3 (Debian's package)" >&2; exit 1; }
-"$here/../tivrenan" build
-built=$here/../crates/bp_main/out/bp_main
+. "$here/common.sh"
+need sqlite3 sqlite3
+"$tivrenan" build
 
-room=$(mktemp -d)
-trap 'chmod -R u+w "$room"; rm -rf "$room"' EXIT
-chmod 755 "$room"
-cp "$built" "$room/program"
-program=$room/program
-mkdir "$room/whole"
-cd "$room/whole"
-"$program" init "$(printf 'the key of the lead' | sha256sum | cut -c1-64)" > /dev/null
+make_scratch
+chmod 755 "$scratch"
+cp "$program" "$scratch/program"
+program=$scratch/program
+mkdir "$scratch/whole"
+cd "$scratch/whole"
+"$program" init "$(digest 'the key of the lead')" > /dev/null
 
 cases=0 failed=0
 # name, status, line; in a folder `case` that was furnished
@@ -36,10 +35,10 @@ check() {
 }
 
 furnish() {
-    chmod -R u+w "$room/case" 2> /dev/null || :
-    rm -rf "$room/case"
-    cp -r "$room/whole" "$room/case"
-    cd "$room/case"
+    chmod -R u+w "$scratch/case" 2> /dev/null || :
+    rm -rf "$scratch/case"
+    cp -r "$scratch/whole" "$scratch/case"
+    cd "$scratch/case"
 }
 
 as=

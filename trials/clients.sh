@@ -11,28 +11,16 @@
 # Needs rt on PATH where the program isn't built; curl, python3, and Debian's sqlite3.
 set -eu
 here=$(CDPATH='' cd -- "$(dirname -- "$0")" && pwd)
-for tool in curl python3 sqlite3; do
-    command -v "$tool" > /dev/null || { echo "clients.sh: needs $tool" >&2; exit 1; }
-done
-tivrenan=$here/../tivrenan
+. "$here/common.sh"
+need 'curl, python3, sqlite3' curl python3 sqlite3
 "$tivrenan" build
-
-room=$(mktemp -d)
-desk=
-# the desk leads a group of its own, so that the launcher and the program below it are ended together
-trap '[ -z "$desk" ] || kill -- "-$desk" 2> /dev/null || :; rm -rf "$room"' EXIT
-trap 'exit 130' INT
-trap 'exit 143' TERM
-ln -s "$here/CVI_001" "$room/CVI_001"
-cd "$room"
-stop() { echo "clients.sh: $1" >&2; exit 1; }
+make_scratch
+enter_room "$scratch/matter"
 
 key='k'
-"$tivrenan" init "$(printf %s "$key" | sha256sum | cut -c1-64)" > /dev/null
-"$tivrenan" import CVI_001 > /dev/null
-connections=17
-setsid "$tivrenan" serve 1 $connections > served 2> /dev/null &
-desk=$!
+run 0 'matter made' init "$(digest "$key")"
+run 0 'batch *' import CVI_001
+open_desk serve 1 17
 
 cat > clients.py << 'END'
 """The clients that curl can't be. Words: port, key, way. Prints the status of the reply and the number of its rule, if any."""
@@ -113,40 +101,40 @@ expect() {
 }
 
 # the status of a reply to curl, and the number of its rule, if any
-ask() {
+status_of() {
     target=$1
     shift
-    code=$(curl -s --retry 20 --retry-connrefused --retry-delay 1 -o body -w '%{http_code}' "$@" "http://127.0.0.1:48201$target")
+    code=$(curl -s --retry 20 --retry-connrefused --retry-delay 1 -o body -w '%{http_code}' "$@" "http://127.0.0.1:$port$target")
     echo "$code $(sed -n 's/.*"rule":\([0-9]*\).*/\1/p' body)"
 }
-raw() { python3 clients.py 48201 "$key" "$1"; }
+raw() { python3 clients.py "$port" "$key" "$1"; }
 
 # designation, more of the body
 body() { printf '{"responsive":true,"treatment":"Produce","designation":"%s"%s}' "$1" "${2-}"; }
 
 held="Desk-Key: $key"
 padding=$(printf '%4000s' '' | tr ' ' x)
-expect '200 ' 'curl' ask /docs/1/call -H "$held" --data-binary "$(body 'BY CURL')"
-expect '200 ' 'curl, Expect' ask /docs/2/call -H "$held" -H 'Expect: 100-continue' --data-binary "$(body 'BY EXPECT' ",\"note\":\"$padding\"")"
-expect '200 ' 'curl, HTTP/1.0' ask /docs/3/call -H "$held" --http1.0 --data-binary "$(body 'BY HTTP-1.0')"
-expect '400 102' 'curl, chunked' ask /docs/6/call -H "$held" -H 'Transfer-Encoding: chunked' --data-binary "$(body 'BY CHUNKS')"
+expect '200 ' 'curl' status_of /docs/1/call -H "$held" --data-binary "$(body 'BY CURL')"
+expect '200 ' 'curl, Expect' status_of /docs/2/call -H "$held" -H 'Expect: 100-continue' --data-binary "$(body 'BY EXPECT' ",\"note\":\"$padding\"")"
+expect '200 ' 'curl, HTTP/1.0' status_of /docs/3/call -H "$held" --http1.0 --data-binary "$(body 'BY HTTP-1.0')"
+expect '400 102' 'curl, chunked' status_of /docs/6/call -H "$held" -H 'Transfer-Encoding: chunked' --data-binary "$(body 'BY CHUNKS')"
 head -c 1048577 /dev/zero | tr '\0' ' ' > long
-expect '413 103' 'curl, too long a body' ask /docs/6/call -H "$held" -H 'Expect:' --data-binary @long
-expect '401 104' 'curl, no key' ask /docs/6/call --data-binary "$(body 'BY NOBODY')"
-expect '401 9' 'curl, an unknown key' ask /docs/6/call -H 'Desk-Key: another' --data-binary "$(body 'BY ANOTHER')"
-expect '404 105' 'curl, no document 0' ask /docs/0 -H "$held"
-expect '404 10' 'curl, no document 13' ask /docs/13 -H "$held"
+expect '413 103' 'curl, too long a body' status_of /docs/6/call -H "$held" -H 'Expect:' --data-binary @long
+expect '401 104' 'curl, no key' status_of /docs/6/call --data-binary "$(body 'BY NOBODY')"
+expect '401 9' 'curl, an unknown key' status_of /docs/6/call -H 'Desk-Key: another' --data-binary "$(body 'BY ANOTHER')"
+expect '404 105' 'curl, no document 0' status_of /docs/0 -H "$held"
+expect '404 10' 'curl, no document 13' status_of /docs/13 -H "$held"
 expect '200 ' 'http.client' raw http.client
 expect '400 102' 'head alone' raw ends
 expect 'closed' 'head alone, and closes' raw closes
 expect '400 101' 'garbage' raw garbage
 expect '400 101' 'too many fields' raw fields
 expect '200 ' 'a byte a second' raw slow
-expect '200 ' 'curl, a page' ask /docs/1/pages/1 -H "$held"
-expect '200 ' 'curl again' ask /docs/12/call -H "$held" --data-binary "$(body 'BY CURL AGAIN')"
+expect '200 ' 'curl, a page' status_of /docs/1/pages/1 -H "$held"
+expect '200 ' 'curl again' status_of /docs/12/call -H "$held" --data-binary "$(body 'BY CURL AGAIN')"
 
 wait "$desk" || { echo "clients.sh: the desk ended with $?" >&2; failed=1; }
-desk=
+desk=''
 # the history has each call that was read: 5 decisions, 2 of documents and pages seen, 2 that a rule refused
 expect 'served 9' 'the desk' cat served
 

@@ -4,31 +4,24 @@
 # Ends with a status other than 0 where they differ. Words: the form to write, plain where none is given.
 # Needs netpbm (Debian's netpbm).
 set -eu
-cd "$(dirname "$0")"
+here=$(CDPATH='' cd -- "$(dirname -- "$0")" && pwd)
+. "$here/common.sh"
+need netpbm tifftopnm pamcut pbmmake pnmpaste
+make_scratch
+cd "$scratch"
+cp "$letter" .
 
-stop() { echo "compare.sh: $1" >&2; exit 1; }
+left=320 row=1755 width=1910 height=370
+"$tivrenan" burn letter.tif $left $row $width $height redacted.tif "${1:-plain}"
 
-for tool in tifftopnm pamcut pbmmake pnmpaste; do
-    command -v "$tool" > /dev/null || stop "needs $tool (Debian: netpbm)"
-done
+tifftopnm -quiet letter.tif > letter.pbm
+tifftopnm -quiet out/redacted.tif > redacted.pbm
+pbmmake -black $width $height > box.pbm
 
-scratch=$(mktemp -d)
-trap 'rm -rf "$scratch"' EXIT
-
-left=320 top=1755 width=1910 height=370
-../tivrenan burn letter.tif $left $top $width $height redacted.tif "${1:-plain}"
-
-tifftopnm -quiet letter.tif > "$scratch/letter.pbm"
-tifftopnm -quiet out/redacted.tif > "$scratch/redacted.pbm"
-pbmmake -black $width $height > "$scratch/box.pbm"
-
-pamcut -left $left -top $top -width $width -height $height "$scratch/redacted.pbm" | cmp - "$scratch/box.pbm" ||
-    stop "a pixel of the box is not black"
+pamcut -left $left -top $row -width $width -height $height redacted.pbm | cmp - box.pbm || stop "a pixel of the box is not black"
 
 # the same black box in both pages leaves what stands outside it
-for page in letter redacted; do
-    pnmpaste "$scratch/box.pbm" $left $top "$scratch/$page.pbm" > "$scratch/$page.outside.pbm"
-done
-cmp "$scratch/letter.outside.pbm" "$scratch/redacted.outside.pbm" || stop "a pixel outside the box differs"
+for page in letter redacted; do pnmpaste box.pbm $left $row $page.pbm > $page.outside.pbm; done
+cmp letter.outside.pbm redacted.outside.pbm || stop "a pixel outside the box differs"
 
-echo "out/redacted.tif: black in the box, equal to letter.tif outside it"
+echo "redacted.tif: black in the box, equal to letter.tif outside it"

@@ -1,68 +1,23 @@
 #!/bin/sh
-# What the other side gets, over a matter in examples/out/deliver: the lead makes the matter, takes the batch CVI_001 in, calls
+# What the other side gets, over a matter in trials/out/deliver: the lead makes the matter, takes the batch CVI_001 in, calls
 # each document and produces them twice, as R-1 and R-2. `deliver` opens a door with no grant; the lead grants R-1 to the
 # receiver, who lists what is granted and takes all of its files by curl, and each is compared with the volume. Then it asks for
 # what isn't its own, and is refused: the other production, one that isn't there, a path that isn't there, a document, a grant.
 # Each command is a process of its own. Needs rt on PATH where the program isn't built; curl.
 set -eu
 here=$(CDPATH='' cd -- "$(dirname -- "$0")" && pwd)
-command -v curl > /dev/null || { echo "deliver.sh: needs curl" >&2; exit 1; }
-tivrenan=$here/../tivrenan
+. "$here/common.sh"
+need curl curl
 "$tivrenan" build
-
-room=$here/out/deliver
-rm -rf "$room"
-mkdir -p "$room"
-ln -s "$here/CVI_001" "$room/CVI_001"
-cd "$room"
-
-desk=
-trap '[ -z "$desk" ] || kill "$desk" 2> /dev/null || :' EXIT
-. "$here/commands.sh"
+enter_room "$here/out/deliver"
 
 lead='the key of the lead' second='the key of Marlow' receiver='the key of the other side'
-port=48201
-
-# words: opens a door
-open() {
-    echo "\$ tivrenan $*"
-    "$tivrenan" "$@" > told 2> /dev/null &
-    desk=$!
-}
-
-# line: waits until the door is closed
-closed() {
-    wait "$desk" || stop "the desk ended with $?"
-    desk=
-    cat told
-    [ "$(cat told)" = "$1" ] || stop "what was due: $1"
-}
-
-# key, target, what curl is given more
-fetch() {
-    key=$1 target=$2
-    shift 2
-    curl -s --retry 20 --retry-connrefused --retry-delay 1 -H "Desk-Key: $key" "$@" "http://127.0.0.1:$port$target" || stop "no reply"
-}
-
-# status and body that are due, key, method, target, body of a POST
-ask() {
-    wanted=$1 due=$2 asked=$4 at=$5
-    case $asked in POST) told=$(fetch "$3" "$at" -w '\n%{http_code}' --data-binary "$6") ;; *) told=$(fetch "$3" "$at" -w '\n%{http_code}') ;; esac
-    echo "$asked $at ${6-}"
-    echo "    $(echo "$told" | tail -n 1) $(echo "$told" | sed '$d')"
-    [ "$told" = "$due
-$wanted" ] || stop "what was due: $wanted $due"
-}
-done='{"done":true}'
-# number, name: how a broken rule is told
-broken() { printf '{"a":0,"b":0,"line":0,"name":"%s","rule":%s}' "$2" "$1"; }
 
 run 0 'matter made' init "$(digest "$lead")"
 run 0 'batch CVI_001 documents 12 pages 31' import CVI_001
 
 # The lead takes in who confirms and who receives, and calls the documents; the third is withheld.
-open serve 1 17
+open_desk serve 1 17
 ask 200 '{"staff":2}' "$lead" POST /staff "{\"name\":\"Marlow\",\"role\":\"Second\",\"digest\":\"$(digest "$second")\"}"
 ask 200 '{"staff":3}' "$lead" POST /staff "{\"name\":\"Hale LLP\",\"role\":\"Receiver\",\"digest\":\"$(digest "$receiver")\"}"
 for doc in 1 2 4 5 6 7 8 9 10 11 12; do
@@ -91,7 +46,7 @@ run 2 'refused 54 FileAbsent 0 0 0' deliver 1 other.csv
 files=$(cd out && find VOL001 -type f | LC_ALL=C sort)
 count=$(echo "$files" | wc -l)
 connections=$((count + 12))
-open deliver "$connections" grants.csv
+open_desk deliver "$connections" grants.csv
 ask 200 '[]' "$receiver" GET /granted
 ask 403 "$(broken 12 RoleRefused)" "$receiver" POST /grants '{"staff":3,"id":"R-1"}'
 ask 409 "$(broken 130 NotReceiver)" "$lead" POST /grants '{"staff":2,"id":"R-1"}'
@@ -117,9 +72,9 @@ closed "delivered $connections"
 
 # A grant stood for that run alone; those of a file stand from the opening.
 printf '3,R-2\n' > grants.csv
-open deliver 3 grants.csv
+open_desk deliver 3 grants.csv
 ask 404 "$(broken 33 NoProduction)" "$receiver" GET /granted/R-1/VOL001/MANIFEST.TXT
 fetch "$receiver" /granted/R-2/VOL002/MANIFEST.TXT | cmp - out/VOL002/MANIFEST.TXT || stop "the manifest is another"
 ask 404 "$(broken 33 NoProduction)" "$receiver" GET /granted/R-9/VOL001/MANIFEST.TXT
 closed 'delivered 3'
-echo 'the receiver has the volume in examples/out/deliver/taken, and nothing else'
+echo 'the receiver has the volume in trials/out/deliver/taken, and nothing else'

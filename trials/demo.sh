@@ -1,22 +1,18 @@
 #!/bin/sh
-# A trial without anybody's papers: `demo 7 200` draws a matter of 200 pages, freezes it and writes its volume, below examples/out/demo.
+# A trial without anybody's papers: `demo 7 200` draws a matter of 200 pages, freezes it and writes its volume, below trials/out/demo.
 # Run in two empty folders it prints one line, which is that of a plain model of the generator in Python (bench/demo_model.py), and
 # writes the same files; `press DEMO` prints it again, a second `demo` is refused. `check` passes the volume. Then ten seeds with
 # numbers of pages, of which the model gives the lines with the digests of the manifests, and what a demo can't be asked.
 # Needs rt on PATH where the program isn't built; python3. Takes under two minutes.
 set -eu
 here=$(CDPATH='' cd -- "$(dirname -- "$0")" && pwd)
-for tool in python3 sha256sum; do
-    command -v "$tool" > /dev/null || { echo "demo.sh: needs $tool" >&2; exit 1; }
-done
-tivrenan=$here/../tivrenan
-model=$here/../bench/demo_model.py
+. "$here/common.sh"
+need python3 python3 sha256sum
 "$tivrenan" build
+model=$top/bench/demo_model.py
 
 room=$here/out/demo
 rm -rf "$room"
-
-. "$here/commands.sh"
 
 # a new empty folder of this name
 enter() {

@@ -38,9 +38,7 @@ import threading
 import time
 
 sys.dont_write_bytecode = True
-here = os.path.dirname(os.path.abspath(__file__))
-sys.path.insert(0, here)
-sys.path.insert(0, os.path.join(here, "..", "bench"))
+sys.path.insert(0, os.path.dirname(os.path.abspath(__file__)))
 import desks_batch  # noqa: E402
 import review_model  # noqa: E402
 import t6_model  # noqa: E402

@@ -5,5 +5,6 @@
 # Needs rt on PATH where the program isn't built; python3, and the ports 48201 to 48216 free.
 set -eu
 here=$(CDPATH='' cd -- "$(dirname -- "$0")" && pwd)
-"$here/../tivrenan" build > /dev/null
-exec python3 "$here/desks.py" "$here/../crates/bp_main/out/bp_main" 16 4 "${1:-100000}" "${2:-1}"
+. "$here/common.sh"
+build
+exec python3 "$here/desks.py" "$program" 16 4 "${1:-100000}" "${2:-1}"

@@ -6,8 +6,7 @@ import random
 import sys
 
 sys.dont_write_bytecode = True
-here = os.path.dirname(os.path.abspath(__file__))
-sys.path.insert(0, os.path.join(here, "..", "bench"))
+sys.path.insert(0, os.path.dirname(os.path.abspath(__file__)))
 from plain_page import plain_page  # noqa: E402
 
 SIZES = [(64, 40), (65, 33), (100, 12), (7, 5), (33, 64)]

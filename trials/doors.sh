@@ -16,22 +16,18 @@
 # Needs curl and python3; rt on PATH where the job isn't built.
 set -eu
 here=$(CDPATH='' cd -- "$(dirname -- "$0")" && pwd)
-crate=$here/../crates/bp_timing
-timing=$crate/out/bp_timing
-port=48201
+. "$here/common.sh"
+need 'curl, python3' curl python3
+timing=$top/crates/bp_timing/out/bp_timing
 url=http://127.0.0.1:$port/
-scratch=$(mktemp -d)
-door=
-trap '[ -z "$door" ] || kill "$door" 2> /dev/null || :; rm -rf "$scratch"' EXIT
+make_scratch
 
-stop() { echo "doors.sh: $1" >&2; exit 1; }
-
-if [ ! -x "$timing" ] || [ -n "$(find "$here/../crates" -name '*.rt' -newer "$timing")" ]; then
+if [ ! -x "$timing" ] || [ -n "$(find "$top/crates" -name '*.rt' -newer "$timing")" ]; then
     if [ "${1-}" = built ]; then
         echo "doors.sh: real peers at a door NOT TRIED: bp_timing isn't built from the sources as they stand"
         exit 0
     fi
-    (cd "$crate" && rt run -- code_page "$here/letter.tif" 1) > "$scratch/build.log" 2>&1 || stop "$(tail -n 3 "$scratch/build.log")"
+    build_crate bp_timing code_page "$letter" 1
 fi
 failed=0
 
@@ -78,7 +74,7 @@ sys.stdout.write(body.decode().rstrip("\n"))
 END
 
 "$timing" door 1 8 > "$scratch/said" 2> "$scratch/errors" &
-door=$!
+desk=$!
 # the port is there a little after the start
 for _ in 1 2 3 4 5 6 7 8 9 10; do
     if curl -s -A curl "$url" > "$scratch/first"; then break; fi
@@ -93,8 +89,8 @@ expect "$(raw ends)" "8 bytes came" "ends early"
 expect "$(raw nothing)" "" "sends nothing"
 expect "$(raw megabyte)" "65536 bytes came" "sends first"
 expect "$(curl -s -A curl "$url")" "72 bytes came" "curl again"
-wait "$door" || stop "the door ended with another status than 0: $(cat "$scratch/errors")"
-door=
+wait "$desk" || stop "the door ended with another status than 0: $(cat "$scratch/errors")"
+desk=''
 echo "The door said:"
 sed 's/^/    /' "$scratch/said"
 exit "$failed"

@@ -7,7 +7,8 @@
 # the jobs' sizes, 100 (percent) where there is none. Ends with 1 where a case differed.
 set -u
 here=$(CDPATH='' cd -- "$(dirname -- "$0")" && pwd)
-crates=${CRATES:-$here/../crates}
+. "$here/common.sh"
+crates=${CRATES:-$top/crates}
 keep=$1 rounds=${2:-1} seed=${3:-1} part=${4:-100}
 mkdir -p "$keep"
 failed=0
@@ -24,7 +25,7 @@ while [ "$seed" -le "$last" ]; do
         for job in burn:3000 check:3000 batch:1500 matter:3000 file:1500; do
             go python3 "$here/fuzz.py" "${job%:*}" "$program" $((${job#*:} * part / 100)) "$seed" "$keep"
         done
-        go python3 -c "$own_network" "$here/../tools/tests" python3 "$here/fuzz.py" day "$program" $((2000 * part / 100)) "$seed" "$keep"
+        go python3 -c "$own_network" "$top/tools/tests" python3 "$here/fuzz.py" day "$program" $((2000 * part / 100)) "$seed" "$keep"
         go python3 "$here/fuzz_desks.py" "$program" $((4000 * part / 100)) "$seed" "$keep"
     fi
     if has bp_lines "$seed"; then

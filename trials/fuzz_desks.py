@@ -29,8 +29,7 @@ import time
 
 sys.dont_write_bytecode = True
 HERE = os.path.dirname(os.path.abspath(__file__))
-for folder in (os.path.join(HERE, "..", "tools", "tests"), os.path.join(HERE, "..", "examples")):
-    sys.path.insert(0, folder)
+sys.path.insert(0, os.path.join(HERE, "..", "tools", "tests"))
 import apart  # noqa: E402
 import desks  # noqa: E402
 import desks_batch  # noqa: E402

@@ -7,25 +7,27 @@
 # where none is named: bp_lines bp_web_lines bp_check_lines. Needs rt; to compile one takes a minute on a quiet machine.
 set -eu
 here=$(CDPATH='' cd -- "$(dirname -- "$0")" && pwd)
-top=$1 count=${2:-1000} seed=${3:-1}
+. "$here/common.sh"
+[ $# -gt 0 ] || stop "usage: fuzz_try.sh FOLDER [COUNT] [SEED] [PROGRAM ..]"
+folder=$1 count=${2:-1000} seed=${3:-1}
 shift; [ $# = 0 ] || shift; [ $# = 0 ] || shift
 [ $# != 0 ] || set -- bp_lines bp_web_lines bp_check_lines
-mkdir "$top"
-top=$(cd "$top" && pwd)
+mkdir "$folder"
+folder=$(cd "$folder" && pwd)
 failed=0
 for program in "$@"; do
     case $program in
         bp_lines) jobs="tiff strips pages loads words names" ;;
         bp_web_lines) jobs=requests ;;
         bp_check_lines) jobs=volumes ;;
-        *) echo "fuzz_try.sh: no program of lines is named $program" >&2; exit 1 ;;
+        *) stop "no program of lines is named $program" ;;
     esac
-    lines=$top/$program
+    lines=$folder/$program
     for job in $jobs; do
         python3 "$here/fuzz.py" "$job" - "$count" "$seed" "$lines"
     done
     made=$(find "$lines" -name '*.txt' | wc -l)
-    (cd "${CRATES:-$here/../crates}/$program" && rt try --cases "$lines" -- case) > "$lines.said" 2>&1 || failed=1
+    (cd "${CRATES:-$top/crates}/$program" && rt try --cases "$lines" -- case) > "$lines.said" 2>&1 || failed=1
     right=$(grep -c '^[0-9]* lines, 0 of them told otherwise$' "$lines.said" || :)
     echo "$program: $made files, $right of them told rightly; $(tail -n 1 "$lines.said")"
     [ "$right" = "$made" ] || failed=1

@@ -5,26 +5,20 @@
 # Needs rt on PATH where the program isn't built; netpbm (Debian's netpbm) and python3. With strace (Debian: strace) also
 # tries a disk that fails.
 set -eu
-cd "$(dirname "$0")"
-top=$(cd .. && pwd)
-built=$top/crates/bp_main/out/bp_main
-
-scratch=$(mktemp -d)
-trap 'rm -rf "$scratch"' EXIT
-
-for tool in tifftopnm python3; do
-    command -v "$tool" > /dev/null || { echo "refusals.sh: needs $tool (Debian: netpbm, python3)" >&2; exit 1; }
-done
-
-"$top/tivrenan" build > /dev/null 2>&1 || { echo "refusals.sh: the program can't be built" >&2; exit 1; }
+here=$(CDPATH='' cd -- "$(dirname -- "$0")" && pwd)
+. "$here/common.sh"
+need 'netpbm, python3' tifftopnm python3
+build
+built=$program
+make_scratch
 
 # What the folder holds: a page of 8 by 1 pixels, all white, also in a folder; the letter page in Group 4, and plain.
 # Beside it: the white page with all of it burned, and the letter page with its first pixel burned.
 mkdir -p "$scratch/files/a"
 cp "$top/crates/bp_main/data/a.tif" "$scratch/files/white.tif"
 cp "$top/crates/bp_main/data/a.tif" "$scratch/files/a/b.tif"
-cp letter.tif "$scratch/files/letter.tif"
-tifftopnm -quiet letter.tif | python3 "$top/bench/plain_page.py" 300 > "$scratch/files/plain.tif"
+cp "$letter" "$scratch/files/letter.tif"
+tifftopnm -quiet "$letter" | python3 "$here/plain_page.py" 300 > "$scratch/files/plain.tif"
 cd "$scratch"
 { head -c 186 files/white.tif; printf '\377'; } > black.tif
 { head -c 186 files/plain.tif; printf '\200'; tail -c +188 files/plain.tif; } > pixel.tif

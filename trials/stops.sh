@@ -4,20 +4,15 @@
 # For `produce` each document of the example batch is called Produce by rows that python3 writes, without a desk.
 # Words: how often each, 100 where there is none. Needs rt on PATH where the program isn't built; sqlite3 and python3.
 set -eu
-times=${1:-100}
 here=$(CDPATH='' cd -- "$(dirname -- "$0")" && pwd)
-for tool in sqlite3 python3; do
-    command -v "$tool" > /dev/null || { echo "stops.sh: needs $tool" >&2; exit 1; }
-done
-"$here/../tivrenan" build
-program=$here/../crates/bp_main/out/bp_main
+. "$here/common.sh"
+need 'sqlite3, python3' sqlite3 python3
+"$tivrenan" build
+times=${1:-100}
+make_scratch
+enter_room "$scratch/matter"
 
-room=$(mktemp -d)
-trap 'rm -rf "$room"' EXIT
-ln -s "$here/CVI_001" "$room/CVI_001"
-cd "$room"
-
-"$program" init "$(printf 'the key of the lead' | sha256sum | cut -c1-64)" > /dev/null
+"$program" init "$(digest 'the key of the lead')" > /dev/null
 mkdir begun decided
 cp matter.db* begun
 "$program" import CVI_001 > /dev/null
@@ -36,10 +31,8 @@ matter.close()
 END
 cp matter.db* decided
 
-rows() { sqlite3 matter.db 'SELECT kind, k1, k2, hex(body) FROM kept ORDER BY kind, k1, k2' | sha256sum; }
-
-# folder of the rows before, words of the command
-stop() {
+# folder of the rows before, words of the command: kills it so often
+kill_often() {
     from=$1
     shift
     rm -rf matter.db* out
@@ -62,16 +55,16 @@ stop() {
         wait "$process" 2> /dev/null || :
         # the program opens what is left
         line=$("$program" press NOBODY) || :
-        [ "$line" = 'refused 33 NoProduction 0 0 0' ] || { echo "stops.sh: $1, turn $turn: press says '$line'" >&2; exit 1; }
-        [ "$(sqlite3 matter.db 'PRAGMA integrity_check')" = ok ] || { echo "stops.sh: $1, turn $turn: not whole" >&2; exit 1; }
+        [ "$line" = 'refused 33 NoProduction 0 0 0' ] || stop "$1, turn $turn: press says '$line'"
+        [ "$(sqlite3 matter.db 'PRAGMA integrity_check')" = ok ] || stop "$1, turn $turn: not whole"
         case $(rows) in
             "$before") old=$((old + 1)) ;;
             "$after") new=$((new + 1)) ;;
-            *) echo "stops.sh: $1, turn $turn: other rows" >&2 && exit 1 ;;
+            *) stop "$1, turn $turn: other rows" ;;
         esac
     done
     echo "$1: $times times; $old times the rows from before, $new times those after it, never others"
 }
 
-stop begun import CVI_001
-stop decided produce R-1 VOL001 ABC 8 1 12
+kill_often begun import CVI_001
+kill_often decided produce R-1 VOL001 ABC 8 1 12

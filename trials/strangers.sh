@@ -12,28 +12,18 @@
 # and python3.
 set -eu
 here=$(CDPATH='' cd -- "$(dirname -- "$0")" && pwd)
-top=$here/..
-program=$top/crates/bp_main/out/bp_main
-
-stop() { echo "strangers.sh: $1" >&2; exit 1; }
-
+. "$here/common.sh"
 magick=$(command -v convert-im6 || command -v magick || command -v convert) || stop "needs convert (Debian: imagemagick)"
-for tool in tiffcp tiffset tiffinfo ppm2tiff fax2tiff tifftopnm pnmtotiff pbmtog3 pnmpaste groff gs python3 /usr/bin/time; do
-    command -v "$tool" > /dev/null ||
-        stop "needs $tool (Debian: libtiff-tools, netpbm, groff, ghostscript, python3, time)"
-done
-
-# the launcher builds the program; these words are no command line
-"$top/tivrenan" build > /dev/null 2>&1 || stop "the program can't be built"
-
-scratch=$(mktemp -d)
-trap 'rm -rf "$scratch"' EXIT
+need 'libtiff-tools, netpbm, groff, ghostscript, python3, time' \
+    tiffcp tiffset tiffinfo ppm2tiff fax2tiff tifftopnm pnmtotiff pbmtog3 pnmpaste groff gs python3 /usr/bin/time
+build
+make_scratch
 cd "$scratch"
 
 forms=0 failed=0
 
 # the box, in each page
-left=13 top=9 width=71 height=24
+left=13 row=9 width=71 height=24
 pbmmake -black $width $height > box.pbm
 
 differs() {
@@ -53,9 +43,9 @@ check() {
     forms=$((forms + 1))
     tifftopnm -quiet page.tif > page.pbm 2> /dev/null || { differs "the public reader can't read it"; return; }
     [ "$pixels" = - ] || cmp -s page.pbm "$pixels" || { differs "the public reader finds other pixels than went in"; return; }
-    pnmpaste box.pbm $left $top page.pbm > expected.pbm
+    pnmpaste box.pbm $left $row page.pbm > expected.pbm
     for form in plain g4; do
-        printed=$("$program" burn page.tif $left $top $width $height page.tif $form || :)
+        printed=$("$program" burn page.tif $left $row $width $height page.tif $form || :)
         if [ "$printed" != "burned $(wc -c < out/page.tif)" ]; then
             differs "to $form: printed '$printed'"
         elif ! tifftopnm -quiet out/page.tif | cmp -s - expected.pbm; then
@@ -159,8 +149,8 @@ by_hand() {
 }
 
 mkdir out first
-tifftopnm -quiet "$here/../examples/letter.tif" | pamcut -left 340 -top 1770 -width 611 -height 150 | pamtopnm > letter.pbm
-groff -t -Tps -P-pletter "$here/form.roff" |
+tifftopnm -quiet "$letter" | pamcut -left 340 -top 1770 -width 611 -height 150 | pamtopnm > letter.pbm
+groff -t -Tps -P-pletter "$top/bench/form.roff" |
     gs -q -dSAFER -dBATCH -dNOPAUSE -sDEVICE=pbmraw -r100 -g850x1100 -dFIXEDMEDIA -sOutputFile=- - |
     pamcut -left 90 -top 90 -width 608 -height 210 | pamtopnm > form.pbm
 python3 -c 'import random, sys

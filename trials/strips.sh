@@ -8,39 +8,33 @@
 # Needs rt on PATH where the program isn't built; of Debian gcc, libtiff-dev; and what pages.sh needs.
 set -eu
 here=$(CDPATH='' cd -- "$(dirname -- "$0")" && pwd)
-top=$here/..
-
-stop() { echo "strips.sh: $1" >&2; exit 1; }
-
+. "$here/common.sh"
 form=${1:-g4}
 if [ $# -gt 1 ]; then
     shift
 else
-    # the launcher builds the program; these words are no command line
-    "$top/tivrenan" build > /dev/null 2>&1 || stop "the program can't be built"
-    set -- "$top/crates/bp_main/out/bp_main" burn
+    build
+    set -- "$program" burn
 fi
 
-scratch=$(mktemp -d)
-trap 'rm -rf "$scratch"' EXIT
-
-echo '#include <tiffio.h>' | cc -E - > /dev/null 2>&1 || stop "needs tiffio.h (Debian: libtiff-dev)"
-cc -O2 -o "$scratch/burn_peer" "$here/burn_peer.c" -ltiff
+make_scratch
+need_header tiffio.h libtiff-dev
+cc -O2 -o "$scratch/burn_peer" "$top/bench/burn_peer.c" -ltiff
 cc -O2 -o "$scratch/strips" "$here/strips.c" -ltiff
 
 mkdir "$scratch/pages" "$scratch/pages/out" "$scratch/pages/peer"
 cd "$scratch/pages"
-"$here/pages.sh" .
+"$top/bench/pages.sh" .
 for page in letter form halftone dithered random white; do echo "$page.tif 2549 3299"; done > pages
 echo "large.tif 19999 9999" >> pages
 "$here/small_pages.py" . > small
 
 # a list of pages: burns each by both, and compares
 compare() {
-    while read -r page left top; do
-        "$burn" "$@" "$page" "$left" "$top" 1 1 "$page" "$form" > printed || stop "$burn failed on $page: $(cat printed)"
-        "$scratch/burn_peer" "$page" "$left" "$top" 1 1 "peer/$page" "$form" || stop "the peer failed on $page"
-        "$burn" "$@" "peer/$page" "$left" "$top" 1 1 "again/$page" "$form" > printed ||
+    while read -r page left row; do
+        "$burn" "$@" "$page" "$left" "$row" 1 1 "$page" "$form" > printed || stop "$burn failed on $page: $(cat printed)"
+        "$scratch/burn_peer" "$page" "$left" "$row" 1 1 "peer/$page" "$form" || stop "the peer failed on $page"
+        "$burn" "$@" "peer/$page" "$left" "$row" 1 1 "again/$page" "$form" > printed ||
             stop "$burn failed on the peer's $page: $(cat printed)"
     done < "$list"
     for folder in out out/again; do "$scratch/strips" "$folder" peer < "$list" || exit 1; done

@@ -1,14 +1,13 @@
 #!/bin/sh
-# Random requests: bench/web_model.py makes lines of requests, usual ones and damaged ones, with what its plain model says is
+# Random requests: web_model.py makes lines of requests, usual ones and damaged ones, with what its plain model says is
 # due, and the program bp_web_lines reads them. Prints how many were tried and which are told otherwise; ends with status 1
 # where one is. Words: how many, 100,000 where none is given, and a seed. Needs rt on PATH, and python3.
 set -eu
 here=$(CDPATH='' cd -- "$(dirname -- "$0")" && pwd)
-lines=$here/../crates/bp_web_lines
-scratch=$(mktemp -d)
-trap 'rm -rf "$scratch"' EXIT
-(cd "$lines" && rt run) > "$scratch/build.log" 2>&1 || { cat "$scratch/build.log" >&2; exit 1; }
+. "$here/common.sh"
+make_scratch
+build_crate bp_web_lines
 python3 "$here/web_model.py" make "${1:-100000}" "${2:-1}" > "$scratch/requests.txt"
 cd "$scratch"
-"$lines/out/bp_web_lines" requests.txt | tee "$scratch/told"
+"$built" requests.txt | tee "$scratch/told"
 grep -q " 0 of them told otherwise" "$scratch/told"

@@ -1,8 +1,8 @@
 #!/usr/bin/env python3
 """The page's reader of TIFF files beside libtiff (netpbm's tifftopnm), in a headless Chromium, pixel by pixel: every page
 file of the repository, the pages of bench/pages.sh plain and in Group 4 by tiffcp in five forms, the forms of
-bench/tiff_forms.py, and bench/hostile_files.py's with the refusals that are due. Then strips of codes by chance, which are
-read or refused as bench/t6_model.py does, and damaged files: what the page reads of one, libtiff reads too, and the refusals
+trials/tiff_forms.py, and trials/hostile_files.py's with the refusals that are due. Then strips of codes by chance, which are
+read or refused as trials/t6_model.py does, and damaged files: what the page reads of one, libtiff reads too, and the refusals
 are the model's or, where the program is given, its own.
 
     decoder.py SCRATCH [PROGRAM]
@@ -20,8 +20,8 @@ from chromium import Chromium
 
 HERE = os.path.dirname(os.path.abspath(__file__))
 TOP = os.path.dirname(os.path.dirname(HERE))
-BENCH = os.path.join(TOP, "bench")
-sys.path.insert(0, BENCH)
+TRIALS = os.path.join(TOP, "trials")
+sys.path.insert(0, TRIALS)
 sys.dont_write_bytecode = True
 import t6_model  # noqa: E402
 
@@ -228,7 +228,7 @@ def try_pages(trial):
 
 
 def try_bench_pages(trial):
-    made = subprocess.run([os.path.join(BENCH, "pages.sh"), trial.folder], capture_output=True, text=True, check=False)
+    made = subprocess.run([os.path.join(TOP, "bench", "pages.sh"), trial.folder], capture_output=True, text=True, check=False)
     if made.returncode != 0:
         print(f"the pages of bench/pages.sh: not tried: {made.stderr.strip()}")
         return
@@ -243,23 +243,23 @@ def try_bench_pages(trial):
 
 
 def try_forms(trial, page):
-    told = subprocess.run([os.path.join(BENCH, "tiff_forms.py"), trial.folder], input=page, capture_output=True, check=True)
+    told = subprocess.run([os.path.join(TRIALS, "tiff_forms.py"), trial.folder], input=page, capture_output=True, check=True)
     names = [name + ".tif" for name in told.stdout.decode().split()]
     for name in names:
         trial.whole(name)
-    print(f"{len(names)} forms of bench/tiff_forms.py", flush=True)
+    print(f"{len(names)} forms of trials/tiff_forms.py", flush=True)
 
 
 def try_hostile(trial):
-    told = subprocess.run([os.path.join(BENCH, "hostile_files.py"), trial.folder], capture_output=True, text=True, check=True)
+    told = subprocess.run([os.path.join(TRIALS, "hostile_files.py"), trial.folder], capture_output=True, text=True, check=True)
     for line in told.stdout.splitlines():
         name, due, _ = line.split("\t")
         trial.due(name, due)
-    print(f"{len(told.stdout.splitlines())} files of bench/hostile_files.py", flush=True)
+    print(f"{len(told.stdout.splitlines())} files of trials/hostile_files.py", flush=True)
 
 
 def plain_of(page):
-    words = [sys.executable, os.path.join(BENCH, "plain_page.py"), "300"]
+    words = [sys.executable, os.path.join(TRIALS, "plain_page.py"), "300"]
     return subprocess.run(words, input=page, capture_output=True, check=True).stdout
 
 
@@ -276,7 +276,7 @@ def try_by_chance(trial, plain):
         refused += due is not None
     trial.refused += refused
     trial.same += BY_CHANCE - refused
-    print(f"{BY_CHANCE} strips of codes by chance: {refused} refused, {BY_CHANCE - refused} read, as by bench/t6_model.py", flush=True)
+    print(f"{BY_CHANCE} strips of codes by chance: {refused} refused, {BY_CHANCE - refused} read, as by trials/t6_model.py", flush=True)
 
 
 def try_damaged(trial, plain, program):
@@ -300,7 +300,7 @@ def try_damaged(trial, plain, program):
             due = by_program
         trial.damaged(name, due)
     refused, read = trial.refused - before[0], trial.same - before[1]
-    by = "the program" if program else "bench/t6_model.py, of the damaged strips"
+    by = "the program" if program else "trials/t6_model.py, of the damaged strips"
     print(f"{DAMAGED} damaged files: {refused} refused, {read} read as libtiff does, {trial.alone} that it refuses; refusals as by {by}", flush=True)
 
 

@@ -1,7 +1,7 @@
 #!/usr/bin/env python3
 """A whole review by the page in a headless Chromium, behind nginx: the decisions of examples/office.sh made with keys and
 mouse, the second review, refusals, what a person does by mistake, and the production. Over the program, where it is given,
-`press` then writes the volume, and examples/check_volume.py looks at it; else over the stand-in.
+`press` then writes the volume, and trials/check_volume.py looks at it; else over the stand-in.
 
     review.py SCRATCH SHOTS [PROGRAM]     pictures of the screens go into the folder SHOTS
 """
@@ -487,9 +487,9 @@ def press(office):
     office.close_desk()
     line = office.run("press", "R-1")
     check("the volume is written", line.startswith("production R-1 labels ABC00000001 to ABC00000023 files 37 "), line)
-    told = subprocess.run([os.path.join(TOP, "examples", "check_volume.py"), "out"], cwd=office.folder, capture_output=True,
+    told = subprocess.run([os.path.join(TOP, "trials", "check_volume.py"), "out"], cwd=office.folder, capture_output=True,
                           text=True, check=False)
-    check("and is as examples/check_volume.py expects it", told.returncode == 0, told.stdout + told.stderr)
+    check("and is as trials/check_volume.py expects it", told.returncode == 0, told.stdout + told.stderr)
     again = office.run("produce", "R-1", "VOL001", "ABC", "8", "1", "12", "AUTHOR")
     check("`produce` with the same words gives the same", again == line, again)
 

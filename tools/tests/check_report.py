@@ -1,7 +1,7 @@
 #!/usr/bin/env python3
-"""Tries tools/check_report. Its first fault is what `tivrenan check` prints, over damaged volumes that bench/fuzz_check.py makes by a seed,
+"""Tries tools/check_report. Its first fault is what `tivrenan check` prints, over damaged volumes that trials/fuzz_check.py makes by a seed,
 with the built program, or, where it isn't built, with what the model there says; all faults are read, and none of the reports fails. Over
-the habits of examples/checked_volumes.py it says what is wrong and how to mend it. What no rule forbids is seen, and what nobody looks at
+the habits of trials/checked_volumes.py it says what is wrong and how to mend it. What no rule forbids is seen, and what nobody looks at
 is said. The page is HTML without a script, whose tags are closed.
 
     check_report.py [COUNT SEED]     so many damaged volumes, 100 where none is said, behind the other tests
@@ -19,7 +19,7 @@ import unittest
 sys.dont_write_bytecode = True
 HERE = os.path.dirname(os.path.abspath(__file__))
 TOP = os.path.dirname(os.path.dirname(HERE))
-for _folder in (HERE, os.path.join(TOP, "bench"), os.path.join(TOP, "examples"), os.path.join(TOP, "tools")):
+for _folder in (HERE, os.path.join(TOP, "trials"), os.path.join(TOP, "tools")):
     sys.path.insert(0, _folder)
 import check_model  # noqa: E402
 import checked_volumes  # noqa: E402

@@ -137,7 +137,7 @@ def split(around, room, pages):
     names = []
     for custodian in range(10):
         name = f"{room}/batches/CUST{custodian:02}"
-        subprocess.run([os.path.join(TOP, "examples/desks_batch.py"), name, str(pages * 10 // 174)], check=True)
+        subprocess.run([os.path.join(TOP, "trials/desks_batch.py"), name, str(pages * 10 // 174)], check=True)
         names.append(name)
     count = sum(sum(1 for _ in open(f"{name}/load.opt", encoding="ascii")) for name in names)
     print(f"{count} pages of ten custodians", flush=True)

@@ -1,6 +1,6 @@
 #!/usr/bin/env python3
 """Tries tools/make_batch: builds folders of PDFs by several programs and of TIFF scans in many forms, makes batches of them,
-and reads these by examples/check_batch.py and once more by python's csv and tiffinfo; the program takes each in, where it is
+and reads these by trials/check_batch.py and once more by python's csv and tiffinfo; the program takes each in, where it is
 built. Then gives it what it is to refuse,
 ends it while it works, and looks that nothing is left.
 
@@ -24,7 +24,7 @@ sys.dont_write_bytecode = True
 HERE = os.path.dirname(os.path.abspath(__file__))
 TOP = os.path.dirname(os.path.dirname(HERE))
 MAKE = os.path.join(TOP, "tools", "make_batch")
-CHECK = os.path.join(TOP, "examples", "check_batch.py")
+CHECK = os.path.join(TOP, "trials", "check_batch.py")
 SOURCES = os.path.join(TOP, "examples", "batch_sources")
 LETTER = os.path.join(TOP, "examples", "letter.tif")
 NEEDED = {

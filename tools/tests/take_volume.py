@@ -25,7 +25,7 @@ import vendors  # noqa: E402
 from vendors import sh  # noqa: E402
 
 TAKE, AS = (os.path.join(TOP, "tools", name) for name in ("take_volume", "volume_as"))
-MODEL = [sys.executable, os.path.join(TOP, "bench", "check_model.py"), "check", "."]
+MODEL = [sys.executable, os.path.join(TOP, "trials", "check_model.py"), "check", "."]
 NEEDED = {"gs": "ghostscript", "identify": "imagemagick", "img2pdf": "img2pdf", "tiffset": "libtiff-tools", "pamtotiff": "netpbm",
           "pdfimages": "poppler-utils", "tesseract": "tesseract-ocr"}
 BAND = 32

@@ -257,7 +257,7 @@ def drawn(pdf):
 
 
 def setUpModule():
-    sys.path.insert(0, os.path.join(TOP, "bench"))
+    sys.path.insert(0, os.path.join(TOP, "trials"))
     missing = sorted({package for tool, package in NEEDED.items() if not shutil.which(tool)})
     why = f"{', '.join(missing)} isn't installed (Debian's packages of these names)" if missing else matter_day.why_not()
     if why:

@@ -65,12 +65,12 @@ def command_of(name):
 
 
 def statuses():
-    """The rows of the first table of the page of statuses."""
+    """What the page of statuses says under the heading of each, but for what is printed; a row of a table as `command: what stands`."""
     lines = []
-    table = text_of("docs/STATUSES.md").split("\n\n")[2]
-    for row in table.splitlines()[2:]:
-        number, _, means = (cell.strip() for cell in re.split(r"(?<!\\)\|", row)[1:4])
-        lines += [".TP", f".B {number}", paragraph(means)]
+    for number, text in re.findall(r"^## (\d+): .*\n((?:(?!## ).*\n)*)", text_of("docs/STATUSES.md"), re.MULTILINE):
+        text = re.sub(r"^(Prints .*|\| (Command|---).*|\|---.*)\n", "", text, flags=re.MULTILINE)
+        text = re.sub(r"^\| (\S+) \| .* \| (.*) \|$", r"\1: \2.", text, flags=re.MULTILINE)
+        lines += [".TP", f".B {number}", paragraph(text)]
     own = {
         "126, 127": "The system could not start the program.",
         "128 and more": "A signal, by this number and 128, ended the program.",

@@ -1,6 +1,7 @@
 #!/bin/sh
 # Writes the table of rules in STATUSES.md from crates/bp_core/src/rules.rt: the numbers and names from its one
-# table, what each says from the comment of its variant.
+# table, what each says from the comment of its variant. With the word `check`, compares instead of writing, and ends
+# with status 1 where the table isn't what would be written.
 set -eu
 cd "$(dirname "$0")"
 
@@ -26,4 +27,8 @@ awk '
     { print }
     rules && /^[|]---/ { printf "%s", table }
 ' ../crates/bp_core/src/rules.rt STATUSES.md > "$scratch"
-cat "$scratch" > STATUSES.md
+if [ "${1-}" = check ]; then
+    cmp -s "$scratch" STATUSES.md || { echo "write_rules.sh: the table of rules isn't what would be written: run docs/write_rules.sh" >&2; exit 1; }
+else
+    cat "$scratch" > STATUSES.md
+fi

@@ -9,10 +9,11 @@ columns() {
     echo "$width"
 }
 
-# The text of the page of statuses between two headings, without its marks; each row of a table is a line of its own,
-# and lines are folded.
+# The text of the page of statuses between two headings, without its marks; each row of a table and each paragraph is a line of its
+# own, and lines are folded.
 page_of() {
     awk -F ' *[|] *' -v from="$1" -v to="$2" '
+        function flush() { if (text != "") print text; text = "" }
         $0 == from { told = 1 }
         $0 == to { told = 0 }
         !told { next }
@@ -24,16 +25,20 @@ page_of() {
             print line
             next
         }
-        { sub(/^#+ /, ""); print }
+        /^$/ || /^#/ { flush(); sub(/^#+ /, ""); print; next }
+        { text = text (text == "" ? "" : " ") $0 }
+        END { flush() }
     ' "$statuses" | fold -s -w "$(columns)"
 }
 
-# number: what that status or rule means, by the page of statuses, whose two tables have no number in common
+# number: what that status or rule means, by the page of statuses, where no status has the number of a rule: what stands under the
+# heading of the status, but for what is printed, a row of its table as `command: what stands`; or the row of the table of rules
 meaning() {
     awk -F ' *[|] *' -v number="$1" '
-        /^## / { skipped = $0 ~ /^## What to do/ }
-        skipped { next }
-        /^[|]/ && $2 == number { gsub(/`/, ""); print $4; exit }
+        /^## / { status = index($0, "## " number ": ") == 1; rules = $0 == "## Rules"; next }
+        status && !/^$/ && !/^Prints / && !/^[|] *(-|Command)/ { text = text sep (/^[|]/ ? $2 ": " $4 "." : $0); sep = " " }
+        rules && /^[|]/ && $2 == number { text = $4 }
+        END { gsub(/`/, "", text); if (text != "") print text }
     ' "$statuses" 2> /dev/null || :
 }
 

@@ -1,7 +1,8 @@
 #!/usr/bin/env python3
 """Tests that every path that a document names exists: what stands between backquotes and begins with a folder or a file of the
-repository, each script or document by its name alone, and each target of a link. A name with `*`, `..` or a word in capitals stands for others, and is left out. Prints each path that
-isn't there with the line that names it, and ends with status 1 where there is one."""
+repository, or with a crate, each script or document by its name alone, and each target of a link. A name with `*`, `..` or a word in
+capitals stands for others, and is left out. Prints each path that isn't there with the line that names it, and ends with status 1
+where there is one."""
 import os
 import pathlib
 import re
@@ -27,6 +28,7 @@ def named(text, first):
     """What a line names that looks like a path of the repository: its first part is one at the top."""
     for found in QUOTED.findall(text):
         found = found.rstrip(".,:;").removeprefix("./")
+        found = f"crates/{found}" if found.startswith("bp_") and "/" in found else found
         if "/" in found and found.split("/")[0] in first and not STANDS_FOR_OTHERS.search(found):
             yield found.rstrip("/")
 

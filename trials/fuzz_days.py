@@ -17,7 +17,7 @@ import fuzz_loads as loads
 import fuzz_matter as matters
 import fuzz_pages as pages
 import web_model
-from fuzz_tools import Rule, damaged
+from fuzz_tools import Rule
 
 LIMIT = int(os.environ.get("FUZZ_SECONDS", "60"))
 TABLE = ("CREATE TABLE IF NOT EXISTS kept (kind INTEGER NOT NULL CHECK (kind BETWEEN 0 AND 255), "

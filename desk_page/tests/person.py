@@ -4,7 +4,6 @@ import json
 import os
 import subprocess
 import sys
-import time
 
 from chromium import Chromium
 from office import BATCH

@@ -140,7 +140,7 @@ class Check:
             yield fault
             return
         try:
-            texts, by_rule = profile.read_dat_lines(data), True
+            texts = profile.read_dat_lines(data)
         except Rule as rule:
             yield Fault(rule, self.paths[0], kind=decoded(data)[1])
             texts = profile.read_dat_lines(decoded(data)[0].encode("utf-8"))

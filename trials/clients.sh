@@ -104,7 +104,7 @@ expect() {
 status_of() {
     target=$1
     shift
-    code=$(curl -s --retry 20 --retry-connrefused --retry-delay 1 -o body -w '%{http_code}' "$@" "http://127.0.0.1:$port$target")
+    code=$(curl -s --retry 60 --retry-connrefused --retry-delay 1 -o body -w '%{http_code}' "$@" "http://127.0.0.1:$port$target")
     echo "$code $(sed -n 's/.*"rule":\([0-9]*\).*/\1/p' body)"
 }
 raw() { python3 clients.py "$port" "$key" "$1"; }

@@ -92,7 +92,7 @@ broken() { printf '{"a":0,"b":0,"line":0,"name":"%s","rule":%s}' "$2" "$1"; }
 fetch() {
     key=$1 target=$2
     shift 2
-    curl -s --retry 20 --retry-connrefused --retry-delay 1 -H "Desk-Key: $key" "$@" "http://127.0.0.1:$port$target" || stop "no reply"
+    curl -s --retry 60 --retry-connrefused --retry-delay 1 -H "Desk-Key: $key" "$@" "http://127.0.0.1:$port$target" || stop "no reply"
 }
 
 # status and body that are due, key, method, target, body of a POST

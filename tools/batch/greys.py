@@ -7,8 +7,7 @@ diffusion; so does a whole page of which most cells are such. All else is black 
 within what is ink and what is paper there.
 """
 import re
-import sys
-from array import array
+import struct
 
 from .programs import run
 
@@ -48,18 +47,34 @@ class Cells:
         return self.pgm[start : start + self.width]
 
     def look(self, rows):
-        """Adds a row of cells: rows are summed as numbers of 16 bits a pixel, as at most 64 of them are."""
-        wide, total, brights = bytearray(2 * self.width), 0, [0] * self.across
-        low = 0 if sys.byteorder == "little" else 1  # the byte that a grey stands in
-        for at in rows:
-            row = self.row(at)
-            wide[low::2] = row
-            total += int.from_bytes(wide, sys.byteorder)
-            brights = [sum_of + max(row[left:right]) for sum_of, (left, right) in zip(brights, self.spans)]
-        sums = array("H")
-        sums.frombytes(total.to_bytes(2 * self.width, sys.byteorder))
-        self.means.append([sum(sums[left:right]) / (len(rows) * (right - left)) for left, right in self.spans])
-        self.brights.append([bright / len(rows) for bright in brights])
+        """Adds a row of cells. The first pixels of all cells in these rows are one number of 16 bits a pixel, the second ones another, and
+        so on: so all cells are summed, of which a row has at most 64 pixels, and their brightest found, at once. The last cell across
+        is filled up with black."""
+        count, total, bright = self.across * len(rows), 0, 0
+        black = bytes(self.across * self.cell - self.width)
+        greys, wide = b"".join([self.row(at) + black for at in rows]), bytearray(2 * count)
+        high = int.from_bytes(b"\0\1" * count, "little")
+        for at in range(self.cell):
+            wide[::2] = greys[at :: self.cell]
+            these = int.from_bytes(wide, "little")
+            total += these
+            bright = brighter(these, bright, high)
+        sums, brights = (self.of_cells(number, count) for number in (total, bright))
+        self.means.append([each / (len(rows) * (right - left)) for each, (left, right) in zip(sums, self.spans)])
+        self.brights.append([each / len(rows) for each in brights])
+
+    def of_cells(self, number, count):
+        """Of each cell the sum of what its rows have in a number of so many parts of 16 bits."""
+        parts = struct.unpack(f"<{count}H", number.to_bytes(2 * count, "little"))
+        return [sum(parts[x :: self.across]) for x in range(self.across)]
+
+
+def brighter(one, other, high):
+    """The brighter of each two pixels, of numbers of 16 bits a pixel. `high` has the bit above a grey: of the lead it is left where `one`
+    isn't the darker, and below it then stands by how much."""
+    lead = (one | high) - other
+    is_lead = lead & high
+    return other + (lead & is_lead - (is_lead >> 8))
 
 
 def paper_of(brights):

@@ -19,6 +19,7 @@ pub mod PlaceLemmas
 pub mod RowLemmas
 pub mod RunCodeLemmas
 pub mod RunPlaceLemmas
+pub mod SameRowLemmas
 pub mod ShownPlaceLemmas
 pub mod SoFarLemmas
 pub mod SomeAnswerLemmas

@@ -75,6 +75,19 @@ stays places width k zero rises is = ap (λ n. place_at places width n) (omega a
 stays places width k (suc more) rises is =
     ap (λ n. place_at places width n) (omega arith) ∙ rises.end (k + more) (stays places width k more rises is)
 
+-- where the last of some places is left of the width, all of them are
+pub left_all : (places : List ℕ) (width count : ℕ) → Rises places width → count ≤ length places → ((j : ℕ) → j + 1 ≡ count → get_or places j 0 < width) → (k : ℕ) → k < count → place_at places width k < width
+left_all places width count rises few left k less = elim (cases_lt (place_at places width k) width) [
+  | inl is_left ↦ is_left
+  | inr past ↦ (
+      let all : place_at places width k ≡ width = omega (arith, past, rises.within k) in
+      let end = count - 1 in
+      let last : k + (end - k) ≡ end = omega arith in
+      let one : end + 1 ≡ count = omega arith in
+      let there : place_at places width end ≡ get_or places end 0 = get_or_default places end width 0 (omega (arith, few)) in
+      absurd (omega (arith, stays places width k (end - k) rises all, ap (λ n. place_at places width n) last, there, left end one)))
+]
+
 -- those left of the width are the changing elements
 pub left_are_changes : (places changes : List ℕ) (width count : ℕ) (row : List Bool) → Shows places width row → Ends places width count
     → ((j : ℕ) → j + 1 ≡ count → get_or places j 0 < width) → changes ≡ take count places → changes ≡ changes_of row
@@ -85,16 +98,7 @@ left_are_changes places changes width count row shows ends left is =
     fronts = omega (arith, length-take count places, ends.few)
 
     below : (k : ℕ) → k < count → place_at places width k < width
-    below k less = elim (cases_lt (place_at places width k) width) [
-      | inl is_left ↦ is_left
-      | inr past ↦ (
-          let all : place_at places width k ≡ width = omega (arith, past, shows.rises.within k) in
-          let end = count - 1 in
-          let last : k + (end - k) ≡ end = omega arith in
-          let one : end + 1 ≡ count = omega arith in
-          let there : place_at places width end ≡ get_or places end 0 = get_or_default places end width 0 (omega (arith, ends.few)) in
-          absurd (omega (arith, stays places width k (end - k) shows.rises all, ap (λ n. place_at places width n) last, there, left end one)))
-    ]
+    below = left_all places width count shows.rises ends.few left
 
     place_is : (k : ℕ) → place_at places width k ≡ place_at (changes_of row) width k
     place_is = same_place places (changes_of row) width row shows (shows_row row (changes_of row) width shows.long refl)

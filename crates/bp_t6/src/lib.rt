@@ -29,6 +29,7 @@ mod row_code;
 mod row_room;
 mod run_places;
 mod run_reader;
+mod same_row;
 mod strip_reader;
 mod strip_rows;
 mod strip_writer;

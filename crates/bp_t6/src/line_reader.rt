@@ -8,6 +8,7 @@ use crate::mode_reader::read_mode;
 use crate::quick_reader::read_quick_modes;
 use crate::reading::{Stop, Under};
 use crate::run_reader::ReadFault;
+use crate::same_row::{ones_ahead, ones_of};
 use crate::tables::CodeTables;
 use crate::turns::make_room;
 use bp_codes::BitSpan;
@@ -36,6 +37,11 @@ pub fn read_row(
         → IfErr result (λ stop. IfFault (λ f. RowStops over bits start f) stop) }
 {
     line.clear();
+    let ones = ones_of(above, width);
+    if ones_ahead(span, start, ones) {
+        line.extend_from_slice(above)?;
+        return Ok(start + ones);
+    }
     let mut under = first_under(start);
     while under.right <= width {
         make_room(line)?;

@@ -10,6 +10,7 @@ use crate::bit_copy::copy_bits;
 use crate::bit_writer::BitWriter;
 use crate::row::code_row;
 use crate::row_code::RowCode;
+use crate::same_row::{ones_of, put_ones};
 use crate::tables::{CodeTables, put_end_of_block};
 use bp_rows::MAX_WIDTH;
 use std::alloc::{AllocError, Global};
@@ -56,7 +57,7 @@ impl LineWriter {
         ensures above_kept { OnErr result (self.new.above.items ≡ self.old.above.items) }
     {
         let mark = self.out.mark();
-        if let Err(error) = code_row(line, &self.above, self.width, &self.tables, &mut self.out) {
+        if let Err(error) = put_row(line, &self.above, self.width, &self.tables, &mut self.out) {
             self.out.go_back(&mark);
             return Err(error);
         }
@@ -105,6 +106,30 @@ impl LineWriter {
             }
         }
     }
+}
+
+// The code of a row goes out, given the changes of the row and of the row above it. Of a row that is the
+// same as that above no mode is looked for.
+fn put_row(
+    line: &[u32],
+    above: &[u32],
+    width: u32,
+    tables: &CodeTables,
+    out: &mut BitWriter,
+) -> Result<(), AllocError>
+    requires wide { width ≤ MAX_WIDTH }
+    requires line { Rises line.now width }
+    requires above { Rises above.now width }
+    ensures coded { (row over : List Bool) →
+        Shows line.now width row →
+        Shows above.now width over →
+        OnOk result (out.new ≡ out.old ++ row_code over row) }
+    ensures begins { Continues out.old out.new }
+{
+    if line == above {
+        return put_ones(out, ones_of(line, width));
+    }
+    code_row(line, above, width, tables, out)
 }
 
 // The bytes of the bits and of the end of the facsimile block.

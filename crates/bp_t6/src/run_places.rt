@@ -1,6 +1,6 @@
 // The changing elements of a row, from its runs or from places that show it.
-ghost use Rattle.std.specs.Prelude.{◌≡◌, ◌<◌, ◌≤◌, ◌^◌, ℕ, Bool, List, OnOk, length, sum, false, slice_index_or};
-ghost use Rattle.bp_rows.specs.Changes.{changes_of, Rises, Shows};
+ghost use Rattle.std.specs.Prelude.{◌≡◌, ◌+◌, ◌<◌, ◌≤◌, ◌^◌, ℕ, Bool, List, OnOk, length, sum, false, slice_index_or};
+ghost use Rattle.bp_rows.specs.Changes.{changes_of, place_at, Rises, Shows};
 ghost use Rattle.bp_rows.specs.Runs.{painted_runs};
 
 use std::alloc::AllocError;
@@ -32,11 +32,23 @@ pub fn copy_places(changes: &mut Vec<u32>, places: &[u32], width: u32) -> Result
     ensures { (row : List Bool) →
         Shows places.now width row → OnOk result (changes.new.items ≡ changes_of row) }
 {
+    let count = count_within(places, width);
+    changes.clear();
+    changes.extend_from_slice(&places[..count])?;
+    Ok(())
+}
+
+/// How many of the places that show a row are left of the width: those of its changing elements.
+#[inline(always)]
+pub fn count_within(places: &[u32], width: u32) -> usize
+    requires { Rises places.now width }
+    ensures few { result ≤ length places.now }
+    ensures last { (k : ℕ) → k + 1 ≡ result → slice_index_or places.now k 0 < width }
+    ensures end { (k : ℕ) → result ≤ k → place_at places.now width k ≡ width }
+{
     let mut count = places.len();
     while count > 0 && width <= places[count - 1] {
         count -= 1;
     }
-    changes.clear();
-    changes.extend_from_slice(&places[..count])?;
-    Ok(())
+    count
 }

@@ -1,6 +1,8 @@
-use Rattle.std.proofs.Common.{List, ℕ, sym, subst, arith}
+use Rattle.std.proofs.Common.{List, ℕ, ◌≡◌, ◌+◌, ◌*◌, ◌++◌, length, ap, sym, ◌∙◌, subst, arith}
+use Rattle.bp_codes.proofs.BitListLemmas.{length-bits_of}
 use Rattle.bp_codes.specs.Span.{span_bits}
 use Rattle.bp_t6.specs.Reading.{IsUnder, ModesRead}
+use Rattle.bp_t6.proofs.SameRowLemmas.{row_again}
 use Rattle.bp_t6.proofs.StepLemmas.{none_read, under_none, mode_more, row_end, row_stops}
 use Rattle.bp_t6.proofs.line_reader.read_row.Goals as goal
 
@@ -34,3 +36,17 @@ loop-under-preserved c = record {
 pub returns-clause-read : goal.returns-clause-read
 returns-clause-read c = λ over shows.
     row_end over (span_bits c.args.span.now) c.args.start c.args.width c.args.above.now c.loop-under.line.items c.loop-under.under shows (c.loop-under.invariant.read over shows) (omega (arith, c.loop-under-test.false, c.loop-under.invariant.under.within))
+
+pub returns-then-ones_ahead-clause-next : goal.returns-then-ones_ahead-clause-next
+returns-then-ones_ahead-clause-next c = c.ones_ahead.ensures.within c.if-ones_ahead.true
+
+pub returns-then-ones_ahead-clause-read : goal.returns-then-ones_ahead-clause-read
+returns-then-ones_ahead-clause-read c = λ over shows.
+    let above = c.args.above.now in let ones = c.ones_of-ones in
+    row_again (span_bits c.args.span.now) over above c.extend_from_slice.new.self.items c.args.start (c.args.start + ones.result) c.args.width ones.result shows (ones.ensures over over shows shows)
+    (c.in_ok-extend_from_slice.ensures.items ∙ ap (λ (xs : List ℕ). xs ++ above) c.clear.ensures.items) (c.ones_ahead.ensures.ones c.if-ones_ahead.true)
+
+pub overflow_add-result : goal.overflow_add-result
+overflow_add-result c =
+    let whole : length (span_bits c.args.span.now) ≡ length c.args.span.now.bytes.now * 8 = length-bits_of c.args.span.now.fill c.args.span.now.bytes.now in
+    omega (arith, c.ones_ahead.ensures.within c.if-ones_ahead.true, whole, c.args.span.now.short)

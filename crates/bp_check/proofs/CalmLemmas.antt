@@ -15,7 +15,7 @@ use Rattle.bp_load.specs.Lines.{filled_lines, without_mark}
 use Rattle.bp_load.specs.Opt.{opt_line_of, opt_of}
 use Rattle.bp_load.specs.declared.opt.OptLine.{OptLine}
 use Rattle.bp_outside.specs.Source.{SourceView}
-use Rattle.bp_check.specs.Breaks.{breaks_from, breaks_of, docs_after, fits}
+use Rattle.bp_check.specs.Breaks.{breaks_from, breaks_of, fits}
 use Rattle.bp_check.specs.Check.{agrees}
 use Rattle.bp_check.specs.Checking.{after_kind, after_step}
 use Rattle.bp_check.specs.Counts.{counts_from, is_counted}
@@ -26,6 +26,7 @@ use Rattle.bp_check.specs.Refusals.{BecomesRefusal}
 use Rattle.bp_check.specs.Steps.{demand}
 use Rattle.bp_check.specs.declared.records.Record.{Record}
 use Rattle.bp_check.specs.declared.refusals.ImportRefusal.{ImportRefusal}
+use Rattle.bp_load.specs.Documents.{docs_after}
 
 abbrev pub Calm : Rule → Type 0
 Calm rule = (source : SourceView) → after_kind source rule.kind ≡ source

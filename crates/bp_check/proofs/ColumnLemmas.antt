@@ -3,7 +3,8 @@ use Rattle.std.proofs.Common.{◌≡◌, ℕ, true, false, List, ap, encode_utf8
 use Rattle.std.specs.Prelude.{codes}
 use Rattle.std.specs.Str.{bytes_eq}
 use Rattle.std.proofs.lemmas.Slice.Eq.{bytes_eq-Decides}
-use Rattle.bp_check.specs.Columns.{is_begdoc, is_enddoc, is_pagecount, is_textpath}
+use Rattle.bp_check.specs.Columns.{is_enddoc, is_pagecount, is_textpath}
+use Rattle.bp_load.specs.Documents.{is_begdoc}
 
 pub begdoc_not_enddoc : (c : List ℕ) → is_begdoc c ≡ true → is_enddoc c ≡ false
 begdoc_not_enddoc c is = ap (λ b. bytes_eq b (codes "ENDDOC")) ((bytes_eq-Decides (encode_utf8_all c) (codes "BEGDOC")).0 is)

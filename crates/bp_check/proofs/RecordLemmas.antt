@@ -1,7 +1,7 @@
 -- Columns and cells, taken from the last on.
 use Rattle.std.proofs.Common.{◌≡◌, ℕ, Bool, true, false, cond, List, [], ◌∷◌, ◌++◌, length, drop, refl, sym, ap, ◌∙◌, append_assoc, arith}
 use Rattle.std.proofs.lemmas.List.{drop_at, length-append}
-use Rattle.bp_check.specs.Records.{cell_under}
+use Rattle.bp_load.specs.Documents.{cell_under}
 
 -- what stands from the last member of the front on
 pub behind_one : (all before : List (List ℕ)) (text : List ℕ) (rest : List (List ℕ))

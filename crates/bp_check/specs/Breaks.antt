@@ -1,8 +1,9 @@
 -- Where documents begin and end among the lines of an OPT file, and their records.
-use Rattle.std.specs.Prelude.{ℕ, ◌+◌, ◌==◌, ◌&&◌, Bool, false, not, List, [], ◌∷◌, length, drop, Result, Err, if◌then◌else◌}
+use Rattle.std.specs.Prelude.{ℕ, ◌+◌, ◌==◌, ◌&&◌, Bool, false, not, List, [], ◌∷◌, length, Result, Err, if◌then◌else◌}
 use Rattle.std.specs.Str.{bytes_eq}
 use Rattle.bp_core.specs.Rules.{rule_at_line}
 use Rattle.bp_core.specs.declared.rules.Rule.{Rule}
+use Rattle.bp_load.specs.Documents.{docs_after}
 use Rattle.bp_load.specs.declared.opt.OptLine.{OptLine}
 use Rattle.bp_core.specs.declared.rules.RuleKind.TheVariants.{CheckBreaks}
 use Rattle.bp_check.specs.Steps.{demand}
@@ -24,10 +25,6 @@ has_record (doc ∷ docs) line lines =
 -- line has none to go on with
 abbrev pub fits : ℕ → List Record → OptLine → List OptLine → Bool
 fits n docs line lines = if line.doc_break then has_record docs line lines else not (n == 1)
-
--- the records that are left after a line
-abbrev pub docs_after : List Record → OptLine → List Record
-docs_after docs line = if line.doc_break then drop 1 docs else docs
 
 -- lines and records go together from line n on; or the first line that doesn't fit, which is the
 -- one past the last where records are left

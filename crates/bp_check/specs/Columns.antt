@@ -3,12 +3,9 @@ use Rattle.std.specs.Prelude.{ℕ, Bool, List, ◌&&◌, codes, encode_utf8_all}
 use Rattle.std.specs.List.{list_any}
 use Rattle.std.specs.Str.{bytes_eq}
 use Rattle.bp_core.specs.Differing.{texts_differ}
+use Rattle.bp_load.specs.Documents.{is_begdoc}
 
--- the first page of a document
-abbrev pub is_begdoc : List ℕ → Bool
-is_begdoc column = bytes_eq (encode_utf8_all column) (codes "BEGDOC")
-
--- its last page
+-- the last page of a document
 abbrev pub is_enddoc : List ℕ → Bool
 is_enddoc column = bytes_eq (encode_utf8_all column) (codes "ENDDOC")
 

@@ -5,15 +5,10 @@ use Rattle.std.specs.Str.{bytes_eq}
 use Rattle.bp_core.specs.Characters.{digit_zero}
 use Rattle.bp_core.specs.Rules.{rule_at_line}
 use Rattle.bp_core.specs.declared.rules.Rule.{Rule}
+use Rattle.bp_load.specs.Documents.{docs_after, until_break}
 use Rattle.bp_load.specs.declared.opt.OptLine.{OptLine}
-use Rattle.bp_check.specs.Breaks.{docs_after}
 use Rattle.bp_core.specs.declared.rules.RuleKind.TheVariants.{CheckCount}
 use Rattle.bp_check.specs.declared.records.Record.{Record}
-
--- how many lines stand before the next break
-abbrev pub until_break : List OptLine → ℕ
-until_break [] = 0
-until_break (line ∷ lines) = if line.doc_break then 0 else until_break lines + 1
 
 -- a text without the zeros at its front
 abbrev pub without_zeros : List ℕ → List ℕ

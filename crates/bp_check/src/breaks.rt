@@ -1,10 +1,10 @@
 // Where documents begin and end among the lines of an OPT file.
 ghost use Rattle.std.specs.Prelude.{◌≡◌, ◌<◌, ◌^◌, ◌+◌, length};
-ghost use Rattle.bp_check.specs.Breaks.{breaks_of, docs_after, fits, has_record, last_image};
+ghost use Rattle.bp_check.specs.Breaks.{breaks_of, fits, has_record, last_image};
 
 use crate::records::Record;
 use bp_core::{Rule, RuleKind, Text};
-use bp_load::OptLine;
+use bp_load::{OptLine, docs_after};
 
 /// Tests that breaks and records go together. CheckBreaks with the first line, from 1, that doesn't
 /// fit: it has a break and isn't the first page of the next record, or its document ends elsewhere
@@ -67,17 +67,4 @@ fn last_image<'a>(line: &'a OptLine, others: &'a [OptLine]) -> &'a Text
         rest = after;
     }
     &last.image
-}
-
-/// The records that are left after a line.
-pub(crate) fn docs_after<'a>(left: &'a [Record], line: &OptLine) -> &'a [Record]
-    ensures { result.now ≡ docs_after left.now line.now }
-{
-    if !line.doc_break {
-        return left;
-    }
-    match left.split_first() {
-        Some((_, others)) => others,
-        None => left,
-    }
 }

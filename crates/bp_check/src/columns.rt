@@ -1,9 +1,11 @@
 // The columns of a DAT file that a check uses.
 ghost use Rattle.std.specs.Prelude.{◌≡◌, IfOk};
 ghost use Rattle.std.specs.List.{list_any};
-ghost use Rattle.bp_check.specs.Columns.{are_columns, is_begdoc, is_enddoc, is_pagecount, is_textpath};
+ghost use Rattle.bp_load.specs.Documents.{is_begdoc};
+ghost use Rattle.bp_check.specs.Columns.{are_columns, is_enddoc, is_pagecount, is_textpath};
 
 use bp_core::{OutOfMemory, Text, texts_differ};
+use bp_load::is_begdoc;
 use std::alloc::Global;
 
 /// Whether a check takes these columns: BEGDOC and ENDDOC are among them, and no two have one name.
@@ -28,14 +30,7 @@ fn has_enddoc(columns: &[Text]) -> bool
     columns.iter().any(|column| is_enddoc(column))
 }
 
-/// Whether the column names the first page of a document.
-pub(crate) fn is_begdoc(column: &Text) -> bool
-    ensures { result ≡ is_begdoc column.now }
-{
-    column.as_str() == "BEGDOC"
-}
-
-/// Whether it names the last page.
+/// Whether the column names the last page of a document.
 pub(crate) fn is_enddoc(column: &Text) -> bool
     ensures { result ≡ is_enddoc column.now }
 {

@@ -3,12 +3,11 @@ ghost use Rattle.std.specs.Prelude.{◌≡◌, ◌<◌, ◌≤◌, ◌^◌, ◌+
 ghost use Rattle.std.specs.Fmt.{decimal};
 ghost use Rattle.std.specs.String.{string_bytes};
 ghost use Rattle.bp_core.specs.Answers.{Answers};
-ghost use Rattle.bp_check.specs.Counts.{counts_of, is_counted, is_decimal, record_says, says_number, until_break, without_zeros};
+ghost use Rattle.bp_check.specs.Counts.{counts_of, is_counted, is_decimal, record_says, says_number, without_zeros};
 
-use crate::breaks::docs_after;
 use crate::records::Record;
 use bp_core::{OutOfMemory, Refusal, Rule, RuleKind, Text};
-use bp_load::OptLine;
+use bp_load::{OptLine, docs_after, until_break};
 use std::alloc::Global;
 
 /// Tests that each count is right. CheckCount with the first line, from 1, whose count isn't that of
@@ -48,26 +47,10 @@ fn is_counted(
 }
 
 // A number in decimal digits.
-fn number_text(alloc: Global, number: u32) -> Result<String, OutOfMemory>
+fn number_text(alloc: Global, number: usize) -> Result<String, OutOfMemory>
     ensures { IfOk result (λ text. string_bytes text ≡ decimal number) }
 {
     Ok(number.to_string(alloc)?)
-}
-
-// How many lines stand before the next break.
-fn until_break(lines: &[OptLine]) -> u32
-    requires { length lines.now + 1 < 2 ^ 32 }
-    ensures count { result ≡ until_break lines.now }
-    ensures bound { result ≤ length lines.now }
-{
-    let mut count = 0;
-    for line in lines {
-        if line.doc_break {
-            break;
-        }
-        count += 1;
-    }
-    count
 }
 
 // A text says nothing, or this count. Its leading zeros count for nothing.

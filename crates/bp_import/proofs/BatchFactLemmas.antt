@@ -31,7 +31,7 @@ use Rattle.bp_import.specs.Scans.{comes_in}
 use Rattle.bp_import.specs.WordPages.{page_on, row_inside, word_inside, words_inside, words_on}
 use Rattle.bp_import.specs.declared.files.TheConstants.{FILE_LIMIT}
 use Rattle.bp_import.specs.declared.records.Record.{Record}
-use Rattle.bp_import.proofs.CountLemmas.{filter_less}
+use Rattle.bp_load.proofs.CountLemmas.{filter_less}
 use Rattle.bp_import.proofs.EachLemmas.{Each, all_both, all_from, each_both, each_drop, each_filter, each_from, each_map, each_take, each_weaker, one_read}
 use Rattle.bp_import.proofs.OrderFactLemmas.{stand}
 use Rattle.bp_import.proofs.PageFactLemmas.{word_from}

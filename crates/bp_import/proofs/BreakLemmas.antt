@@ -9,9 +9,10 @@ use Rattle.bp_load.specs.declared.opt.OptLine.{OptLine}
 use Rattle.std.proofs.lemmas.List.{take_more, drop_more}
 use Rattle.std.specs.BTreeMap.{BTreeMap, get_by}
 use Rattle.std.specs.Cmp.Lexicographic.{slice_cmp}
-use Rattle.bp_import.specs.Breaks.{place_of, is_broken, docs_after, broken_behind, breaks_behind}
+use Rattle.bp_import.specs.Breaks.{place_of, is_broken, broken_behind, breaks_behind}
 use Rattle.bp_import.specs.Places.{Finds}
 use Rattle.bp_import.specs.declared.records.Record.{Record}
+use Rattle.bp_load.specs.Documents.{docs_after}
 
 same_test : (p q : Bool) → (p ≡ true → q ≡ true) → (q ≡ true → p ≡ true) → p ≡ q
 same_test true q there back = sym (there refl)

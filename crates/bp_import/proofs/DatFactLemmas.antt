@@ -6,12 +6,13 @@ use Rattle.bp_core.specs.InTurn.{read_each}
 use Rattle.bp_core.specs.Rules.{bare_rule, rule_at_line}
 use Rattle.bp_core.specs.declared.rules.Rule.{Rule}
 use Rattle.bp_core.specs.declared.rules.RuleKind.TheVariants.{DatColumns, DatEncoding, DatShape}
-use Rattle.bp_load.specs.Dat.{after_header, dat_of, row_of, values_of, with_rows, table_of as table_in}
+use Rattle.bp_load.specs.Dat.{after_header, columns_in, dat_columns, dat_of, row_of, values_of, with_rows, table_of as table_in}
 use Rattle.bp_load.specs.Lines.{each_line, filled_lines, without_mark}
 use Rattle.bp_load.specs.Table.{Table}
-use Rattle.bp_import.specs.Columns.{are_columns, columns_in, columns_of, table_of}
-use Rattle.bp_import.specs.Steps.{demand, ◌>>=◌}
-use Rattle.bp_import.proofs.CountLemmas.{filled_few}
+use Rattle.bp_import.specs.Columns.{are_columns, table_of}
+use Rattle.bp_core.specs.RuleSteps.{◌>>=◌}
+use Rattle.bp_import.specs.Steps.{demand}
+use Rattle.bp_load.proofs.CountLemmas.{filled_few}
 use Rattle.bp_import.proofs.EachLemmas.{each_one, each_read}
 
 -- the value of a first step, and what comes of it
@@ -75,11 +76,11 @@ lines_facts bytes table columns (header ∷ rest) text are first is taken =
 
 pub table_facts : (bytes : List ℕ) (table : Table) → table_of bytes ≡ Ok table → TableFacts bytes table
 table_facts bytes table e =
-    let one = next_parts (columns_of bytes) (λ columns. demand (are_columns columns) (bare_rule DatColumns) >>= (λ _. dat_of bytes)) table e in
+    let one = next_parts (dat_columns bytes) (λ columns. demand (are_columns columns) (bare_rule DatColumns) >>= (λ _. dat_of bytes)) table e in
     let two = next_parts (demand (are_columns one.0) (bare_rule DatColumns)) (λ _. dat_of bytes) table one.1.1 in
-    let head = next_parts (demand (is_utf8 bytes) (rule_at_line DatEncoding 0)) (λ _. columns_in (filled_lines (without_mark bytes))) one.0 one.1.0 in
     let file = file_facts bytes table (is_utf8 bytes) refl two.1.1 in
-    lines_facts bytes table one.0 (filled_lines (without_mark bytes)) file.text refl head.1.1 file.table_is (demand_parts (are_columns one.0) (bare_rule DatColumns) two.0 two.1.0)
+    let head = sym (ap (λ b. cond b (columns_in (filled_lines (without_mark bytes))) (Err (rule_at_line DatEncoding 0))) file.text) ∙ one.1.0 in
+    lines_facts bytes table one.0 (filled_lines (without_mark bytes)) file.text refl head file.table_is (demand_parts (are_columns one.0) (bare_rule DatColumns) two.0 two.1.0)
 
 pub table_few : (bytes : List ℕ) (table : Table) → table_of bytes ≡ Ok table → length table.rows ≤ length bytes
 table_few bytes table e =

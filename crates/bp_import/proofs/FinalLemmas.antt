@@ -27,7 +27,7 @@ use Rattle.bp_import.specs.Importing.{Comes}
 use Rattle.bp_import.specs.Planned.{AreFiles, IsPlanned, Refuses}
 use Rattle.bp_import.specs.Records.{fields_of, record_of, records_of}
 use Rattle.bp_import.specs.Scans.{GivesImages, LinesAnswer, ReadsImages, Scan, comes_in}
-use Rattle.bp_import.specs.Steps.{◌>>=◌}
+use Rattle.bp_core.specs.RuleSteps.{◌>>=◌}
 use Rattle.bp_import.specs.WordPages.{GivesInside, are_places, places_of, words_inside, words_on}
 use Rattle.bp_import.specs.declared.plans.Planned.{Planned}
 use Rattle.bp_import.specs.declared.refusals.ImportRefusal.{ImportRefusal}
@@ -35,7 +35,8 @@ use Rattle.bp_import.specs.declared.refusals.ImportRefusal.TheVariants as refusa
 use Rattle.bp_import.specs.declared.scans.Images.{Images}
 use Rattle.bp_import.specs.declared.files.TheConstants.{FILE_LIMIT}
 use Rattle.bp_import.proofs.BatchFactLemmas.{docs_few, docs_good, docs_pages, docs_stand, pages_even, pages_good, pieces_good, rows_inside}
-use Rattle.bp_import.proofs.CountLemmas.{opt_few, words_few}
+use Rattle.bp_load.proofs.CountLemmas.{opt_few}
+use Rattle.bp_import.proofs.CountLemmas.{words_few}
 use Rattle.bp_import.proofs.EachLemmas.{Each, all_from, each_one, each_read, one_read}
 use Rattle.bp_import.proofs.OrderFactLemmas.{all_pages, counts_some, docs_fit, lines_differ, parents_fit}
 use Rattle.bp_import.proofs.PageFactLemmas.{word_from}

@@ -9,7 +9,7 @@ use Rattle.bp_rows.specs.Image.{Image}
 use Rattle.bp_tiff.specs.Read.{TiffAnswers}
 use Rattle.bp_import.specs.Batch.{BatchAnswers, Plan, PlanAnswers, batch_by, plan_of}
 use Rattle.bp_import.specs.Scans.{FileAnswers, LineAnswers, LinesAnswer, Scan, image_at, refused, scan_read, scanned}
-use Rattle.bp_import.specs.Steps.{◌>>=◌}
+use Rattle.bp_core.specs.RuleSteps.{◌>>=◌}
 
 -- each image file has an answer, and only one
 pub record OneTiff : Type 0 where

@@ -1,7 +1,6 @@
 pub mod ScanLemmas
 pub mod ScanTurns
 pub mod BreakLemmas
-pub mod TableLemmas
 pub mod TurnLemmas
 pub mod WordLemmas
 mod Examples

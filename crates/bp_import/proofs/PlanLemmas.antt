@@ -18,7 +18,8 @@ use Rattle.bp_import.specs.Families.{parents_of}
 use Rattle.bp_import.specs.Files.{dat_path, file_at, opt_path, words_path}
 use Rattle.bp_import.specs.Planned.{AreFiles, Refuses, placing_of, said_at}
 use Rattle.bp_import.specs.Records.{fields_of, records_of}
-use Rattle.bp_import.specs.Steps.{demand, ◌>>=◌}
+use Rattle.bp_core.specs.RuleSteps.{◌>>=◌}
+use Rattle.bp_import.specs.Steps.{demand}
 use Rattle.bp_import.specs.WordPages.{places_of}
 use Rattle.bp_import.specs.declared.files.TheConstants.{DAT, OPT, WORDS}
 use Rattle.bp_import.specs.declared.records.Record.{Record}

@@ -15,16 +15,17 @@ use Rattle.bp_load.specs.declared.opt.OptLine.{OptLine}
 use Rattle.bp_matter.specs.Texts.{is_field_name, is_name_character, is_value, is_value_character}
 use Rattle.bp_matter.specs.ValidProductions.{itself}
 use Rattle.bp_core.specs.Differing.{all_differ}
-use Rattle.bp_import.specs.Columns.{are_columns, is_begattach, is_begdoc, is_column, is_field, table_of}
-use Rattle.bp_import.specs.Records.{cell_under, field_cells, fields_of, record_of, records_of}
+use Rattle.bp_import.specs.Columns.{are_columns, is_begattach, is_column, is_field, table_of}
+use Rattle.bp_import.specs.Records.{field_cells, fields_of, record_of, records_of}
 use Rattle.bp_import.specs.declared.columns.TheConstants.{MAX_COLUMN}
 use Rattle.bp_import.specs.declared.files.TheConstants.{FILE_LIMIT}
 use Rattle.bp_import.specs.declared.records.Record.{Record}
-use Rattle.bp_import.proofs.CountLemmas.{filter_less, parts_few, unmarked_less}
+use Rattle.bp_load.proofs.CountLemmas.{filter_less, parts_few, unmarked_less}
 use Rattle.bp_import.proofs.DatFactLemmas.{TableFacts, table_facts, table_few}
 use Rattle.bp_import.proofs.EachLemmas.{Each, all_both, all_from, each_at, each_both, each_filter, each_from, each_map, each_one, each_read, each_weaker}
 use Rattle.bp_import.proofs.TextFactLemmas.{Strips, filled_each, split_all, split_none, split_short, split_text, strips_all, strips_short, strips_text, unmarked_text}
 use Rattle.bp_import.proofs.ValueFactLemmas.{GoodValue, chars_pass, empty_value, not_same, row_good, values_good}
+use Rattle.bp_load.specs.Documents.{cell_under, is_begdoc}
 
 -- ---- the table
 

@@ -11,7 +11,7 @@ use Rattle.bp_core.specs.declared.refusals.Refusal.{Refusal}
 use Rattle.bp_core.specs.declared.refusals.Refusal.TheVariants as calls
 use Rattle.bp_core.specs.declared.rules.Rule.{Rule}
 use Rattle.bp_core.specs.declared.rules.RuleKind.TheVariants.{DatShape, DocBreaks, FamilyBroken, OptShape, WordOutside, WordShape, WordsPage}
-use Rattle.bp_load.specs.Dat.{after_header, dat_of, row_of, values_of, with_rows, table_of as table_in}
+use Rattle.bp_load.specs.Dat.{after_header, columns_in, dat_columns, dat_of, row_of, values_of, with_rows, table_of as table_in}
 use Rattle.bp_load.specs.Lines.{each_line, filled_lines, without_mark}
 use Rattle.bp_load.specs.Opt.{opt_line_of, opt_of}
 use Rattle.bp_load.specs.declared.opt.OptLine.{OptLine}
@@ -19,17 +19,19 @@ use Rattle.bp_outside.specs.Source.{FileMap, SourceView}
 use Rattle.bp_rows.specs.Image.{Image}
 use Rattle.bp_text.specs.WordFiles.{row_of as word_of, words_of}
 use Rattle.bp_text.specs.declared.words.WordRow.{WordRow}
-use Rattle.bp_import.specs.Breaks.{breaks_behind, breaks_of, broken_behind, docs_after, is_broken, place_of}
-use Rattle.bp_import.specs.Columns.{columns_in, columns_of, table_of}
+use Rattle.bp_import.specs.Breaks.{breaks_behind, breaks_of, broken_behind, is_broken, place_of}
+use Rattle.bp_import.specs.Columns.{table_of}
 use Rattle.bp_import.specs.Families.{family_of, is_family, parents_from, parents_of}
 use Rattle.bp_import.specs.Importing.{IsCalm, after_kind, after_step}
 use Rattle.bp_import.specs.Planned.{Refuses}
 use Rattle.bp_import.specs.Refusals.{BecomesRefusal}
-use Rattle.bp_import.specs.Steps.{demand, ◌>>=◌}
+use Rattle.bp_core.specs.RuleSteps.{◌>>=◌}
+use Rattle.bp_import.specs.Steps.{demand}
 use Rattle.bp_import.specs.WordPages.{places_of, row_inside, words_inside}
 use Rattle.bp_import.specs.declared.records.Record.{Record}
 use Rattle.bp_import.specs.declared.refusals.ImportRefusal.{ImportRefusal}
 use Rattle.bp_import.specs.declared.refusals.ImportRefusal.TheVariants as refusals
+use Rattle.bp_load.specs.Documents.{docs_after}
 
 -- ---- rules that come from no read
 
@@ -94,8 +96,8 @@ calm_first_line (line ∷ lines) = calm_ok_or (values_of line) _ (λ source. ref
 
 pub table_calm : (bytes : List ℕ) → AllCalm (table_of bytes)
 table_calm bytes =
-    calm_next (columns_of bytes) _
-    (calm_next _ (λ _. columns_in (filled_lines (without_mark bytes))) (calm_demand _ _ (λ source. refl)) (λ _. calm_first_line (filled_lines (without_mark bytes))))
+    calm_next (dat_columns bytes) _
+    (calm_cond _ _ _ (calm_first_line (filled_lines (without_mark bytes))) (calm_err _ (λ source. refl)))
     (λ columns. calm_next _ (λ _. dat_of bytes) (calm_demand _ _ (λ source. refl)) (λ _. calm_cond _ _ _ (calm_lines (filled_lines (without_mark bytes))) (calm_err _ (λ source. refl))))
 
 pub opt_calm : (bytes : List ℕ) → AllCalm (opt_of bytes)

@@ -19,7 +19,8 @@ use Rattle.bp_import.specs.Families.{parents_of}
 use Rattle.bp_import.specs.Files.{dat_path, file_at, opt_path, words_path}
 use Rattle.bp_import.specs.Records.{fields_of, records_of}
 use Rattle.bp_import.specs.Scans.{LinesAnswer, Scan}
-use Rattle.bp_import.specs.Steps.{demand, ◌>>=◌}
+use Rattle.bp_core.specs.RuleSteps.{◌>>=◌}
+use Rattle.bp_import.specs.Steps.{demand}
 use Rattle.bp_import.specs.WordPages.{places_of, words_inside, words_on}
 use Rattle.bp_import.specs.declared.files.TheConstants.{DAT, OPT, WORDS}
 use Rattle.bp_import.specs.declared.records.Record.{Record}

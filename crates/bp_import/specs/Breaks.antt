@@ -5,6 +5,7 @@ use Rattle.std.specs.Str.{bytes_eq}
 use Rattle.bp_core.specs.Rules.{rule_at_line}
 use Rattle.bp_core.specs.declared.rules.Rule.{Rule}
 use Rattle.bp_core.specs.declared.rules.RuleKind.TheVariants.{DocBreaks}
+use Rattle.bp_load.specs.Documents.{docs_after, until_break}
 use Rattle.bp_load.specs.declared.opt.OptLine.{OptLine}
 use Rattle.bp_import.specs.Steps.{demand}
 use Rattle.bp_import.specs.declared.records.Record.{Record}
@@ -27,10 +28,6 @@ is_broken before docs line =
     is_some (place_of line.image before)
     || (if line.doc_break then not (begins docs line) else length before == 0)
 
--- the records that are left after a line
-abbrev pub docs_after : List Record → OptLine → List Record
-docs_after docs line = if line.doc_break then drop 1 docs else docs
-
 -- the rule at the line behind these
 abbrev pub broken_behind : List OptLine → Rule
 broken_behind before = rule_at_line DocBreaks (length before + 1)
@@ -47,11 +44,6 @@ breaks_behind before docs (line ∷ lines) =
 -- the document breaks of the OPT lines are the records of the DAT
 abbrev pub breaks_of : List Record → List OptLine → Result (Unit {0}) Rule
 breaks_of docs lines = breaks_behind [] docs lines
-
--- how many lines stand before the next break
-abbrev pub until_break : List OptLine → ℕ
-until_break [] = 0
-until_break (line ∷ lines) = if line.doc_break then 0 else until_break lines + 1
 
 -- how many pages each document has: that of its break, and those up to the next
 abbrev pub page_counts : List OptLine → List ℕ

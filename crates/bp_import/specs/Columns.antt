@@ -1,25 +1,21 @@
 -- The columns that the DAT file of a batch has.
-use Rattle.std.specs.Prelude.{ℕ, Bool, List, [], ◌∷◌, length, nat_le, ◌==◌, ◌&&◌, ◌||◌, not, Result, Err, codes, encode_utf8_all}
+use Rattle.std.specs.Prelude.{ℕ, Bool, List, length, nat_le, ◌==◌, ◌&&◌, ◌||◌, not, Result, codes, encode_utf8_all}
 use Rattle.std.specs.List.{list_all, list_any}
-use Rattle.std.specs.Option.{ok_or}
-use Rattle.std.specs.Str.{bytes_eq, is_utf8}
+use Rattle.std.specs.Str.{bytes_eq}
 use Rattle.bp_core.specs.Characters.{newline}
-use Rattle.bp_core.specs.Rules.{bare_rule, rule_at_line}
+use Rattle.bp_core.specs.Rules.{bare_rule}
 use Rattle.bp_core.specs.declared.rules.Rule.{Rule}
-use Rattle.bp_core.specs.declared.rules.RuleKind.TheVariants.{DatColumns, DatEncoding, DatShape}
-use Rattle.bp_load.specs.Dat.{dat_of, values_of}
-use Rattle.bp_load.specs.Lines.{filled_lines, without_mark}
+use Rattle.bp_core.specs.declared.rules.RuleKind.TheVariants.{DatColumns}
+use Rattle.bp_load.specs.Dat.{dat_columns, dat_of}
+use Rattle.bp_load.specs.Documents.{is_begdoc}
 use Rattle.bp_load.specs.Table.{Table}
 use Rattle.bp_matter.specs.ValidProductions.{itself}
 use Rattle.bp_core.specs.Differing.{all_differ}
-use Rattle.bp_import.specs.Steps.{demand, ◌>>=◌}
+use Rattle.bp_core.specs.RuleSteps.{◌>>=◌}
+use Rattle.bp_import.specs.Steps.{demand}
 use Rattle.bp_import.specs.declared.columns.TheConstants.{MAX_COLUMN}
 
--- the first page of a document
-abbrev pub is_begdoc : List ℕ → Bool
-is_begdoc column = bytes_eq (encode_utf8_all column) (codes "BEGDOC")
-
--- the first page of its family
+-- the first page of a document's family
 abbrev pub is_begattach : List ℕ → Bool
 is_begattach column = bytes_eq (encode_utf8_all column) (codes "BEGATTACH")
 
@@ -45,20 +41,9 @@ are_columns columns =
     list_any is_begdoc columns && list_any is_begattach columns
     && list_all is_column columns && all_differ itself columns
 
--- the columns that the first line names
-abbrev pub columns_in : List (List ℕ) → Result (List (List ℕ)) Rule
-columns_in [] = Err (rule_at_line DatShape 1)
-columns_in (line ∷ lines) = ok_or (values_of line) (rule_at_line DatShape 1)
-
--- the columns of a file, or what is wrong with it up to its first line
-abbrev pub columns_of : List ℕ → Result (List (List ℕ)) Rule
-columns_of bytes = do
-  _ ← demand (is_utf8 bytes) (rule_at_line DatEncoding 0)
-  columns_in (filled_lines (without_mark bytes))
-
 -- the table of a file: its columns are tested before its later lines are
 abbrev pub table_of : List ℕ → Result Table Rule
 table_of bytes = do
-  columns ← columns_of bytes
+  columns ← dat_columns bytes
   _ ← demand (are_columns columns) (bare_rule DatColumns)
   dat_of bytes

@@ -13,5 +13,4 @@ pub mod Refusals
 pub mod Scans
 pub mod Steps
 pub mod Strips
-pub mod Tables
 pub mod WordPages

@@ -13,7 +13,7 @@ use Rattle.bp_import.specs.Digest.{HasTaken}
 use Rattle.bp_import.specs.Families.{parents_of}
 use Rattle.bp_import.specs.Files.{dat_path, file_at, opt_path, words_path}
 use Rattle.bp_import.specs.Records.{fields_of, records_of}
-use Rattle.bp_import.specs.Steps.{◌>>=◌}
+use Rattle.bp_core.specs.RuleSteps.{◌>>=◌}
 use Rattle.bp_import.specs.WordPages.{places_of}
 use Rattle.bp_import.specs.declared.digest.FilesDigest.{FilesDigest}
 use Rattle.bp_import.specs.declared.files.TheConstants.{DAT, FILE_LIMIT, OPT, WORDS}

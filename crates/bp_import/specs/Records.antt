@@ -1,20 +1,14 @@
 -- The records of the DAT file of a batch, one a document.
-use Rattle.std.specs.Prelude.{ℕ, Bool, List, [], ◌∷◌, map, if◌then◌else◌}
+use Rattle.std.specs.Prelude.{ℕ, List, [], ◌∷◌, map, if◌then◌else◌}
 use Rattle.std.specs.List.{filter}
 use Rattle.bp_load.specs.Table.{Table}
-use Rattle.bp_import.specs.Columns.{is_begdoc, is_begattach, is_field}
+use Rattle.bp_load.specs.Documents.{cell_under, is_begdoc}
+use Rattle.bp_import.specs.Columns.{is_begattach, is_field}
 use Rattle.bp_import.specs.declared.records.Record.{Record}
 
 -- the fields of a batch: all columns that an import doesn't use itself
 abbrev pub fields_of : List (List ℕ) → List (List ℕ)
 fields_of columns = filter is_field columns
-
--- the cell of a row under the first column of a kind
-abbrev pub cell_under : (List ℕ → Bool) → List (List ℕ) → List (List ℕ) → List ℕ
-cell_under is_it [] row = []
-cell_under is_it (column ∷ columns) [] = []
-cell_under is_it (column ∷ columns) (cell ∷ row) =
-    if is_it column then cell else cell_under is_it columns row
 
 -- the cells of a row that stand under fields, in their order
 abbrev pub field_cells : List (List ℕ) → List (List ℕ) → List (List ℕ)

@@ -13,7 +13,7 @@ use Rattle.bp_rows.specs.Image.{Image}
 use Rattle.bp_rows.specs.Limits.{sides_are_imported}
 use Rattle.bp_tiff.specs.Read.{TiffAnswers}
 use Rattle.bp_import.specs.Files.{below, file_at}
-use Rattle.bp_import.specs.Steps.{◌>>=◌}
+use Rattle.bp_core.specs.RuleSteps.{◌>>=◌}
 use Rattle.bp_import.specs.declared.files.TheConstants.{IMAGE}
 use Rattle.bp_import.specs.Digest.{HasTaken, digest_of}
 use Rattle.bp_import.specs.declared.digest.FilesDigest.{FilesDigest}

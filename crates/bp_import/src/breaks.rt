@@ -3,12 +3,12 @@ ghost use Rattle.std.specs.Prelude.{◌≡◌, ◌<◌, ◌≤◌, ◌^◌, ◌+
 ghost use Rattle.bp_core.specs.Answers.{Answers};
 ghost use Rattle.bp_core.specs.Rules.{rule_at_line};
 ghost use Rattle.bp_load.specs.declared.opt.OptLine.{OptLine as Line};
-ghost use Rattle.bp_import.specs.Breaks.{begins, breaks_of, docs_after, is_broken, page_counts, until_break};
+ghost use Rattle.bp_import.specs.Breaks.{begins, breaks_of, is_broken, page_counts};
 ghost use Rattle.bp_import.specs.Places.{Finds};
 
 use crate::records::Record;
 use bp_core::{OutOfMemory, Refusal, Rule, RuleKind};
-use bp_load::OptLine;
+use bp_load::{OptLine, docs_after, until_break};
 use std::alloc::Global;
 use std::collections::BTreeMap;
 
@@ -76,18 +76,6 @@ fn begins(left: &[Record], line: &OptLine) -> bool
     }
 }
 
-fn docs_after<'a>(left: &'a [Record], line: &OptLine) -> &'a [Record]
-    ensures { result.now ≡ docs_after left.now line.now }
-{
-    if !line.doc_break {
-        return left;
-    }
-    match left.split_first() {
-        Some((_, others)) => others,
-        None => left,
-    }
-}
-
 /// How many pages each document has: that of its break, and those up to the next.
 pub(crate) fn page_counts(alloc: Global, lines: &[OptLine]) -> Result<Vec<usize>, OutOfMemory>
     ensures { IfOk result (λ counts. counts.items ≡ page_counts lines.now) }
@@ -101,19 +89,4 @@ pub(crate) fn page_counts(alloc: Global, lines: &[OptLine]) -> Result<Vec<usize>
         rest = others;
     }
     Ok(counts)
-}
-
-// How many lines stand before the next break.
-fn until_break(lines: &[OptLine]) -> usize
-    ensures count { result ≡ until_break lines.now }
-    ensures bound { result ≤ length lines.now }
-{
-    let mut count = 0;
-    for line in lines {
-        if line.doc_break {
-            break;
-        }
-        count += 1;
-    }
-    count
 }

@@ -1,9 +1,11 @@
 // The columns of the DAT file of a batch.
 ghost use Rattle.std.specs.Prelude.{◌≡◌, ◌==◌, not, IfOk};
 ghost use Rattle.std.specs.List.{list_all, list_any};
-ghost use Rattle.bp_import.specs.Columns.{are_columns, is_begattach, is_begdoc, is_column, is_end, is_field};
+ghost use Rattle.bp_load.specs.Documents.{is_begdoc};
+ghost use Rattle.bp_import.specs.Columns.{are_columns, is_begattach, is_column, is_end, is_field};
 
 use bp_core::{OutOfMemory, Text, texts_differ};
+use bp_load::is_begdoc;
 use std::alloc::Global;
 
 /// The most bytes of the name of a column.
@@ -48,13 +50,6 @@ fn has_no_newline(text: &Text) -> bool
     ensures { result ≡ list_all (λ c. not (c == 10)) text.now }
 {
     text.as_str().chars().all(|c| c != '\n')
-}
-
-/// Whether the column names the first page of a document.
-pub(crate) fn is_begdoc(column: &Text) -> bool
-    ensures { result ≡ is_begdoc column.now }
-{
-    column.as_str() == "BEGDOC"
 }
 
 /// Whether the column names the first page of a family.

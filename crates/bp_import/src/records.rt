@@ -4,9 +4,9 @@ ghost use Rattle.std.specs.List.{filter};
 ghost use Rattle.bp_load.specs.Table.{is_even};
 ghost use Rattle.bp_import.specs.Records.{fields_of, record_of, records_of};
 
-use crate::columns::{is_begattach, is_begdoc, is_field};
+use crate::columns::{is_begattach, is_field};
 use bp_core::{ListOf, OutOfMemory, Text, TextList};
-use bp_load::TextTable;
+use bp_load::{TextTable, is_begdoc};
 use std::alloc::Global;
 
 /// What a record says of its document.

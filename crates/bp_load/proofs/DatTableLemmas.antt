@@ -8,7 +8,7 @@ use Rattle.bp_core.specs.declared.rules.RuleKind.TheVariants.{DatShape, DatEncod
 use Rattle.bp_core.specs.Rules.{rule_at_line}
 use Rattle.bp_core.specs.InTurn.{first_then}
 use Rattle.bp_load.specs.Lines.{without_mark, filled_lines, each_line}
-use Rattle.bp_load.specs.Dat.{dat_of, table_of, row_of, of_number, values_of}
+use Rattle.bp_load.specs.Dat.{columns_in, dat_columns, dat_of, table_of, row_of, of_number, values_of}
 
 of_number_is : (n : ℕ) (o : Option (List (List ℕ))) (v : List (List ℕ)) → of_number n o ≡ Some v → (length v == n) ≡ true
 of_number_is n None v e = cc
@@ -44,3 +44,12 @@ dat_text bytes text rest utf8 e f =
 
 pub dat_other : (bytes : List ℕ) → is_utf8 bytes ≡ false → dat_of bytes ≡ Err (rule_at_line DatEncoding 0)
 dat_other bytes other = ap (λ b. cond b (table_of (filled_lines (without_mark bytes))) (Err (rule_at_line DatEncoding 0))) other
+
+-- ---- the columns alone
+
+pub columns_text : (bytes text rest : List ℕ) → is_utf8 bytes ≡ true → text ≡ bytes → rest ≡ without_mark text → columns_in (filled_lines rest) ≡ dat_columns bytes
+columns_text bytes text rest utf8 e f =
+    ap (λ r. columns_in (filled_lines r)) (f ∙ ap without_mark e) ∙ sym (ap (λ b. cond b (columns_in (filled_lines (without_mark bytes))) (Err (rule_at_line DatEncoding 0))) utf8)
+
+pub columns_other : (bytes : List ℕ) → is_utf8 bytes ≡ false → dat_columns bytes ≡ Err (rule_at_line DatEncoding 0)
+columns_other bytes other = ap (λ b. cond b (columns_in (filled_lines (without_mark bytes))) (Err (rule_at_line DatEncoding 0))) other

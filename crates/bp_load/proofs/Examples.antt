@@ -1,6 +1,6 @@
 -- Worked examples of the definitions in specs/, each run by the check.
 use Rattle.std.proofs.Common.{◌≡◌, [], ◌∷◌, ◌++◌, true, false, refl, Some, None, Ok, Err}
-use Rattle.std.specs.Prelude.{codes}
+use Rattle.std.specs.Prelude.{codes, ℕ}
 use Rattle.std.specs.List.{list_all}
 use Rattle.std.specs.Str.{chars, is_utf8}
 use Rattle.std.proofs.Math.Utf8.{encode}
@@ -9,7 +9,8 @@ use Rattle.bp_core.specs.Rules.{rule_at_line}
 use Rattle.bp_load.specs.Lines.{without_mark, filled_lines}
 use Rattle.bp_load.specs.Opt.{opt_of, opt_text, are_opt_lines}
 use Rattle.bp_load.specs.declared.opt.OptLine.{OptLine}
-use Rattle.bp_load.specs.Dat.{dat_of, dat_text, quoted_value, stands_for_itself, is_writable}
+use Rattle.bp_load.specs.Dat.{dat_columns, dat_of, dat_text, quoted_value, stands_for_itself, is_writable}
+use Rattle.bp_load.specs.Documents.{cell_under, docs_after, is_begdoc, until_break}
 use Rattle.bp_load.specs.Table.{Table}
 
 one_mark : without_mark (0xEF ∷ 0xBB ∷ 0xBF ∷ 0xEF ∷ 0xBB ∷ 0xBF ∷ []) ≡ 0xEF ∷ 0xBB ∷ 0xBF ∷ []
@@ -81,3 +82,55 @@ small_can_be_written = refl
 small_read : dat_of (dat_text small) ≡ Ok small
 unfolding chars is_utf8 encode
 small_read = refl
+
+-- the columns are read whatever stands behind their line
+columns_of_small : dat_columns (dat_text small) ≡ Ok (codes "ID" ∷ codes "NOTE" ∷ [])
+unfolding chars is_utf8 encode
+columns_of_small = refl
+
+columns_before_a_bad_line : dat_columns (dat_text small ++ codes "A1") ≡ Ok (codes "ID" ∷ codes "NOTE" ∷ [])
+unfolding chars is_utf8 encode
+columns_before_a_bad_line = refl
+
+columns_of_other_bytes : dat_columns (0xFE ∷ []) ≡ Err (rule_at_line DatEncoding 0)
+unfolding chars is_utf8 encode
+columns_of_other_bytes = refl
+
+no_columns : dat_columns [] ≡ Err (rule_at_line DatShape 1)
+unfolding chars is_utf8 encode
+no_columns = refl
+
+-- ---- documents
+
+begdoc : is_begdoc (codes "BEGDOC") ≡ true
+unfolding encode
+begdoc = refl
+
+-- a column is told by its name to the letter
+not_begdoc : is_begdoc (codes "BegDoc") ≡ false
+unfolding encode
+not_begdoc = refl
+
+-- of two columns of a name the first counts
+first_cell : cell_under is_begdoc (codes "ID" ∷ codes "BEGDOC" ∷ codes "BEGDOC" ∷ []) (codes "7" ∷ codes "A1" ∷ codes "A2" ∷ []) ≡ codes "A1"
+unfolding encode
+first_cell = refl
+
+no_such_cell : cell_under is_begdoc (codes "ID" ∷ []) (codes "7" ∷ []) ≡ []
+unfolding encode
+no_such_cell = refl
+
+abbrev next_page : OptLine
+next_page = record page { doc_break = false; pages = [] }
+
+two_before_a_break : until_break (next_page ∷ next_page ∷ page ∷ next_page ∷ []) ≡ 2
+two_before_a_break = refl
+
+no_break_follows : until_break (next_page ∷ next_page ∷ []) ≡ 2
+no_break_follows = refl
+
+a_break_takes_one : docs_after {D = ℕ} (1 ∷ 2 ∷ []) page ≡ 2 ∷ []
+a_break_takes_one = refl
+
+no_break_takes_none : docs_after {D = ℕ} (1 ∷ 2 ∷ []) next_page ≡ 1 ∷ 2 ∷ []
+no_break_takes_none = refl

@@ -7,4 +7,5 @@ pub mod DatTableLemmas
 pub mod JoinLemmas
 pub mod EndedLineLemmas
 pub mod DatWrittenLemmas
+pub mod CountLemmas
 mod Examples

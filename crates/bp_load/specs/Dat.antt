@@ -1,6 +1,7 @@
 -- The DAT load file (Concordance): a line of column names, and a line a record.
 use Rattle.std.specs.Prelude.{ℕ, ◌-◌, Bool, List, [], ◌∷◌, ◌++◌, length, map, take, drop, slice_index, nat_le, ◌==◌, ◌&&◌, not, if◌then◌else◌, Option, Some, None, Result, Ok, Err, encode_utf8_all}
 use Rattle.std.specs.List.{slice_split, list_all, join_with_byte, flat_map}
+use Rattle.std.specs.Option.{ok_or}
 use Rattle.std.specs.Char.{is_ascii}
 use Rattle.std.specs.Str.{chars, is_utf8}
 use Rattle.bp_core.specs.declared.rules.Rule.{Rule}
@@ -85,6 +86,18 @@ abbrev pub dat_of : List ℕ → Result Table Rule
 dat_of bytes =
     if is_utf8 bytes
     then table_of (filled_lines (without_mark bytes))
+    else Err (rule_at_line DatEncoding 0)
+
+-- the columns that the first line names
+abbrev pub columns_in : List (List ℕ) → Result (List (List ℕ)) Rule
+columns_in [] = Err (rule_at_line DatShape 1)
+columns_in (header ∷ records) = ok_or (values_of header) (rule_at_line DatShape 1)
+
+-- the columns of a file, whatever stands behind its first line; or what is wrong up to there
+abbrev pub dat_columns : List ℕ → Result (List (List ℕ)) Rule
+dat_columns bytes =
+    if is_utf8 bytes
+    then columns_in (filled_lines (without_mark bytes))
     else Err (rule_at_line DatEncoding 0)
 
 -- a newline is written as the sign

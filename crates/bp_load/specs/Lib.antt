@@ -1,4 +1,5 @@
 pub mod Dat
+pub mod Documents
 pub mod Fields
 pub mod Lines
 pub mod Opt

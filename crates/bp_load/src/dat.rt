@@ -8,7 +8,7 @@ ghost use Rattle.bp_core.specs.Answers.{Answers};
 ghost use Rattle.bp_core.specs.declared.rules.RuleKind.TheVariants.{DatShape};
 ghost use Rattle.bp_core.specs.Rules.{rule_at_line};
 ghost use Rattle.bp_load.specs.Lines.{each_line, filled_lines};
-ghost use Rattle.bp_load.specs.Dat.{dat_others_text, dat_of, table_of, row_of, values_of, quoted_value, is_quoted, inside, is_inner, stands_for_itself, read_character, write_character, quoted, dat_values_text, dat_line_text, dat_text, is_cell_character, is_cell, is_name, is_writable};
+ghost use Rattle.bp_load.specs.Dat.{dat_others_text, columns_in, dat_columns, dat_of, table_of, row_of, values_of, quoted_value, is_quoted, inside, is_inner, stands_for_itself, read_character, write_character, quoted, dat_values_text, dat_line_text, dat_text, is_cell_character, is_cell, is_name, is_writable};
 ghost use Rattle.bp_load.specs.Table.{is_even};
 
 use crate::fields::next_field;
@@ -100,6 +100,30 @@ pub fn read_dat(alloc: Global, bytes: &[u8]) -> Result<Dat, Refusal>
     match str::from_utf8(bytes) {
         Ok(text) => read_table(alloc, text_without_mark(text)),
         Err(_) => Err(refused(RuleKind::DatEncoding, 0)),
+    }
+}
+
+/// The column names of a DAT file, whatever stands behind its first line. DatEncoding where the file
+/// isn't UTF-8; DatShape at line 1 where there is no line, or the first is none of values.
+pub fn read_columns(alloc: Global, bytes: &[u8]) -> Result<TextList, Refusal>
+    ensures { Answers (λ columns. columns) result (dat_columns bytes.now) }
+{
+    let Ok(text) = str::from_utf8(bytes) else {
+        return Err(refused(RuleKind::DatEncoding, 0));
+    };
+    read_header(alloc, text_without_mark(text))
+}
+
+// The columns of a text without a mark.
+fn read_header(alloc: Global, text: &str) -> Result<TextList, Refusal>
+    ensures { Answers (λ columns. columns) result (columns_in (filled_lines text.now)) }
+{
+    let Some((header, _)) = first_filled_line(text) else {
+        return Err(refused(RuleKind::DatShape, 1));
+    };
+    match read_values(alloc, header, 0)? {
+        Some(columns) => Ok(columns),
+        None => Err(refused(RuleKind::DatShape, 1)),
     }
 }
 

@@ -2,9 +2,11 @@
 #![tactic(auto)]
 
 mod dat;
+mod documents;
 mod fields;
 mod lines;
 mod opt;
 
-pub use dat::{Dat, TextTable, read_dat, write_dat};
+pub use dat::{Dat, TextTable, read_columns, read_dat, write_dat};
+pub use documents::{docs_after, is_begdoc, until_break};
 pub use opt::{OptLine, OptList, opt_writable, read_opt, write_opt};

@@ -11,8 +11,8 @@ use Rattle.bp_press.specs.Files.{Placed}
 use Rattle.bp_press.specs.Contents.{label_count}
 use Rattle.bp_press.specs.LoadFiles.{dat_row}
 use Rattle.bp_press.specs.Paths.{text_path}
-use Rattle.bp_check.specs.Columns.{is_begdoc, is_enddoc, is_pagecount, is_textpath}
-use Rattle.bp_check.specs.Records.{cell_under}
+use Rattle.bp_check.specs.Columns.{is_enddoc, is_pagecount, is_textpath}
+use Rattle.bp_load.specs.Documents.{cell_under, is_begdoc}
 
 pub begdoc_cell : (f : Production) (p : Placed)
     → cell_under is_begdoc (columns ++ f.request.fields) (dat_row f p) ≡ label_in f.request.prefix p.item.span.first

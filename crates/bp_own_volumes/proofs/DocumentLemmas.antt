@@ -16,15 +16,16 @@ use Rattle.bp_core.specs.declared.rules.RuleKind.TheVariants.{CheckBreaks, Check
 use Rattle.bp_load.specs.declared.opt.OptLine.{OptLine}
 use Rattle.bp_bates.specs.Labels.{label_of}
 use Rattle.bp_bates.specs.Prefixes.{is_good_prefix}
-use Rattle.bp_check.specs.Breaks.{breaks_from, breaks_of, docs_after, fits, has_record, last_image}
+use Rattle.bp_check.specs.Breaks.{breaks_from, breaks_of, fits, has_record, last_image}
 use Rattle.bp_check.specs.Check.{agrees}
-use Rattle.bp_check.specs.Counts.{counts_from, counts_of, is_counted, is_decimal, record_says, says_number, until_break, without_zeros}
+use Rattle.bp_check.specs.Counts.{counts_from, counts_of, is_counted, is_decimal, record_says, says_number, without_zeros}
 use Rattle.bp_check.specs.Labels.{Label, follows, gap_rule, is_next, label_at, labels_from, labels_of}
 use Rattle.bp_check.specs.Labels as checked
-use Rattle.bp_check.specs.Columns.{is_begdoc, is_enddoc, is_pagecount}
-use Rattle.bp_check.specs.Records.{cell_under, record_of}
+use Rattle.bp_check.specs.Columns.{is_enddoc, is_pagecount}
+use Rattle.bp_check.specs.Records.{record_of}
 use Rattle.bp_check.specs.Steps.{demand}
 use Rattle.bp_own_volumes.proofs.LabelBackLemmas.{label_back}
+use Rattle.bp_load.specs.Documents.{cell_under, docs_after, is_begdoc, until_break}
 
 -- ---- what the lines of a document say
 

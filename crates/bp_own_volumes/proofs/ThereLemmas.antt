@@ -21,9 +21,10 @@ use Rattle.bp_check.specs.Files.{file_at, file_read, file_rule}
 use Rattle.bp_check.specs.Images.{Judging, at_line, image_at, images_of, path_at, text_at, texts_from, texts_of}
 use Rattle.bp_check.specs.Listing.{digest_text, digests_by, listed_all, lists}
 use Rattle.bp_check.specs.Manifest.{Listed}
-use Rattle.bp_check.specs.Records.{cell_under, record_of}
+use Rattle.bp_check.specs.Records.{record_of}
 use Rattle.bp_check.specs.Steps.{demand, each, in_turn}
 use Rattle.bp_check.specs.declared.files.TheConstants.{FILE_LIMIT, IMAGE, LISTED, TEXT}
+use Rattle.bp_load.specs.Documents.{cell_under}
 
 -- ---- a file
 

@@ -2,7 +2,7 @@ use Rattle.std.proofs.Common.{◌∙◌, List, ap, length, arith}
 use Rattle.bp_load.specs.Opt.{opt_of}
 use Rattle.bp_load.specs.declared.opt.OptLine.{OptLine}
 use Rattle.bp_check.proofs.CalmLemmas.{bad_after, opt_calm}
-use Rattle.bp_check.proofs.CountLemmas.{opt_few}
+use Rattle.bp_load.proofs.CountLemmas.{opt_few}
 use Rattle.bp_check.proofs.plans.read_lines.Goals as goal
 
 pub returns-in_err-read_opt-clause-after : goal.returns-in_err-read_opt-clause-after

@@ -4,7 +4,7 @@ use Rattle.bp_load.specs.Table.{Table}
 use Rattle.bp_check.specs.Files.{file_at}
 use Rattle.bp_check.specs.declared.files.TheConstants.{DAT}
 use Rattle.bp_check.proofs.CalmLemmas.{bad_after, dat_calm}
-use Rattle.bp_check.proofs.CountLemmas.{dat_few}
+use Rattle.bp_load.proofs.CountLemmas.{dat_few}
 use Rattle.bp_check.proofs.ToldLemmas.{gives_last, gives_next, told_then}
 use Rattle.bp_check.proofs.plans.read_table.Goals as goal
 

@@ -7,7 +7,8 @@ use Rattle.bp_import.specs.Breaks.{cut, page_counts}
 use Rattle.bp_import.specs.Documents.{with_words, words_of_lines}
 use Rattle.bp_import.specs.Scans.{GivesImages}
 use Rattle.bp_import.specs.WordPages.{are_places, places_of, words_inside}
-use Rattle.bp_import.proofs.CountLemmas.{opt_few, words_few}
+use Rattle.bp_load.proofs.CountLemmas.{opt_few}
+use Rattle.bp_import.proofs.CountLemmas.{words_few}
 use Rattle.bp_import.proofs.FinalLemmas.{batch_holds, places_good, told_batch, told_images_refused, told_word_outside}
 use Rattle.bp_import.proofs.StepLemmas.{inside_calm}
 use Rattle.bp_import.proofs.batch.read_batch.Goals as goal

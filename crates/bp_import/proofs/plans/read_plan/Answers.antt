@@ -11,7 +11,7 @@ use Rattle.bp_import.specs.Planned.{Refuses, placing_of, said_at}
 use Rattle.bp_import.specs.Records.{fields_of, record_of, records_of}
 use Rattle.bp_import.specs.WordPages.{places_of}
 use Rattle.bp_import.specs.declared.files.TheConstants.{OPT, WORDS}
-use Rattle.bp_import.proofs.CountLemmas.{opt_few}
+use Rattle.bp_load.proofs.CountLemmas.{opt_few}
 use Rattle.bp_import.proofs.DatFactLemmas.{table_few}
 use Rattle.bp_import.proofs.PlanLemmas.{files_told, opt_refused_told, placing_refused_told}
 use Rattle.bp_import.proofs.plans.read_plan.Goals as goal

@@ -2,9 +2,10 @@ use Rattle.std.proofs.Common.{◌≡◌, [], ◌++◌, length, drop, sym, ap, �
 use Rattle.std.specs.Str.{chars}
 use Rattle.std.proofs.lemmas.List.{append-nil, drop_all}
 use Rattle.std.proofs.lemmas.Str.{chars-nil}
-use Rattle.bp_import.specs.Columns.{is_begdoc, is_begattach}
-use Rattle.bp_import.specs.Records.{cell_under, field_cells}
+use Rattle.bp_import.specs.Columns.{is_begattach}
+use Rattle.bp_import.specs.Records.{field_cells}
 use Rattle.bp_import.proofs.records.record_of.Goals as goal
+use Rattle.bp_load.specs.Documents.{cell_under, is_begdoc}
 
 pub loop-cell-init : goal.loop-cell-init
 loop-cell-init c =

@@ -1,7 +1,8 @@
 use Rattle.std.proofs.Common.{◌≡◌, ◌++◌, length, drop, reverse, vec_len}
-use Rattle.bp_import.specs.Columns.{is_begdoc, is_begattach}
-use Rattle.bp_import.specs.Records.{cell_under, field_cells}
+use Rattle.bp_import.specs.Columns.{is_begattach}
+use Rattle.bp_import.specs.Records.{field_cells}
 use Rattle.bp_import.proofs.records.record_of.Given as goal
+use Rattle.bp_load.specs.Documents.{cell_under, is_begdoc}
 
 -- what the cells say that were taken
 abbrev pub invariant-loop-cell : goal.invariant-loop-cell

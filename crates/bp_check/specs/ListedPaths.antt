@@ -11,4 +11,5 @@ use Rattle.bp_check.specs.Manifest.{Listed}
 -- of each text of Unicode characters, in UTF-8, the set says whether it is listed
 abbrev pub Knows : BTreeSet (Bor (List ℕ)) → List Listed → Type 0
 Knows known listed = (path : List ℕ) → all_scalars path ≡ true
-    → contains_by (λ key. slice_cmp nat_cmp (encode_utf8_all path) key.now) known ≡ lists listed path
+    → contains_by (λ key. slice_cmp nat_cmp (encode_utf8_all path) key.now) known
+    ≡ lists listed path

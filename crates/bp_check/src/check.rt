@@ -65,7 +65,8 @@ fn check_planned<S: Source>(
         → Gives (λ checked. checked) result
         (checked_by digest_text (file_at files) tiff (plan_seen plan))) }
     ensures after { S.shows source.new ≡ after_step (S.shows source.old) result }
-    ensures reads { IfOk result (λ checked. ReadsAtMost (checked.images + checked.documents + checked.files)
+    ensures reads { IfOk result (λ checked. ReadsAtMost
+        (checked.images + checked.documents + checked.files)
         (S.reads source.old) (S.reads source.new)) }
 {
     agree(alloc, &plan.docs, plan.lines.as_slice())?;
@@ -102,7 +103,8 @@ fn check_files<S: Source>(
         → Gives (λ count. count) result
         (files_by digest_text (file_at files) tiff (plan_seen plan))) }
     ensures after { S.shows source.new ≡ after_step (S.shows source.old) result }
-    ensures reads { IfOk result (λ count. ReadsAtMost (length plan.lines + length plan.docs.items + count)
+    ensures reads { IfOk result (λ count. ReadsAtMost
+        (length plan.lines + length plan.docs.items + count)
         (S.reads source.old) (S.reads source.new)) }
 {
     let Planned {

@@ -77,7 +77,8 @@ pub(crate) fn check_texts<S: Source>(
 ) -> Result<Vec<Text>, ImportRefusal>
     requires { length docs.now + 1 < 2 ^ 32 }
     ensures told { IfSome (S.shows source.old).files (λ files.
-        Gives (λ found. found.items) result (behind paths.items (texts_of (file_at files) docs.now))) }
+        Gives (λ found. found.items) result
+        (behind paths.items (texts_of (file_at files) docs.now))) }
     ensures after { S.shows source.new ≡ after_step (S.shows source.old) result }
     ensures reads { ReadsAtMost (length docs.now) (S.reads source.old) (S.reads source.new) }
 {

@@ -7,4 +7,9 @@ pub mod PileLemmas
 pub mod BatchLemmas
 pub mod CallLemmas
 pub mod TableLemmas
+pub mod SheetLemmas
+pub mod ThereLemmas
+pub mod DoneLemmas
+pub mod AnswerLemmas
+pub mod ResponsiveLemmas
 mod Examples

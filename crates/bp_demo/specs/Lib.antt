@@ -6,3 +6,4 @@ pub mod Calls
 pub mod Asked
 pub mod Frozen
 pub mod Demo
+pub mod Answered

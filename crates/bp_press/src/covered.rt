@@ -16,6 +16,7 @@ ghost use Rattle.bp_press.specs.Jobs.{IsCodable, page_of, sheet_frame};
 ghost use Rattle.bp_press.specs.Shown.{CanBeCoded, Lends, covers, image_lent, matter_behind, production_shown, rows_lent, shown_words, value_lent, words_left};
 ghost use Rattle.bp_press.specs.declared.jobs.Job.{Job as AnyJob};
 
+use crate::gate::Gate;
 use crate::jobs::Job;
 use crate::shown::Shows;
 use bp_burn::{BAND_ROWS, CoveredRows, OutRoom, SLIP_DOTS, SLIP_HEIGHT, SLIP_WIDTH};
@@ -215,14 +216,17 @@ impl<'a> CoveredJobs<'a> {
         self.jobs.len()
     }
 
-    // The image of a job, its page covered. Jobs are counted from 0.
-    pub(crate) fn image(&self, job: usize) -> CoveredImage<'a>
+    // The image of a job, its page covered, behind the gate, which the job enters by its number before
+    // anything of it is lent. Jobs are counted from 0.
+    pub(crate) fn image<G: Gate>(&self, gate: &G, job: usize) -> CoveredImage<'a>
         requires job { job < length self.now.jobs.now }
         requires codable { All (IsCodable self.now.tables.now.matter) self.now.jobs.now }
         ensures is { (d : AnyJob) → image_lent result
             ≡ page_of self.now.tables.now.matter (slice_index_or self.now.jobs.now job d) }
         ensures can { CanBeCoded result }
+        ensures entered { G.entered gate.now job }
     {
+        gate.enter(job);
         image_of(self.tables, &self.jobs[job])
     }
 }

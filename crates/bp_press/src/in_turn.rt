@@ -69,13 +69,17 @@ impl<'w> FilesInTurn<'w> {
         })
     }
 
-    /// The next file, with its digest, if there is one.
+    /// The next file, with its digest, if there is one. Where memory ran out the same file is still the
+    /// next one, and can be asked for once more.
     pub fn next(&mut self, alloc: Global) -> Result<Option<MadeFile>, OutOfMemory>
         ensures taken { IfOk result (λ made. TakesMade self.old made self.new) }
         ensures digest { IfOk result (λ made. IfSome made IsDigested) }
 
         // Memory can run out only while there is one.
         ensures some { OnErr result (0 < length self.old) }
+
+        // It leaves the files that are still to be given.
+        ensures stays { OnErr result (self.new ≡ self.old) }
     {
         if self.ended {
             return Ok(None);
@@ -92,7 +96,7 @@ impl<'w> FilesInTurn<'w> {
     }
 }
 
-// The file at a place of the list, with its line added to the manifest.
+// The file at a place of the list, with its line added to the manifest, whole or not at all.
 fn listed_file(
     alloc: Global,
     shown: &Covered<'_>,
@@ -107,9 +111,12 @@ fn listed_file(
     ensures line { (d : Entry) → OnOk result (manifest.new.items ≡ manifest.old.items
         ++ manifest_line (row_of (production_shown shown.now) (matter_behind shown.now)
         (slice_index_or list.now place d))) }
+    ensures stays { OnErr result (manifest.new.items ≡ manifest.old.items) }
 {
     let made = file_made(alloc, shown, shown.production(), &list[place])?;
-    add_line(manifest, &made.row.path, made.digest)?;
+    let mut line = Vec::new(alloc);
+    add_line(&mut line, &made.row.path, made.digest)?;
+    manifest.extend_from_slice(&line)?;
     Ok(made)
 }
 

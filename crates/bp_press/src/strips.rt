@@ -16,8 +16,9 @@ use std::thread::{Threads, map_indices};
 
 /// The strips of 1 to 16 images, in order: each page is read from its strip, burned, banded and
 /// coded row by row (ITU-T T.6). Each job is one call of `map_indices`, and enters the gate before
-/// its work: no strip is begun of a job that hasn't. Where no thread can be had it is done by the
-/// caller. It returns if the threads that it joins do.
+/// its work: the wall lends the image of a job to no one but by the job's entry, so no strip is begun
+/// of a job that hasn't entered. Where no thread can be had it is done by the caller. It returns if the
+/// threads that it joins do.
 pub fn strips_of<R: Threads + Sync, G: Gate + Sync>(
     rt: &R,
     alloc: Global,
@@ -66,7 +67,7 @@ pub(crate) fn covered_strips<R: Threads + Sync, G: Gate + Sync>(
     all_strips(alloc, made)
 }
 
-// The strip of one job, which enters the gate before its work.
+// The strip of one job. Its image is lent as the job enters the gate, so no work is begun before.
 fn entered_strip<G: Gate>(
     alloc: Global,
     images: &CoveredJobs<'_>,
@@ -80,25 +81,7 @@ fn entered_strip<G: Gate>(
         (slice_index_or images.now.jobs.now job d)) }
     ensures entered { G.entered gate.now job }
 {
-    gate.enter(job);
-    strip_behind(gate, alloc, images, job)
-}
-
-// The strip of a job that has entered the gate.
-fn strip_behind<G: Gate>(
-    _gate: &G,
-    alloc: Global,
-    images: &CoveredJobs<'_>,
-    job: usize,
-) -> Result<Bytes, OutOfMemory>
-    requires entered { G.entered _gate.now job }
-    requires job { job < length images.now.jobs.now }
-    requires codable { All (IsCodable images.now.tables.now.matter) images.now.jobs.now }
-    ensures { (d : Job) → IfOk result (λ strip.
-        strip ≡ strip_by images.now.tables.now.matter
-        (slice_index_or images.now.jobs.now job d)) }
-{
-    image_strip(alloc, images.image(job))
+    image_strip(alloc, images.image(gate, job))
 }
 
 // The strips that were made, or want of memory where one of them has none.

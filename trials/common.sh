@@ -49,7 +49,7 @@ build_bench() {
 scratch='' desk=''
 leave() {
     [ -z "$desk" ] || kill -- "-$desk" 2> /dev/null || kill "$desk" 2> /dev/null || :
-    [ -z "$scratch" ] || { chmod -R u+w "$scratch" && rm -rf "$scratch"; }
+    [ -z "$scratch" ] || { chmod -R u+w "$scratch" 2> /dev/null || :; rm -rf "$scratch"; }
 }
 trap leave EXIT
 trap 'exit 130' INT

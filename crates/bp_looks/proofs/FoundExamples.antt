@@ -34,6 +34,7 @@ no_term : are_terms [] ≡ false
 no_term = refl
 
 eight_terms : are_terms (replicate 8 (codes "a")) ≡ true
+unfolding lib.Utf8.encode
 eight_terms = refl
 
 nine_terms : are_terms (replicate 9 (codes "a")) ≡ false
@@ -44,15 +45,19 @@ empty_term : is_term [] ≡ false
 empty_term = refl
 
 longest : is_term (replicate 200 97) ≡ true
+unfolding lib.Utf8.encode
 longest = refl
 
 too_long : is_term (replicate 201 97) ≡ false
+unfolding lib.Utf8.encode
 too_long = refl
 
 too_wide : is_term (97 ∷ replicate 100 0xE9) ≡ false
+unfolding lib.Utf8.encode
 too_wide = refl
 
 control : is_term (codes "a" ++ 127 ∷ []) ≡ false
+unfolding lib.Utf8.encode
 control = refl
 
 abbrev word_at : ℕ → List ℕ → Word
@@ -95,7 +100,7 @@ in_matter : find matter counsel 1 0 ≡ Ok (record {
   next = 0;
   next_page = 0;
 })
-unfolding ucd_case ucd_category
+unfolding ucd_case ucd_category lib.Utf8.encode
 in_matter = refl
 
 -- from the page of the last document on
@@ -104,7 +109,7 @@ from_there : find matter counsel 2 1 ≡ Ok (record {
   next = 0;
   next_page = 0;
 })
-unfolding ucd_case ucd_category
+unfolding ucd_case ucd_category lib.Utf8.encode
 from_there = refl
 
 -- no term; from document 0, and beyond the last; from a page beyond the last. The first reason counts
@@ -112,12 +117,15 @@ none_asked : find matter [] 0 0 ≡ Err refusals.TermRefused
 none_asked = refl
 
 from_zero : find matter counsel 0 0 ≡ Err refusals.NoDocument
+unfolding lib.Utf8.encode
 from_zero = refl
 
 past_documents : find matter counsel 3 9 ≡ Err refusals.NoDocument
+unfolding lib.Utf8.encode
 past_documents = refl
 
 past_pages : find matter counsel 2 2 ≡ Err refusals.NoPage
+unfolding lib.Utf8.encode
 past_pages = refl
 
 abbrev any : List (List ℕ)

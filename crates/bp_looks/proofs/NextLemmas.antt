@@ -1,5 +1,5 @@
 -- Where a search stops another can begin: its part is there.
-use Rattle.std.proofs.Common.{◌≡◌, ◌≤◌, ◌<◌, ◌+◌, ◌-◌, ℕ, zero, suc, ◌⊎◌, inl, inr, Bool, true, false, Option, Some, None, Ok, Err, List, [], ◌∷◌, ◌++◌, length, drop, get_or, refl, sym, ap, subst, ◌∙◌, arith}
+use Rattle.std.proofs.Common.{◌≡◌, ◌≤◌, ◌<◌, ◌+◌, ◌-◌, ℕ, inl, inr, Bool, true, false, Option, Some, None, Ok, Err, List, [], ◌∷◌, ◌++◌, length, drop, get_or, refl, sym, ap, subst, ◌∙◌, arith}
 use Rattle.std.specs.Prelude.{if◌then◌else◌, nat_lt, not}
 use Rattle.std.proofs.lemmas.Bool.{cases_lt, le-ltb}
 use Rattle.std.proofs.lemmas.List.{get_or-drop, get_or_past, length-drop}
@@ -15,20 +15,35 @@ use Rattle.bp_looks.specs.declared.refusals.FindRefusal.TheVariants as refusals
 use Rattle.bp_looks.proofs.LawLemmas.{IsPlaced, placed-start, placed-walk}
 use Rattle.bp_looks.proofs.PartLemmas.{length-rows}
 
+-- the first part is of the first document, or of one that comes after it
+from_by : (docs : List (List Rows)) (doc page : ℕ) (part : Part) (rest : List Part) (left : List Rows)
+    → parts_of doc page left ++ parts_in (doc + 1) 0 docs ≡ part ∷ rest
+    → (parts_in (doc + 1) 0 docs ≡ part ∷ rest → doc + 1 ≤ part.doc)
+    → doc ≤ part.doc
+from_by docs doc page part rest [] e go = let later = go e in omega (arith, later)
+from_by docs doc page part rest (rows ∷ left) e go =
+    let same : doc ≡ part.doc = cc in omega (arith, same)
+
 -- no part comes from a document before the first
 first_from : (docs : List (List Rows)) (doc page : ℕ) (part : Part) (rest : List Part)
     → parts_in doc page docs ≡ part ∷ rest
     → doc ≤ part.doc
 first_from [] doc page part rest e = absurd (cc)
-first_from (parts ∷ docs) doc page part rest e = within (drop page parts) e
-  where
-    within : (left : List Rows)
-        → parts_of doc page left ++ parts_in (doc + 1) 0 docs ≡ part ∷ rest
-        → doc ≤ part.doc
-    within [] f =
-        let later = first_from docs (doc + 1) 0 part rest f in omega (arith, later)
-    within (rows ∷ left) f =
-        let same : doc ≡ part.doc = cc in omega (arith, same)
+first_from (parts ∷ docs) doc page part rest e =
+    from_by docs doc page part rest (drop page parts) e (λ f. first_from docs (doc + 1) 0 part rest f)
+
+-- where rows are left of the first document, it has the page
+page_by : (parts : List Rows) (docs : List (List Rows)) (doc page : ℕ) (part : Part)
+    (rest : List Part) (left : List Rows)
+    → drop page parts ≡ left
+    → parts_of doc page left ++ parts_in (doc + 1) 0 docs ≡ part ∷ rest
+    → part.doc ≡ doc
+    → page < length parts
+page_by parts docs doc page part rest [] at e here =
+    let later = first_from docs (doc + 1) 0 part rest e in absurd (omega (arith, later, here))
+page_by parts docs doc page part rest (rows ∷ left) at e here =
+    let many = ap (λ (l : List Rows). length l) at in
+    omega (arith, many, length-drop page parts)
 
 -- where the first part is of the first document, that document has the page
 first_page : (docs : List (List Rows)) (doc page : ℕ) (part : Part) (rest : List Part)
@@ -36,17 +51,8 @@ first_page : (docs : List (List Rows)) (doc page : ℕ) (part : Part) (rest : Li
     → part.doc ≡ doc
     → page < length (get_or docs 0 [])
 first_page [] doc page part rest e here = absurd (cc)
-first_page (parts ∷ docs) doc page part rest e here = within (drop page parts) refl e
-  where
-    within : (left : List Rows)
-        → drop page parts ≡ left
-        → parts_of doc page left ++ parts_in (doc + 1) 0 docs ≡ part ∷ rest
-        → page < length parts
-    within [] at f =
-        let later = first_from docs (doc + 1) 0 part rest f in absurd (omega (arith, later, here))
-    within (rows ∷ left) at f =
-        let many = ap (λ (l : List Rows). length l) at in
-        omega (arith, many, length-drop page parts)
+first_page (parts ∷ docs) doc page part rest e here =
+    page_by parts docs doc page part rest (drop page parts) refl e here
 
 -- a document that has rows stands in the matter
 rows_there : (m : Matter) (before page : ℕ)
@@ -70,7 +76,7 @@ found_there m terms doc page None is lt = absurd (omega arith)
 found_there m terms doc page (Some row) is lt =
     let pages : pages_of m doc ≡ Some row.pages = ap (λ o. of_row (λ row. row.pages) o) is in
     let test : nat_lt row.pages page ≡ false =
-    le-ltb page row.pages (omega (arith, length-rows m row doc)) in
+    le-ltb row.pages page (omega (arith, length-rows m row doc)) in
     ap (λ (o : Option ℕ). find_from m terms doc page o) pages
     ∙ ap (λ (b : Bool). if b then Err refusals.NoPage else Ok (found_of m terms doc page)) test
 

@@ -1,6 +1,8 @@
 -- The parts of a document that stands in a row, and what a valid matter says of their sizes.
-use Rattle.std.proofs.Common.{◌≡◌, ◌≤◌, ◌<◌, ◌+◌, ◌-◌, ◌^◌, ℕ, zero, suc, Bool, true, false, ◌⊎◌, inl, inr, Option, Some, None, List, [], ◌∷◌, length, drop, get_or, map, refl, sym, ap, subst, ◌∙◌, arith, encode_utf8_all}
-use Rattle.std.specs.List.{range_with_len, find, list_all}
+use Rattle.std.proofs.Common.{◌≡◌, ◌≤◌, ◌<◌, ◌+◌, ◌^◌, ℕ, zero, suc, Bool, true, inl, inr, Option, Some, None, List, [], ◌∷◌, length, drop, get_or, refl, sym, ap, subst, ◌∙◌, arith, encode_utf8_all}
+use Rattle.std.specs.Prelude.{◌&&◌, ◌==◌, nat_le, not}
+use Rattle.std.specs.List.{find, list_all}
+use Rattle.std.specs.Str.{all_scalars}
 use Rattle.std.proofs.lemmas.Bool.{and_parts, cases_Bool, leb-true, ltb-true}
 use Rattle.std.proofs.lemmas.List.Sums.{AllPass-from_list_all}
 use Rattle.std.proofs.lemmas.Str.{length-le-encodes}
@@ -14,7 +16,7 @@ use Rattle.bp_matter.specs.declared.rows.DocRow.{DocRow}
 use Rattle.bp_matter.specs.declared.rows.PageWords.{PageWords}
 use Rattle.bp_matter.proofs.NumberedLemmas.{numbered-before}
 use Rattle.bp_looks.specs.Finding.{pages_of}
-use Rattle.bp_looks.specs.Terms.{are_terms}
+use Rattle.bp_looks.specs.Terms.{are_terms, is_term}
 use Rattle.bp_looks.specs.declared.terms.TheConstants.{MAX_TERMS}
 use Rattle.bp_looks.specs.Parts.{Rows, document_rows, documents_of, page_rows, rows_in}
 
@@ -64,9 +66,10 @@ pub words-few : (m : Matter) (doc page : ℕ) (row : PageWords)
     → length row.words < 2 ^ 32
 words-few m doc page row valid is =
     let written = found_passes _ words_written m.words row is valid.words.written in
-    let rest = and_parts _ _ written in
-    let few = and_parts _ _ (and_parts _ _ rest.1).1 in
-    ltb-true (length row.words) (2 ^ 32) few.1
+    let rest = and_parts (is_word row.doc.0) (is_word row.page.0 && are_few word_written row.words) written in
+    let few = and_parts (is_word row.page.0) (are_few word_written row.words) rest.1 in
+    let many = and_parts (list_all word_written row.words) (is_word (length row.words)) few.1 in
+    ltb-true (length row.words) (2 ^ 32) many.1
 
 -- a document has few values, each with few characters
 pub values-few : (m : Matter) (doc : ℕ) (row : DocRow)
@@ -75,11 +78,15 @@ pub values-few : (m : Matter) (doc : ℕ) (row : DocRow)
     → are_few is_short row.values ≡ true
 values-few m doc row valid is =
     let written = found_passes _ doc_written m.docs row is valid.docs.written in
-    let parent = and_parts _ _ written in
-    let pages = and_parts _ _ parent.1 in
-    let batch = and_parts _ _ pages.1 in
-    let id = and_parts _ _ batch.1 in
-    (and_parts _ _ id.1).1
+    let few = are_few is_short row.values in
+    let named = is_short row.id && few in
+    let numbered = is_word row.batch && named in
+    let paged = is_word row.pages && numbered in
+    let parent = and_parts (is_word row.doc.0) (is_word row.parent.0 && paged) written in
+    let pages = and_parts (is_word row.parent.0) paged parent.1 in
+    let batch = and_parts (is_word row.pages) numbered pages.1 in
+    let id = and_parts (is_word row.batch) named batch.1 in
+    (and_parts (is_short row.id) few id.1).1
 
 -- a value of those has few characters
 pub value-few : (values : List (List ℕ)) (i : ℕ) (value : List ℕ)
@@ -88,9 +95,10 @@ pub value-few : (values : List (List ℕ)) (i : ℕ) (value : List ℕ)
     → value ≡ get_or values i value
     → length value < 2 ^ 32
 value-few values i value all lt is =
-    let each = AllPass-from_list_all is_short values (and_parts _ _ all).0 in
+    let each = AllPass-from_list_all is_short values (and_parts (list_all is_short values) (is_word (length values)) all).0 in
     let short : is_short value ≡ true = subst (λ v. is_short v ≡ true) (sym is) (each i value lt) in
-    let bytes = ltb-true (length (encode_utf8_all value)) (2 ^ 32) (and_parts _ _ short).1 in
+    let bytes = ltb-true (length (encode_utf8_all value)) (2 ^ 32)
+    (and_parts (all_scalars value) (is_word (length (encode_utf8_all value))) short).1 in
     omega (arith, bytes, length-le-encodes value)
 
 -- no document has the number 0
@@ -108,7 +116,8 @@ doc-first m (suc doc) pages valid is = omega arith
 -- the terms of a search are few
 pub terms-few : (terms : List (List ℕ)) → are_terms terms ≡ true → length terms < 2 ^ 32
 terms-few terms good =
-    let some = and_parts _ _ good in
-    let few = and_parts _ _ some.1 in
-    let eight = leb-true (length terms) MAX_TERMS few.0 in
+    let some = not (length terms == 0) in
+    let few = nat_le (length terms) MAX_TERMS in
+    let both = and_parts (some && few) (list_all is_term terms) good in
+    let eight = leb-true (length terms) MAX_TERMS (and_parts some few both.0).1 in
     omega (arith, eight)

@@ -1,5 +1,5 @@
 -- The pieces of a text: cut in bytes or in characters they are the same, and they are few.
-use Rattle.std.proofs.Common.{◌≡◌, ◌≤◌, ◌<◌, ◌+◌, ℕ, zero, suc, Bool, true, false, cond, ◌&&◌, List, [], ◌∷◌, ◌++◌, length, get_or, map, refl, sym, ap, subst, ◌∙◌, arith, encode_utf8_all, length-append, append-nil}
+use Rattle.std.proofs.Common.{◌≡◌, ◌≤◌, ◌<◌, ◌+◌, ℕ, suc, Bool, true, false, cond, List, [], ◌∷◌, ◌++◌, length, get_or, map, refl, sym, ap, ◌∙◌, arith, encode_utf8_all, append-nil}
 use Rattle.std.specs.Prelude.{◌==◌, filter, encode_utf8, not}
 use Rattle.std.specs.List.{slice_split, onto_first, list_all}
 use Rattle.std.specs.Str.{chars, all_scalars}
@@ -167,12 +167,11 @@ fewer_rest false x l = omega arith
 few_onto : (c n : ℕ) (parts : List (List ℕ))
     → length (filter is_some_text parts) ≤ n
     → length (filter is_some_text (onto_first c parts)) ≤ n + 1
-few_onto c n [] few =
-    let first = eqb-suc-zero 0 in omega (arith, first)
+few_onto c n [] few = omega arith
 few_onto c n (part ∷ parts) few =
     let rest = filter is_some_text parts in
     let less : length rest ≤ n = omega (arith, few, fewer_rest (is_some_text part) part rest) in
-    let kept : length (cond (is_some_text (c ∷ part)) ((c ∷ part) ∷ rest) rest) ≡ length rest + 1 =
+    let kept : length (cond (is_some_text (c ∷ part)) ((c ∷ part) ∷ rest) rest) ≡ suc (length rest) =
     ap (λ (b : Bool). length (cond (not b) ((c ∷ part) ∷ rest) rest)) (eqb-suc-zero (length part)) in
     omega (arith, kept, less)
 

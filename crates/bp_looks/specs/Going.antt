@@ -1,10 +1,7 @@
 -- Searches that go on, each from where the one before stopped.
-use Rattle.std.specs.Prelude.{ℕ, zero, suc, ◌==◌, if◌then◌else◌, List, [], ◌∷◌, ◌++◌, Result, Ok, Err}
-use Rattle.bp_matter.specs.Matter.{Matter}
-use Rattle.bp_looks.specs.Finding.{find}
+use Rattle.std.specs.Prelude.{ℕ, zero, suc, ◌==◌, if◌then◌else◌, List, [], ◌∷◌, ◌++◌}
 use Rattle.bp_looks.specs.Found.{found_from, hits_in}
 use Rattle.bp_looks.specs.Parts.{Part, Rows}
-use Rattle.bp_looks.specs.declared.found.Found.{Found}
 use Rattle.bp_looks.specs.declared.hits.Hit.{Hit}
 
 -- the hits of each of these parts, in order

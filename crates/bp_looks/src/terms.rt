@@ -18,9 +18,14 @@ pub const MAX_TERM: usize = 200;
 pub(crate) fn are_terms(terms: &TextList) -> bool
     ensures { result ≡ are_terms terms.now }
 {
-    !terms.is_empty()
-        && terms.len() <= MAX_TERMS
-        && terms.as_slice().iter().all(|term| is_term(term))
+    !terms.is_empty() && terms.len() <= MAX_TERMS && is_each_term(terms.as_slice())
+}
+
+// Whether each of these texts is a term.
+fn is_each_term(texts: &[Text]) -> bool
+    ensures { result ≡ list_all is_term texts.now }
+{
+    texts.iter().all(|text| is_term(text))
 }
 
 fn is_term(term: &Text) -> bool

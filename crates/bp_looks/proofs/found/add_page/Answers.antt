@@ -9,9 +9,9 @@ returns c =
     let ts = terms_of c.args.terms.now in
     let spot = c.args.spot in
     let m = c.args.tables.now.matter in
-    let same : hits_of ts spot (map word_text c.words_on.result.now)
+    let same : hits_of ts spot (map word_text c.words_on-words.result.now)
     ≡ hits_of_rows ts spot (page_rows m spot.doc.0 spot.page) =
-    ap (λ words. hits_of ts spot (map word_text words)) c.words_on.ensures.value
+    ap (λ words. hits_of ts spot (map word_text words)) c.words_on-words.ensures.value
     ∙ sym (append-nil (hits_of ts spot (page_texts m spot.doc.0 spot.page))) in
     subst (λ (l : List Hit). OnOk c.add_word_hits.result
     (c.add_word_hits.new.hits.items ≡ c.args.hits.now.items ++ l)) same c.add_word_hits.ensures

@@ -1,5 +1,6 @@
-use Rattle.std.proofs.Common.{◌≡◌, ◌<◌, ◌++◌, ℕ, List, [], OnOk, Option, Some, get_or, map, sym, ap, subst, ◌∙◌, arith}
+use Rattle.std.proofs.Common.{◌≡◌, ◌<◌, ◌++◌, ℕ, List, [], OnOk, Option, Some, true, get_or, map, sym, ap, subst, ◌∙◌, arith}
 use Rattle.bp_matter.specs.declared.rows.DocRow.{DocRow}
+use Rattle.bp_matter.specs.Written.{are_few, is_short}
 use Rattle.bp_looks.specs.declared.hits.Hit.{Hit}
 use Rattle.bp_looks.specs.declared.hits.Spot.{Spot}
 use Rattle.bp_looks.specs.Found.{hits_in, spot_of}
@@ -11,7 +12,7 @@ use Rattle.bp_looks.proofs.found.add_part.Goals as goal
 
 pub add_values-requires-clause-values : goal.add_values-requires-clause-values
 add_values-requires-clause-values c =
-    rw (sym c.as_slice.ensures)
+    subst (λ (l : List (List ℕ)). are_few is_short l ≡ true) (sym c.as_slice.ensures)
     (values-few c.args.tables.now.matter c.args.spot.doc.0 c.args.row.now c.know_valid.ensures c.requires.row)
 
 pub returns-then-spot-eq0 : goal.returns-then-spot-eq0

@@ -1,5 +1,5 @@
 use Rattle.std.proofs.Common.{◌≡◌, ◌+◌, ◌++◌, drop, map}
-use Rattle.bp_looks.specs.Found.{doc_no, spot_of}
+use Rattle.bp_looks.specs.Found.{spot_of}
 use Rattle.bp_looks.specs.Hits.{hits_of_rows, terms_of}
 use Rattle.bp_looks.specs.Values.{pieces_of}
 use Rattle.bp_looks.proofs.found.add_values.Given as goal

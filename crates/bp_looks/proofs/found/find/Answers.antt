@@ -1,7 +1,7 @@
-use Rattle.std.proofs.Common.{◌≡◌, ◌≤◌, ◌<◌, ◌^◌, length, sym, ap, subst, ◌∙◌, arith}
-use Rattle.std.proofs.lemmas.Bool.{and_parts}
+use Rattle.std.proofs.Common.{◌≡◌, length, sym, ap, ◌∙◌, arith, rules, true}
 use Rattle.std.proofs.lemmas.List.{length-map}
 use Rattle.bp_looks.specs.Hits.{term_of}
+use Rattle.bp_looks.specs.Terms.{are_terms}
 use Rattle.bp_looks.proofs.PartLemmas.{doc-first, terms-few}
 use Rattle.bp_looks.proofs.found.find.Goals as goal
 
@@ -12,7 +12,8 @@ find_parts-requires-clause-from c =
 
 pub find_parts-requires-clause-terms : goal.find_parts-requires-clause-terms
 find_parts-requires-clause-terms c =
-    let few = terms-few c.args.terms.now (sym c.are_terms.ensures ∙ c.if-are_terms.true) in
+    let good : are_terms c.args.terms.now ≡ true = first_of (cc (c.are_terms.ensures), search rules) in
+    let few = terms-few c.args.terms.now good in
     omega (
       arith,
       few,

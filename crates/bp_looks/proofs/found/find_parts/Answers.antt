@@ -1,4 +1,4 @@
-use Rattle.std.proofs.Common.{◌≡◌, ◌<◌, ◌+◌, ℕ, List, ◌∷◌, ◌++◌, length, drop, sym, ap, ◌∙◌, arith, []}
+use Rattle.std.proofs.Common.{◌≡◌, ◌<◌, ◌+◌, List, ◌++◌, length, drop, sym, ap, ◌∙◌, arith, []}
 use Rattle.std.proofs.lemmas.List.{drop_all, length-drop}
 use Rattle.std.proofs.lemmas.List.FromFn.{length-map-range_with_len}
 use Rattle.bp_looks.specs.Found.{found_of, told, walk}
@@ -16,7 +16,7 @@ returns-in-Some c =
     let parts = document_rows m (before + 1) in
     let stop = c.in-Some.stop in
     let later = parts_in (before + 1 + 1) 0 (drop (before + 1) (documents_of m)) in
-    let here = documents-more m before (omega (arith, c.documents.ensures)) in
+    let here = documents-more m before (omega (arith, c.documents-before-end.ensures)) in
     let stopped = rw c.in-Some.is at c.in_ok-stop.ensures.stopped in
     let inside = rw c.in-Some.is at c.in_ok-stop.ensures.inside in
     let some : 0 < length (drop stop parts) = omega (arith, inside, length-drop stop parts) in
@@ -36,7 +36,7 @@ loop-before-preserved c =
     let before = c.loop-before.before in
     let parts = document_rows m (before + 1) in
     let later = parts_in (before + 1 + 1) 0 (drop (before + 1) (documents_of m)) in
-    let here = documents-more m before (omega (arith, c.documents.ensures)) in
+    let here = documents-more m before (omega (arith, c.documents-before-end.ensures)) in
     let past = rw c.in-None.is at c.in_ok-stop.ensures.past in
     c.loop-before.invariant
     ∙ (ap (λ (l : List Part). told (walk ts c.loop-before.progress.hits.items c.loop-before.progress.taken l))
@@ -49,8 +49,8 @@ returns c =
     let ts = terms_of c.args.terms.now in
     let before = c.loop-before.before in
     let none : drop before (documents_of m) ≡ [] =
-    drop_all before (documents_of m) (omega (arith, c.documents.ensures, length-map-range_with_len (document_rows m) 1 (length m.docs))) in
-    c.found.ensures
+    drop_all before (documents_of m) (omega (arith, c.documents-before-end.ensures, length-map-range_with_len (document_rows m) 1 (length m.docs))) in
+    c.found-2.ensures
     ∙ sym (c.loop-before.invariant
     ∙ ap (λ (l : List (List Rows)). told (walk ts c.loop-before.progress.hits.items c.loop-before.progress.taken
     (parts_in (before + 1) c.loop-before.first l))) none)

@@ -7,6 +7,6 @@ use Rattle.bp_looks.proofs.found.find_parts.Given as goal
 -- what is found is what the search finds that goes on with the documents that are left
 abbrev pub invariant-loop-before : goal.invariant-loop-before
 invariant-loop-before l =
-    found_of l.tables.matter (terms_of l.terms) l.from.0 l.page
+    found_of l.tables.matter (terms_of l.terms) l.fn.from.0 l.page
     ≡ told (walk (terms_of l.terms) l.progress.hits.items l.progress.taken
     (parts_in (l.before + 1) l.first (drop l.before (documents_of l.tables.matter))))

@@ -22,7 +22,7 @@ loop-i-preserved c =
     let row = pieces_of c.index-values-i.result in
     let here = drop_map_more pieces_of c.args.values.now i c.index-values-i.result (omega arith) c.index-values-i.is in
     let added : c.add_value_hits.new.hits.items ≡ c.loop-i.hits.items ++ hits_of ts spot row =
-    first_of (cc (c.in_ok-add_value_hits.ensures), search rules) in
+    cc (c.in_ok-add_value_hits.ensures) in
     ap (λ (l : List Hit). l ++ later) added
     ∙ (append_assoc c.loop-i.hits.items (hits_of ts spot row) later
     ∙ (ap (λ (l : Rows). c.loop-i.hits.items ++ hits_of_rows ts spot l) (sym here)

@@ -12,7 +12,7 @@ find_parts-requires-clause-from c =
 
 pub find_parts-requires-clause-terms : goal.find_parts-requires-clause-terms
 find_parts-requires-clause-terms c =
-    let good : are_terms c.args.terms.now ≡ true = first_of (cc (c.are_terms.ensures), search rules) in
+    let good : are_terms c.args.terms.now ≡ true = cc (c.are_terms.ensures) in
     let few = terms-few c.args.terms.now good in
     omega (
       arith,

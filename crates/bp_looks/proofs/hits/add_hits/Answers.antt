@@ -46,7 +46,7 @@ loop-i-preserved c =
       | else-has_hit w ↦
           let no : c.has_hit.result ≡ false = w.if-has_hit.false in
           let kept : c.if-has_hit.hits.items ≡ c.loop-i.hits.items =
-          first_of (cc, search rules) in
+          cc in
           ap (λ (l : List Hit). l ++ later) kept
           ∙ (ap (λ (b : Bool). c.loop-i.hits.items ++ ((if b then hit ∷ [] else []) ++ later)) (sym no) ∙ whole)
     ]

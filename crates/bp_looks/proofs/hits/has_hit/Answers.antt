@@ -25,7 +25,7 @@ returns-then-not-matches c =
     let within : i < length texts = omega arith in
     let later = has_hit (drop (i + 1) (terms_of c.args.terms.now)) (drop (i + 1) (texts_of texts)) in
     let fails : matches (term_of c.index-terms-i.result) (text_of text) ≡ false =
-    first_of (cc (c.matches.ensures, c.as_slice.ensures.value), search rules) in
+    cc (c.matches.ensures, c.as_slice.ensures.value) in
     sym (c.loop-i.invariant
     ∙ (has_hit-next c.args.terms.now texts i c.index-terms-i.result text (omega arith)
     c.index-terms-i.is within (get_or_default texts i none text within)
@@ -40,7 +40,7 @@ loop-i-preserved c =
     let within : i < length texts = omega arith in
     let later = has_hit (drop (i + 1) (terms_of c.args.terms.now)) (drop (i + 1) (texts_of texts)) in
     let fits : matches (term_of c.index-terms-i.result) (text_of text) ≡ true =
-    first_of (cc (c.matches.ensures, c.as_slice.ensures.value), search rules) in
+    cc (c.matches.ensures, c.as_slice.ensures.value) in
     c.loop-i.invariant
     ∙ (has_hit-next c.args.terms.now texts i c.index-terms-i.result text (omega arith)
     c.index-terms-i.is within (get_or_default texts i none text within)

@@ -4,6 +4,7 @@ use Rattle.std.proofs.lemmas.List.{drop_all, drop_more}
 use Rattle.bp_matter.specs.LookUps.{doc_with}
 use Rattle.bp_matter.specs.declared.rows.DocRow.{DocRow}
 use Rattle.bp_looks.specs.declared.hits.Hit.{Hit}
+use Rattle.bp_looks.specs.declared.hits.Spot.{Spot}
 use Rattle.bp_looks.specs.Found.{hits_in, walk}
 use Rattle.bp_looks.specs.Hits.{terms_of}
 use Rattle.bp_looks.specs.Parts.{Part, Rows, document_rows, part_at, parts_of, rows_in}
@@ -45,7 +46,8 @@ loop-page-preserved c = λ more.
     let within : page < length parts = omega (arith, many) in
     let here = drop_more parts page [] within in
     let added : c.add_part.new.hits.items ≡ c.loop-page.self.hits.items ++ hits_in ts part =
-    first_of (cc (c.in_ok-add_part.ensures), search rules) in
+    c.in_ok-add_part.ensures
+    ∙ ap (λ (s : Spot). c.loop-page.self.hits.items ++ hits_in ts (part_at m s.doc.0 s.page)) c.spot_of-spot.ensures in
     c.loop-page.invariant more
     ∙ (ap (λ (l : List Part). walk ts c.loop-page.self.hits.items c.loop-page.self.taken (l ++ more))
     (parts-step doc page parts (get_or parts page []) here)

@@ -1,0 +1,10 @@
+pub mod Covered
+pub mod Finding
+pub mod Found
+pub mod Going
+pub mod Hits
+pub mod Matching
+pub mod Parts
+pub mod Terms
+pub mod Values
+pub mod Walking

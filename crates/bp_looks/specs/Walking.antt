@@ -1,0 +1,16 @@
+-- What a walk over parts does, whatever parts may follow.
+use Rattle.std.specs.Prelude.{ℕ, ◌≡◌, List, ◌++◌}
+use Rattle.bp_looks.specs.Found.{walk}
+use Rattle.bp_looks.specs.Parts.{Part}
+use Rattle.bp_looks.specs.declared.hits.Hit.{Hit}
+
+-- a search comes past these parts, to other hits and more parts taken
+abbrev pub ComesPast : List (List ℕ) → List Hit → ℕ → List Part → List Hit → ℕ → Type 0
+ComesPast terms hits taken parts hits' taken' =
+    (more : List Part) → walk terms hits taken (parts ++ more) ≡ walk terms hits' taken' more
+
+-- a search stops among these parts, and doesn't take the rest
+abbrev pub StopsAt : List (List ℕ) → List Hit → ℕ → List Part → List Hit → List Part → Type 0
+StopsAt terms hits taken parts hits' rest =
+    (more : List Part)
+    → walk terms hits taken (parts ++ more) ≡ record { hits = hits'; rest = rest ++ more }

@@ -1,8 +1,9 @@
 -- What a replacement leaves as it was.
-use Rattle.std.proofs.Common.{◌≡◌, ℕ, zero, suc, ◌+◌, true, false, List, [], ◌∷◌, ◌++◌, length, map, flat_map, get_or, All, Option, Some, None, refl, sym, ap, ap₂, ◌∙◌, arith}
-use Rattle.std.specs.Prelude.{◌==◌, if◌then◌else◌}
+use Rattle.std.proofs.Common.{◌≡◌, ℕ, zero, suc, ◌+◌, Bool, true, false, cond, not, List, [], ◌∷◌, ◌++◌, length, map, flat_map, get_or, All, Option, Some, None, refl, sym, ap, ap₂, ◌∙◌, arith}
+use Rattle.std.specs.Prelude.{◌==◌, encode_utf8_all, if◌then◌else◌}
 use Rattle.std.specs.Fmt.{decimal}
 use Rattle.std.specs.List.{list_all, range_with_len}
+use Rattle.std.proofs.lemmas.Bool.{not-true}
 use Rattle.std.proofs.lemmas.List.{map-append}
 use Rattle.bp_core.specs.Characters.{reverse_solidus, solidus}
 use Rattle.bp_core.specs.declared.review.Basis.{Basis}
@@ -10,6 +11,8 @@ use Rattle.bp_bates.specs.declared.spans.Span.{Span}
 use Rattle.bp_load.specs.Opt.{opt_text}
 use Rattle.bp_load.specs.declared.opt.OptLine.{OptLine}
 use Rattle.bp_rows.specs.Image.{Image}
+use Rattle.bp_tiff.specs.Tiff.{tiff_of}
+use Rattle.bp_tiff.specs.declared.form.Form.TheVariants.{G4}
 use Rattle.bp_outside.specs.Folder.{file}
 use Rattle.bp_outside.specs.declared.files.FileRow.{FileRow}
 use Rattle.bp_matter.specs.Matter.{Matter}
@@ -19,7 +22,7 @@ use Rattle.bp_matter.specs.declared.rows.Production.{Production}
 use Rattle.bp_matter.specs.declared.rows.Request.{Request}
 use Rattle.bp_freeze.specs.Keeping.{Keeps}
 use Rattle.bp_freeze.specs.Log.{label_in}
-use Rattle.bp_press.specs.Contents.{content_by, ground_of, part_of, produced_page, slip_sheet}
+use Rattle.bp_press.specs.Contents.{Content, content_by, ground_of, part_of, produced_page, slip_sheet}
 use Rattle.bp_press.specs.Files.{Placed, image_files, item_files, placed}
 use Rattle.bp_press.specs.LoadFiles.{opt_lines}
 use Rattle.bp_press.specs.Manifest.{manifest_of}
@@ -29,7 +32,7 @@ use Rattle.bp_press.proofs.KeptItemLemmas.{ItemStands}
 use Rattle.bp_press.proofs.PlacedLemmas.{count_is, image_count-part, kept-presses}
 use Rattle.bp_claw.specs.Claims.{claim_fits, claim_for, is_named}
 use Rattle.bp_claw.specs.Replacement.{renamed, replaced, replaced_by, replaced_item, replacement_of}
-use Rattle.bp_claw.specs.Staying.{Standing, Stays, standing_of}
+use Rattle.bp_claw.specs.Staying.{Standing, Stays, others_in, standing_of}
 use Rattle.bp_claw.specs.declared.notices.Claim.{Claim}
 use Rattle.bp_claw.proofs.AgreeLemmas.{unnamed}
 use Rattle.bp_claw.proofs.ReplacedLemmas.{ClaimFits, found_fits, numbers_stay, stands_by}
@@ -136,6 +139,62 @@ others_stay f notice volume m i none =
     ap (λ (found : Option Claim). (part_of (replaced f notice volume) m (replaced_by found i)).content) (unnamed notice i.doc.0 none)
     ∙ content_after f notice volume m i (ground_of i.treatment)
 
+-- ---- the files of the others
+
+doc_stays : (found : Option Claim) (i : Item) → (replaced_by found i).doc.0 ≡ i.doc.0
+doc_stays None i = refl
+doc_stays (Some claim) i = refl
+
+-- one more of two lists that are picked alike
+picked : (b c : Bool) (p q : Placed) (ps qs : List Placed) → b ≡ c → (c ≡ true → p ≡ q) → ps ≡ qs → cond b (p ∷ ps) ps ≡ cond c (q ∷ qs) qs
+picked b true p q ps qs same head rest = ap (λ (t : Bool). cond t (p ∷ ps) ps) same ∙ ap₂ (λ (x : Placed) (xs : List Placed). x ∷ xs) (head refl) rest
+picked b false p q ps qs same head rest = ap (λ (t : Bool). cond t (p ∷ ps) ps) same ∙ rest
+
+abbrev placed_at : ℕ → Item → Content → Placed
+placed_at place item content = record { place = place; item = item; content = content }
+
+others_placed : (f : Production) (volume : List ℕ) (m : Matter) (notice : List Claim) → list_all claim_fits notice ≡ true → (place : ℕ) (items : List Item) → All (ItemStands m) items
+    → others_in notice (placed place (map (part_of (replaced f notice volume) m) (map (replaced_item notice) items))) ≡ others_in notice (placed place (map (part_of f m) items))
+others_placed f volume m notice fit place [] stand = refl
+others_placed f volume m notice fit place (i ∷ items) stand =
+    let g = replaced f notice volume in
+    let found : Option Claim = claim_for notice i.doc.0 in
+    let many = images_stay f g m found i (found_fits notice fit i.doc.0) (stand 0 i (omega arith)) in
+    let after = placed (place + length (part_of g m (replaced_by found i)).content.images) (map (part_of g m) (map (replaced_item notice) items)) in
+    let before = placed (place + length (part_of f m i).content.images) (map (part_of f m) items) in
+    let rest : others_in notice after ≡ others_in notice before =
+    ap (λ n. others_in notice (placed (place + n) (map (part_of g m) (map (replaced_item notice) items)))) many
+    ∙ others_placed f volume m notice fit (place + length (part_of f m i).content.images) items (λ k d l. stand (suc k) d (omega arith)) in
+    picked (not (is_named notice (replaced_by found i).doc.0)) (not (is_named notice i.doc.0))
+    (placed_at place (replaced_by found i) (part_of g m (replaced_by found i)).content) (placed_at place i (part_of f m i).content)
+    (others_in notice after) (others_in notice before)
+    (ap (λ (d : ℕ). not (is_named notice d)) (doc_stays found i))
+    (λ shown.
+    let none : is_named notice i.doc.0 ≡ false = not-true (is_named notice i.doc.0) shown in
+    ap₂ (placed_at place) (ap (λ (o : Option Claim). replaced_by o i) (unnamed notice i.doc.0 none)) (others_stay f notice volume m i none))
+    rest
+
+abbrev bytes_at : FileRow → List ℕ
+bytes_at row = row.bytes
+
+-- the bytes of images don't hang on paths
+image_bytes : (q r : Request) (place number : ℕ) (images : List Image) → map bytes_at (image_files q place number images) ≡ map bytes_at (image_files r place number images)
+image_bytes q r place number [] = refl
+image_bytes q r place number (image ∷ images) = ap (λ (others : List (List ℕ)). tiff_of G4 image ∷ others) (image_bytes q r (place + 1) (number + 1) images)
+
+item_bytes : (q r : Request) (p : Placed) → map bytes_at (item_files q p) ≡ map bytes_at (item_files r p)
+item_bytes q r p =
+    map-append bytes_at (image_files q p.place p.item.span.first p.content.images) _
+    ∙ ap (λ (xs : List (List ℕ)). xs ++ encode_utf8_all p.content.text ∷ []) (image_bytes q r p.place p.item.span.first p.content.images)
+    ∙ sym (map-append bytes_at (image_files r p.place p.item.span.first p.content.images) _)
+
+bytes_of_items : (q r : Request) (ps : List Placed) → map bytes_at (flat_map (item_files q) ps) ≡ map bytes_at (flat_map (item_files r) ps)
+bytes_of_items q r [] = refl
+bytes_of_items q r (p ∷ ps) =
+    map-append bytes_at (item_files q p) (flat_map (item_files q) ps)
+    ∙ ap₂ (λ (xs ys : List (List ℕ)). xs ++ ys) (item_bytes q r p) (bytes_of_items q r ps)
+    ∙ sym (map-append bytes_at (item_files r p) (flat_map (item_files r) ps))
+
 -- ---- all of it
 
 pub replacement-stays : (m : Matter) → IsValid m → (f : Production) → Keeps m f → (notice : List Claim) → list_all claim_fits notice ≡ true → (volume : List ℕ) → Stays f notice volume m
@@ -152,4 +211,7 @@ replacement-stays m valid f kept notice fit volume =
       paths = paths_of_volume (replaced f notice volume) m ∙ ap (volume_paths (renamed f volume)) same ∙ sym (paths_of_volume (renamed f volume) m);
       opt = ap opt_text (lines_stand r after ∙ ap (flat_map (lines_at r)) same ∙ sym (lines_stand r before));
       others = λ k d l none. others_stay f notice volume m (get_or f.items k d) none;
+      taken =
+          bytes_of_items r f.request (others_in notice after)
+          ∙ ap (λ (ps : List Placed). map bytes_at (flat_map (item_files f.request) ps)) (others_placed f volume m notice fit 0 f.items stand);
     }

@@ -109,9 +109,11 @@ fn add_replacement<F: Folder>(
 /// but for the volume's name. Nothing is kept.
 ///
 /// A rule is the first of BadVolume, VolumeTaken, NoticeTwice and NotProduced, the last two at the
-/// first claim that breaks one, and leaves the folder; to find it takes no memory. With `Ok` exactly the files of the replacement
-/// were added, in order, and the answer has their number and the digest of the manifest. After another
-/// refusal the files added are a prefix of the replacement, the last one perhaps in part.
+/// first claim that breaks one, and leaves the folder; to find it takes no memory. With `Ok` exactly
+/// the files of the replacement were added, in order, and the answer has their number and the digest
+/// of the manifest. After another refusal the files added are a prefix of the replacement, the last
+/// one perhaps in part. Each image and text of a document that isn't named has, under the volume's
+/// new name, the bytes of the production's volume.
 ///
 /// The files depend on the matter by nothing of the documents that the notice names: every other matter
 /// that keeps the production and agrees on its other items gives the same bytes.

@@ -1,5 +1,5 @@
 -- Among files whose paths differ each is found under its path.
-use Rattle.std.proofs.Common.{◌≡◌, ◌≢◌, ℕ, Bool, true, false, cond, not, Some, List, [], ◌∷◌, ◌++◌, refl, sym, ap, ◌∙◌}
+use Rattle.std.proofs.Common.{◌≡◌, ◌≢◌, ℕ, Bool, true, false, cond, not, Some, List, [], ◌∷◌, ◌++◌, append_assoc, refl, sym, subst, ap, ◌∙◌}
 use Rattle.std.specs.FinMap.{get}
 use Rattle.std.specs.List.{AllByRecursion, list_any}
 use Rattle.std.specs.Cmp.Lexicographic.{texts_ties}
@@ -10,6 +10,7 @@ use Rattle.std.proofs.lemmas.Slice.Eq.{bytes_eq-Decides}
 use Rattle.bp_outside.specs.Folder.{file}
 use Rattle.bp_outside.specs.Memory.{file_map, paths_differ}
 use Rattle.bp_outside.specs.declared.files.FileRow.{FileRow}
+use Rattle.bp_press.specs.Volume.{file_at}
 use Rattle.bp_outside.proofs.FileMapLemmas.{first_with, get-first_with}
 
 apart : (path other : List ℕ) → other ≢ path → bytes_eq other path ≡ false
@@ -56,6 +57,34 @@ pub found_under : (rows before after : List FileRow) (path bytes : List ℕ)
 found_under rows before after path bytes differ are =
     get-first_with path rows ∙ ap (first_with path) are
     ∙ first_found path bytes before after (sym (ap paths_differ are) ∙ differ)
+
+-- ---- the bytes of a path
+
+file_there : (path bytes : List ℕ) (before after : List FileRow)
+    → paths_differ (before ++ file path bytes ∷ after) ≡ true
+    → file_at path (before ++ file path bytes ∷ after) ≡ Some bytes
+file_there path bytes [] after differ = rw ((bytes_eq-Decides path path).1 refl) refl
+file_there path bytes (row ∷ before) after differ =
+    let both =
+    and_parts (not (list_any (λ other. bytes_eq other.path row.path) (before ++ file path bytes ∷ after)))
+    (paths_differ (before ++ file path bytes ∷ after)) differ in
+    let other : bytes_eq path row.path ≡ false =
+    met (λ other. bytes_eq other.path row.path) before after (file path bytes) (not-true _ both.0) in
+    let none : bytes_eq row.path path ≡ false =
+    apart path row.path (λ same. absurd (false≢true (sym other ∙ (bytes_eq-Decides path row.path).1 (sym same)))) in
+    rw none (file_there path bytes before after both.1)
+
+-- each of some files, behind others, is found under its path
+pub each_found : (before rows : List FileRow)
+    → paths_differ (before ++ rows) ≡ true
+    → AllByRecursion (λ (row : FileRow). file_at row.path (before ++ rows) ≡ Some row.bytes) rows
+each_found before [] differ = tt
+each_found before (row ∷ rows) differ =
+    let joined : (before ++ row ∷ []) ++ rows ≡ before ++ row ∷ rows = append_assoc before (row ∷ []) rows in (
+      file_there row.path row.bytes before rows differ,
+      subst (λ (all : List FileRow). AllByRecursion (λ (r : FileRow). file_at r.path all ≡ Some r.bytes) rows) joined
+          (each_found (before ++ row ∷ []) rows (ap paths_differ joined ∙ differ)),
+    )
 
 -- ---- files whose paths differ
 

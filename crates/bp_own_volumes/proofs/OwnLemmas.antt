@@ -1,9 +1,9 @@
 -- The check of a volume of a production that is kept passes.
-use Rattle.std.proofs.Common.{◌≡◌, ℕ, suc, ◌+◌, ◌^◌, ◌≤◌, Some, Result, Ok, List, [], ◌∷◌, ◌++◌, length, map, flat_map, codes, refl, sym, ap, ◌∙◌, subst, arith}
+use Rattle.std.proofs.Common.{◌≡◌, ℕ, suc, ◌+◌, ◌^◌, ◌≤◌, true, Some, Result, Ok, List, [], ◌∷◌, ◌++◌, length, map, flat_map, All, codes, refl, sym, ap, ◌∙◌, subst, arith}
 use Rattle.std.specs.List.{AllByRecursion}
 use Rattle.std.specs.Option.{ok_or}
 use Rattle.std.proofs.lemmas.List.{length-map}
-use Rattle.std.proofs.lemmas.List.Elements.{recursion_from_All}
+use Rattle.std.proofs.lemmas.List.Elements.{All-from_recursion, recursion_from_All}
 use Rattle.bp_core.specs.Characters.{solidus}
 use Rattle.bp_core.specs.Paths.{path_in}
 use Rattle.bp_core.specs.RuleSteps.{◌>>=◌}
@@ -30,7 +30,7 @@ use Rattle.bp_press.specs.Manifest as pressed
 use Rattle.bp_press.specs.Paths.{data_path, manifest_path}
 use Rattle.bp_press.specs.Pressing.{image_total}
 use Rattle.bp_press.specs.ReadBack.{HoldsItem, IsReadBack}
-use Rattle.bp_press.specs.Volume.{data_files, dat_file, files_before, files_of, log_file, opt_file, placed_items, volume_of, with_manifest}
+use Rattle.bp_press.specs.Volume.{data_files, dat_file, file_at as bytes_at, files_before, files_of, log_file, opt_file, placed_items, volume_of, with_manifest}
 use Rattle.bp_check.specs.Check.{agrees, check_of, operand, optional_operand, paths_of}
 use Rattle.bp_check.specs.Checking.{ChecksAs, Gives}
 use Rattle.bp_check.specs.Files.{file_at}
@@ -45,6 +45,7 @@ use Rattle.bp_own_volumes.specs.OwnVolumes.{AreShort, own_counts, own_operands}
 use Rattle.bp_own_volumes.proofs.ApartLemmas.{IsNamed, IsPathOf}
 use Rattle.bp_own_volumes.proofs.ColumnLemmas.{columns_fit, kept_fields, kept_named}
 use Rattle.bp_own_volumes.proofs.DocumentLemmas.{documents_agree}
+use Rattle.bp_own_volumes.proofs.FoundLemmas.{each_found}
 use Rattle.bp_own_volumes.proofs.HeldLemmas.{IsVolume, OneAnswer, images_there, stands_left, stands_read, stands_right, texts_there}
 use Rattle.bp_own_volumes.proofs.ListingBackLemmas.{before_read, listing_back}
 use Rattle.bp_own_volumes.proofs.LoadBackLemmas.{dat_back, opt_back}
@@ -85,6 +86,18 @@ knows_volume f m named knows short = record {
   differ = ap paths_differ (volume_files f m) ∙ volume_differ f 0 knows.number (placed_items f m) named knows.turn knows.most;
   short = recursion_from_All (λ (row : FileRow). length row.bytes ≤ FILE_LIMIT) (volume_of f m) short;
 }
+
+-- ---- no path stands twice
+
+pub volume_apart : (f : Production) (m : Matter) → IsValid m → Keeps m f → paths_differ (volume_of f m) ≡ true
+volume_apart f m valid keeps =
+    let knows = knows_turn f m valid keeps in
+    ap paths_differ (volume_files f m) ∙ volume_differ f 0 knows.number (placed_items f m) (kept_named m valid f keeps) knows.turn knows.most
+
+pub volume_found : (f : Production) (m : Matter) → IsValid m → Keeps m f → All (λ row. bytes_at row.path (volume_of f m) ≡ Some row.bytes) (volume_of f m)
+volume_found f m valid keeps =
+    All-from_recursion (λ (row : FileRow). bytes_at row.path (volume_of f m) ≡ Some row.bytes) (volume_of f m)
+    (each_found [] (volume_of f m) (volume_apart f m valid keeps))
 
 -- ---- its load files and its manifest
 

@@ -1,5 +1,5 @@
-//! The laws of the volumes that are pressed. The function does nothing: its contract is the laws.
-ghost use Rattle.std.specs.Prelude.{◌≡◌, Ok, Result};
+//! The laws of the volumes that are pressed. The functions do nothing: the contract of each is its laws.
+ghost use Rattle.std.specs.Prelude.{◌≡◌, All, IsTrue, Ok, Result, Some};
 ghost use Rattle.bp_check.specs.Check.{check_of};
 ghost use Rattle.bp_check.specs.Checking.{ChecksAs, Gives};
 ghost use Rattle.bp_check.specs.Images.{IsTiff, Judging};
@@ -9,9 +9,9 @@ ghost use Rattle.bp_freeze.specs.Keeping.{Keeps};
 ghost use Rattle.bp_matter.specs.Matter.{Matter};
 ghost use Rattle.bp_matter.specs.Valid.{IsValid};
 ghost use Rattle.bp_matter.specs.declared.rows.Production.{Production};
-ghost use Rattle.bp_outside.specs.Memory.{file_map};
+ghost use Rattle.bp_outside.specs.Memory.{file_map, paths_differ};
 ghost use Rattle.bp_own_volumes.specs.OwnVolumes.{AreShort, own_counts, own_operands};
-ghost use Rattle.bp_press.specs.Volume.{volume_of};
+ghost use Rattle.bp_press.specs.Volume.{file_at, volume_of};
 
 use bp_press::images_are_read;
 use bp_tiff::one_answer;
@@ -36,3 +36,16 @@ pub fn own_volumes_pass()
     images_are_read();
     one_answer();
 }
+
+/// No two files of the volume of a production that a valid matter keeps have one path, so what
+/// `file_of` gives for the path of any of them is that file.
+pub fn each_file_is_found()
+    ensures differ { (f : Production) (m : Matter)
+        → IsValid m
+        → Keeps m f
+        → IsTrue (paths_differ (volume_of f m)) }
+    ensures found { (f : Production) (m : Matter)
+        → IsValid m
+        → Keeps m f
+        → All (λ row. file_at row.path (volume_of f m) ≡ Some row.bytes) (volume_of f m) }
+{}

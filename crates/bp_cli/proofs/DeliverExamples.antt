@@ -86,14 +86,26 @@ commits_few n xs (one_more here more x others may rest) =
     omega (arith, one, all)
 
 -- no exchange makes an event
-none_made : (h : Holding) (es : List Event) (faults : ℕ) (xs : List Exchange) → xs ≡ [] → Delivered (event_turns h es) faults xs → es ≡ []
-none_made h [] faults xs none came = refl
-none_made h (event ∷ es) faults xs none came = absurd (none_left (event_turns h (event ∷ es)) faults xs (event_turn h event) (event_turns (event_of h event).after es) came none refl)
+none_made : (A : Event → Type 0) (h : Holding) (es : List Event) (faults : ℕ) (xs : List Exchange)
+    → xs ≡ []
+    → Delivered A (event_turns h es) faults xs
+    → es ≡ []
+none_made A h [] faults xs none came = refl
+none_made A h (event ∷ es) faults xs none came =
+    absurd (none_left (event_turns h (event ∷ es)) faults xs (event_turn h event)
+    (event_turns (event_of h event).after es) came none refl)
   where
-    none_left : (turns : List EventTurn) (count : ℕ) (ys : List Exchange) (turn : EventTurn) (more : List EventTurn) → Delivered turns count ys → ys ≡ [] → turns ≡ turn ∷ more → ⊥
+    none_left : (turns : List EventTurn) (count : ℕ) (ys : List Exchange) (turn : EventTurn)
+        (more : List EventTurn)
+        → Delivered A turns count ys
+        → ys ≡ []
+        → turns ≡ turn ∷ more
+        → ⊥
     none_left turns count ys turn more nobody empty is = absurd cc
-    none_left turns count ys turn more (made first left f x others text hung t s rest) empty is = absurd cc
-    none_left turns count ys turn more (unmade left here f x others text hung t s rest) empty is = absurd cc
+    none_left turns count ys turn more (made first left f x others text hung t s rest) empty is =
+        absurd cc
+    none_left turns count ys turn more (unmade left here f x others text hung t s rest) empty is =
+        absurd cc
 
 -- whatever the keeper tells, it was asked to commit no more often than exchanges came
 few_commits : (asked : DeliverAsked) (before after : Office) (xs new : List Exchange) → before.door.exchanges ≡ Some xs → after.door.exchanges ≡ Some (xs ++ new) → DeliversOver asked before after 0 → after.keeper.commits ≤ before.keeper.commits + length new
@@ -121,7 +133,7 @@ same_rows asked before after rows now xs was stands opened closed over =
     let more : Option (List Exchange) → Option (List Exchange) = option_map (λ old. old ++ served.exchanges) in
     let is : Some (xs ++ []) ≡ Some (xs ++ served.exchanges) = sym closed ∙ served.told ∙ ap more opened in
     let same : length served.exchanges ≡ 0 = as_many xs [] served.exchanges is in
-    let none : run.events ≡ [] = none_made delivers.opening run.events run.faults served.exchanges (nil_from_length served.exchanges same) run.delivered in
+    let none : run.events ≡ [] = none_made _ delivers.opening run.events run.faults served.exchanges (nil_from_length served.exchanges same) run.delivered in
     let left : delivers.closing ≡ delivers.opening = run.run ∙ ap (run_of delivers.opening) none in
     let kept : now ≡ rows_of delivers.closing.matter =
     subst (λ (o : Option (List Row)). IfSome o (λ r. r ≡ rows_of delivers.closing.matter)) stands delivers.kept in

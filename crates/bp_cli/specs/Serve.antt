@@ -126,8 +126,8 @@ pub data LacksToServe {D : Type 0} (shows : D → DoorView) (asked : ServeLine) 
       → LacksToServe shows asked before history after
 
 -- what the work of serve leaves, by how it ended, with the history that is handed on
-abbrev pub ServeEnds : {D : Type 0} → (D → DoorView) → ServeLine → Hall D → Ending → Option (List Made)
-    → Hall D → Type 0
+abbrev pub ServeEnds : {D : Type 0} → (D → DoorView) → ServeLine → Hall D → Ending
+    → Option (List Made) → Hall D → Type 0
 ServeEnds shows asked before (Ok line) (Some history) after =
     Serves shows asked before history after × (line ≡ served_line history)
 ServeEnds shows asked before (Ok line) None after = ⊥

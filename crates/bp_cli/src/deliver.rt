@@ -2,6 +2,7 @@
 ghost use Rattle.std.specs.Prelude.{◌≡◌, ◌<◌, ◌^◌, IfOk, IfSome, length};
 ghost use Rattle.std.specs.Option.{option_map};
 ghost use Rattle.std.specs.Str.{chars};
+ghost use Rattle.bp_desk.specs.Serving.{Knocks};
 ghost use Rattle.bp_rules.specs.Steps.{AtMostOnce};
 ghost use Rattle.bp_cli.specs.Words.{word_bytes};
 ghost use Rattle.bp_cli.specs.Deliver.{deliver_named, deliver_of, deliver_seen, delivered_line};
@@ -71,8 +72,8 @@ fn deliver_named<'a>(name: &str, connections: &str, grants: &'a str) -> Option<D
 // ---- its work
 
 /// Opens a desk over the matter that the keeper has the rows of, with the grants of a file of the
-/// source, and serves a door at it. The line that tells how many events were made. It may wait for
-/// ever for a peer.
+/// source, and serves a door at it, which isn't knocked at again once it was found closed. The line that
+/// tells how many events were made. It may wait for ever for a peer.
 pub fn deliver<S: Source, K: Keeper, D: Door>(
     alloc: Global,
     asked: &DeliverLine<'_>,
@@ -80,10 +81,12 @@ pub fn deliver<S: Source, K: Keeper, D: Door>(
     keeper: &mut K,
     door: &mut D,
 ) -> Result<Bytes, Stop>
-    ensures delivers { let given = touched (S.shows source.old) (K.shows keeper.old) (D.shows door.old) in
+    ensures delivers { let given = touched (S.shows source.old) (K.shows keeper.old)
+        (D.shows door.old) in
         let handed = touched (S.shows source.new) (K.shows keeper.new) (D.shows door.new) in
         DeliversAnyhow (deliver_seen asked.now) given result handed }
     ensures reads { AtMostOnce (S.reads source.old) (S.reads source.new) }
+    ensures knocks { IfOk result (λ _. Knocks D.shows asked.now.connections door.old door.new) }
 {
     want_law();
     events_law();
@@ -97,7 +100,8 @@ pub fn deliver<S: Source, K: Keeper, D: Door>(
 
 // The grants of the file that a word names.
 fn grants_named<S: Source>(alloc: Global, named: &str, source: &mut S) -> Result<GrantList, Stop>
-    ensures grants { ReadsGrants (chars named.now) (S.shows source.old) result (S.shows source.new) }
+    ensures grants { ReadsGrants (chars named.now) (S.shows source.old) result
+        (S.shows source.new) }
     ensures reads { AtMostOnce (S.reads source.old) (S.reads source.new) }
 {
     let path = path_named(alloc, named)?;

@@ -10,7 +10,7 @@ use Rattle.bp_desk.specs.Calls.{AltersAmong}
 use Rattle.bp_desk.specs.History.{Grew, HistoryView, Turn, is_full, matter_of, turns_of}
 use Rattle.bp_doors.specs.Exchanges.{memory_text}
 use Rattle.bp_doors.specs.Serving.{InTurn}
-pub use Rattle.bp_doors.specs.Serving.{Returned, RoseBy, raised}
+pub use Rattle.bp_doors.specs.Serving.{Knocks, Returned, RoseBy, raised}
 use Rattle.bp_desk.specs.Exchanges.{Deals}
 use Rattle.bp_desk.specs.Served.{Asks, Served, WasRead}
 use Rattle.bp_desk.specs.declared.history.Made.{Made}

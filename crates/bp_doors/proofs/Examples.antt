@@ -1,7 +1,8 @@
 -- Worked examples of the definitions in specs/, each run by the check: texts sent whole, cut and not,
 -- counts up to their end, and a handler that counts what it makes.
-use Rattle.std.proofs.Common.{◌≡◌, ◌⊎◌, ℕ, ◌+◌, ◌-◌, ◌^◌, ◌<◌, nat_le, Bool, true, false, List, [], ◌∷◌, length, codes, refl, ap, arith, inl, inr, length-append}
+use Rattle.std.proofs.Common.{◌≡◌, ◌⊎◌, ℕ, ◌+◌, ◌-◌, ◌^◌, ◌<◌, nat_le, Bool, true, false, List, [], ◌∷◌, length, codes, refl, sym, ap, ◌∙◌, arith, inl, inr, length-append}
 use Rattle.std.specs.Prelude.{Some, None, Ok, Err}
+use Rattle.std.proofs.lemmas.Bool.{false≢true}
 use Rattle.std.proofs.lemmas.Bool.Decides.{nat_tests}
 use Rattle.bp_outside.specs.Door.{DoorView}
 use Rattle.bp_outside.specs.Input.{WasNeeded}
@@ -11,8 +12,10 @@ use Rattle.bp_web.specs.declared.refusals.WebRefusal.TheVariants as refusals
 use Rattle.bp_doors.specs.Exchanges.{AnswersBytes, IsRefusalText, Sent, WasCut, WasRead, memory_text, text_of}
 use Rattle.bp_doors.specs.Exchanges.Sent.{cut, whole}
 use Rattle.bp_doors.specs.Exchanges.WasCut.{no_read, no_room}
-use Rattle.bp_doors.specs.Serving.{InTurn, Returned, RoseBy, Serves, ServesDoor, count_if, made_in, raised}
+use Rattle.bp_doors.specs.Serving.{InTurn, Knocks, LeftOpen, Returned, RoseBy, Serves, ServesDoor, count_if, made_in, raised}
 use Rattle.bp_doors.specs.Serving.InTurn.{next, nobody}
+use Rattle.bp_doors.specs.Serving.Knocks.{found_closed}
+use Rattle.bp_doors.specs.Serving.LeftOpen.{once_more, untried}
 
 -- ---- an exchange
 
@@ -179,3 +182,23 @@ a_door =
       };
       returned = inr (omega arith, omega arith, refl);
     }
+
+-- ---- a closed door
+
+-- doors of which all is told
+abbrev all_of : DoorView → DoorView
+all_of door = door
+
+-- so many accepts, the last of which left it open
+abbrev open_at : ℕ → DoorView
+open_at accepts = record (told [] accepts) { closed = false }
+
+-- the first accept left it open, and the second found it closed
+found_so : Knocks all_of 10 (told [] 7) (told [] 9)
+found_so = found_closed 1 (open_at 8) (omega arith)
+    (once_more 0 (told [] 7) (open_at 8) untried refl refl) refl refl
+
+-- behind one that found it closed none was tried
+not_again : (door : DoorView) → LeftOpen all_of (told [] 7) 2 door → door.closed ≡ true → ⊥
+not_again door (once_more tried before after opens counts shut) closed =
+    false≢true (sym shut ∙ closed)

@@ -1,4 +1,5 @@
 mod Examples
 pub mod CountLemmas
 pub mod ExchangeLemmas
+pub mod KnockLemmas
 pub mod ServingLemmas

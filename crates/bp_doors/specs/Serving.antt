@@ -33,7 +33,8 @@ made_in None = 0
 pub data InTurn {W : Type 0} (Deals : W → Exchange → Bool → W → Type 0)
     : W → List Exchange → ℕ → W → Type 0 where
   nobody : (w : W) → InTurn Deals w [] 0 w
-  next : (before between after : W) (x : Exchange) (made : Bool) (others : List Exchange) (count : ℕ)
+  next : (before between after : W) (x : Exchange) (made : Bool) (others : List Exchange)
+      (count : ℕ)
       → x.hung_up ≡ true → Deals before x made between
       → InTurn Deals between others count after
       → InTurn Deals before (x ∷ others) (count_if made + count) after
@@ -46,6 +47,31 @@ pub record Serves {W : Type 0} (Deals : W → Exchange → Bool → W → Type 0
   pub accepts : door'.accepts ≡ raised tried door.accepts
   pub turns : InTurn Deals before exchanges count after
   pub few : count ≤ tried
+
+-- So many accepts were tried at a door since it was so, one after another, and each of them left it
+-- open: of these very doors each was made of the one before it.
+pub data LeftOpen {D : Type 0} (shows : D → DoorView) (first : D) : ℕ → D → Type 0 where
+  untried : LeftOpen shows first 0 first
+  once_more : (tried : ℕ) (before after : D)
+      → LeftOpen shows first tried before
+      → (shows after).accepts ≡ risen (shows before).accepts
+      → (shows after).closed ≡ false
+      → LeftOpen shows first (suc tried) after
+
+-- A door that was found closed isn't knocked at again: so many accepts were tried, each of which left
+-- it open; or fewer did, and the one behind them, the last, found it closed.
+pub data Knocks {D : Type 0} (shows : D → DoorView) (connections : ℕ) (first last : D)
+    : Type 0 where
+  all_tried : (before : D)
+      → LeftOpen shows first connections before
+      → shows last ≡ shows before
+      → Knocks shows connections first last
+  found_closed : (opened : ℕ) (before : D)
+      → opened < connections
+      → LeftOpen shows first opened before
+      → (shows last).accepts ≡ risen (shows before).accepts
+      → (shows last).closed ≡ true
+      → Knocks shows connections first last
 
 -- so many accepts were tried; or fewer, and the last of them found the door closed
 abbrev pub Returned : ℕ → ℕ → DoorView → Type 0

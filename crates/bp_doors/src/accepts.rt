@@ -1,6 +1,6 @@
 // Serving a door, accept by accept.
 ghost use Rattle.std.specs.Prelude.{◌≡◌, ◌+◌, ◌<◌, ◌^◌, IfSome, None, false, true};
-ghost use Rattle.bp_doors.specs.Serving.{Serves, ServesDoor, count_if, made_in};
+ghost use Rattle.bp_doors.specs.Serving.{Knocks, Serves, ServesDoor, count_if, made_in};
 
 use crate::exchanges::converse;
 use crate::handlers::Handler;
@@ -9,8 +9,9 @@ use std::alloc::Global;
 
 /// Serves a door by a handler: the request of each peer is read and answered (RFC 9112), and the
 /// exchange hung up. Answers in how many exchanges something was made. It returns only where an
-/// accept found the door closed, or so many accepts were tried, and may wait for ever for a peer. A
-/// refusal of the door ends its exchange alone; what was made stays made. At its end the door is left.
+/// accept found the door closed, behind which none is tried, or so many were, and may wait for ever
+/// for a peer. A refusal of the door ends its exchange alone; what was made stays made. At its end the
+/// door is left.
 pub fn serve<S, T, H: Handler<S, T>, D: Door>(
     alloc: Global,
     handler: &H,
@@ -22,6 +23,7 @@ pub fn serve<S, T, H: Handler<S, T>, D: Door>(
     requires { H.Keeps handler.now (at.old, by.old) }
     ensures served { ServesDoor (H.Deals handler.now) connections (at.old, by.old)
         (D.shows door.old) result (at.new, by.new) (D.shows door.new) }
+    ensures knocks { Knocks D.shows connections door.old door.new }
     ensures keeps { H.Keeps handler.now (at.new, by.new) }
 {
     let count = serve_peers(alloc, handler, at, by, door, connections);
@@ -41,6 +43,7 @@ fn serve_peers<S, T, H: Handler<S, T>, D: Door>(
     requires { H.Keeps handler.now (at.old, by.old) }
     ensures served { ServesDoor (H.Deals handler.now) connections (at.old, by.old)
         (D.shows door.old) result (at.new, by.new) (D.shows door.new) }
+    ensures knocks { Knocks D.shows connections door.old door.new }
     ensures keeps { H.Keeps handler.now (at.new, by.new) }
 {
     let mut tried = 0;
@@ -69,7 +72,7 @@ fn serve_next<S, T, H: Handler<S, T>, D: Door>(
         (made_in result) (at.new, by.new) (D.shows door.new) }
     ensures keeps { H.Keeps handler.now (at.new, by.new) }
     ensures closed { result ≡ None → (D.shows door.new).closed ≡ true }
-    ensures open { IfSome result (λ _. (D.shows door.new).closed ≡ false) }
+    ensures opened { IfSome result (λ _. (D.shows door.new).closed ≡ false) }
 {
     match door.accept(alloc) {
         Ok(true) => {

@@ -23,10 +23,10 @@ use Rattle.bp_doors.specs.Exchanges.{IsRefusalText, Sent, memory_text, text_of}
 use Rattle.bp_doors.specs.Serving.{InTurn, RoseBy, ServesDoor, count_if}
 use Rattle.bp_doors.specs.Serving.InTurn.{next, nobody as nobody_came}
 use Rattle.bp_doors.proofs.CountLemmas.{rose_twice}
-use Rattle.bp_receiver.specs.Delivered.{AsksFor, Delivered, TellsEvent, TextOfEvent, WasReadEvent, event_turn, event_turns}
+use Rattle.bp_receiver.specs.Delivered.{AsksFor, Delivered, EventTurn, TellsEvent, TextOfEvent, TextOfNoEvent, WasReadEvent, event_turn, event_turns}
 use Rattle.bp_receiver.specs.Delivered.Delivered.{made, nobody, unmade}
 use Rattle.bp_receiver.specs.Delivered.TextOfEvent.{given, not_given}
-use Rattle.bp_receiver.specs.Delivered.TextOfNoEvent.{fault, no_memory, refusal}
+use Rattle.bp_receiver.specs.Delivered.TextOfNoEvent.{fault, no_memory, no_read, refusal}
 use Rattle.bp_receiver.specs.Delivering.{EventGives, EventLacked, EventMade, KeeperFailed}
 use Rattle.bp_receiver.specs.EventReplies.{event_text}
 use Rattle.bp_receiver.specs.EventRequests.{EventReadAlike, EventReads, IsWholeEvent}
@@ -34,7 +34,7 @@ use Rattle.bp_receiver.specs.EventServing.{AnswersEvent, Delivers, DeliversDoor,
 use Rattle.bp_receiver.specs.EventServing.EventDeals.{made_none, made_one}
 use Rattle.bp_receiver.specs.EventServing.MayCommit.{at_call, no_call}
 use Rattle.bp_receiver.specs.EventServing.MayCommitIn.{no_exchange, one_more}
-use Rattle.bp_receiver.specs.Events.{Evented, Holding, event_of, run_of, to_grant}
+use Rattle.bp_receiver.specs.Events.{AltersBehind, AltersDesk, Evented, Holding, event_of, run_of, to_grant}
 use Rattle.bp_receiver.specs.Granting.{grant_by}
 use Rattle.bp_receiver.specs.declared.events.Event.{Event}
 use Rattle.bp_receiver.specs.declared.events.Event.TheVariants as events
@@ -51,6 +51,7 @@ keeps-itself most d = record {
   commits = omega arith;
   sure = refl;
   faults = omega arith;
+  quiet = λ _. refl;
 }
 
 -- what told before told before that
@@ -79,6 +80,9 @@ keeps-twice m n most a b c room first then =
       commits = omega (arith, room, once, again);
       sure = then.sure ∙ first.sure;
       faults = omega (arith, up, more);
+      quiet = λ none.
+          then.quiet (let e : n ≡ 0 = omega (arith, room, none) in e)
+          ∙ first.quiet (let e : m ≡ 0 = omega (arith, room, none) in e);
     }
 
 -- rows that are told after are those of the matter, if they were before
@@ -119,6 +123,7 @@ keeps-stays h k keeper keeper' count same up s =
       commits = at-most keeper.commits keeper'.commits s.commits;
       sure = s.sure;
       faults = omega (arith, up, now);
+      quiet = λ none. absurd (omega (arith, none));
     }
 
 keeps-quiet : (most : ℕ) (h k : Holding) (keeper keeper' : KeeperView)
@@ -139,13 +144,28 @@ grant-stays h (Err rule) = refl
 quiet-made : (h k : Holding) (event : Event) (keeper keeper' : KeeperView) (gave : Given)
     → EventMade h event keeper gave k keeper'
     → (event_of h event).after.matter ≡ h.matter
-    → keeper'.commits ≤ keeper.commits + 0
+    → keeper' ≡ keeper
 quiet-made h k event keeper keeper' gave m stays =
     let at : (event_of h event).after.matter ≡ k.matter =
     ap (λ (e : Evented). e.after.matter) m.answer in
-    let same : keeper'.commits ≡ keeper.commits =
-    ap (λ (l : KeeperView). l.commits) (m.quiet (sym at ∙ stays)) in
-    omega (arith, same)
+    m.quiet (sym at ∙ stays)
+
+-- so at a grant and at a want
+none-asked : (h k : Holding) (event : Event) (keeper keeper' : KeeperView) (gave : Given)
+    → EventMade h event keeper gave k keeper'
+    → commits_at event ≡ 0
+    → keeper' ≡ keeper
+none-asked h k (events.Review key call) keeper keeper' gave m none = absurd cc
+none-asked h k (events.Grant key staff id) keeper keeper' gave m none =
+    quiet-made h k (events.Grant key staff id) keeper keeper' gave m
+    (grant-stays h (grant_by h.matter h.grants key (record { staff = staff; id = id })))
+none-asked h k (events.Want key wanted) keeper keeper' gave m none =
+    quiet-made h k (events.Want key wanted) keeper keeper' gave m refl
+
+commits-same : (before now : KeeperView) → now ≡ before → now.commits ≤ before.commits + 0
+commits-same before now same =
+    let count : now.commits ≡ before.commits = ap (λ (l : KeeperView). l.commits) same in
+    omega (arith, count)
 
 commits-made : (h k : Holding) (event : Event) (keeper keeper' : KeeperView) (gave : Given)
     → EventMade h event keeper gave k keeper'
@@ -153,10 +173,10 @@ commits-made : (h k : Holding) (event : Event) (keeper keeper' : KeeperView) (ga
 commits-made h k (events.Review key call) keeper keeper' gave m =
     at-most keeper.commits keeper'.commits m.commits
 commits-made h k (events.Grant key staff id) keeper keeper' gave m =
-    quiet-made h k (events.Grant key staff id) keeper keeper' gave m
-    (grant-stays h (grant_by h.matter h.grants key (record { staff = staff; id = id })))
+    commits-same keeper keeper'
+    (none-asked h k (events.Grant key staff id) keeper keeper' gave m refl)
 commits-made h k (events.Want key wanted) keeper keeper' gave m =
-    quiet-made h k (events.Want key wanted) keeper keeper' gave m refl
+    commits-same keeper keeper' (none-asked h k (events.Want key wanted) keeper keeper' gave m refl)
 
 keeps-made : (h k : Holding) (event : Event) (keeper keeper' : KeeperView) (gave : Given)
     → EventMade h event keeper gave k keeper'
@@ -170,6 +190,7 @@ keeps-made h k event keeper keeper' gave m =
       commits = commits-made h k event keeper keeper' gave m;
       sure = m.sure;
       faults = omega (arith, same);
+      quiet = none-asked h k event keeper keeper' gave m;
     }
 
 -- ---- one exchange
@@ -206,7 +227,7 @@ deals-failed : (h k : Holding) (event : Event) (keeper keeper' : KeeperView) (te
     → EventDeals (desk_view h keeper) x false (desk_view k keeper')
 deals-failed h k event keeper keeper' text x fits f (inl t) asks read s =
     let count = f.stays.faults in
-    made_none 1 1 text (desk_view k keeper') f.desk (fault event f.review asks read t) s
+    made_none 1 1 text (desk_view k keeper') f.desk (fault event f.review asks read f.changes t) s
     (omega (arith, count)) (at_call (record { event = event; review = f.review; asks = asks }))
     (keeps-stays h k keeper keeper' (risen keeper.faults) f.desk (omega (arith, fits)) f.stays)
 deals-failed h k event keeper keeper' text x fits f (inr t) asks read s =
@@ -359,7 +380,51 @@ none-delivered d = record {
   rose = omega arith;
   asked = no_exchange;
   keeps = keeps-itself 0 d;
+  dealt = nobody_came d;
 }
+
+-- what may be sent by one test of what alters the desk may be by a wider one
+text-by : (A B : Event → Type 0) (x : Exchange) (text : List ℕ) (count : ℕ)
+    → ((event : Event) → A event → B event)
+    → TextOfNoEvent A x text count
+    → TextOfNoEvent B x text count
+text-by A B x text count wider (refusal why reads read t) = refusal why reads read t
+text-by A B x text count wider (fault event review asks read alters t) =
+    fault event review asks read (wider event alters) t
+text-by A B x text count wider (no_memory needed t) = no_memory needed t
+text-by A B x text count wider (no_read short was t) = no_read short was t
+
+-- and so do exchanges use up events
+delivered-by : (A B : Event → Type 0) (turns : List EventTurn) (count : ℕ) (xs : List Exchange)
+    → ((event : Event) → A event → B event)
+    → Delivered A turns count xs
+    → Delivered B turns count xs
+delivered-by A B turns count xs wider nobody = nobody
+delivered-by A B turns count xs wider (made turn left faults x others text h t s rest) =
+    made turn left faults x others text h t s (delivered-by A B left faults others wider rest)
+delivered-by A B turns count xs wider (unmade left here faults x others text h t s rest) =
+    unmade left here faults x others text h (text-by A B x text here wider t) s
+    (delivered-by A B left faults others wider rest)
+
+-- at the desk as it is
+alters-now : (h : Holding) (events : List Event) (event : Event)
+    → AltersDesk h event
+    → AltersBehind h events event
+alters-now h events event alters =
+    record { before = []; behind = events; all = refl; alters = alters }
+
+-- behind one event more
+alters-later : (h k : Holding) (first : Event) (events : List Event) (event : Event)
+    → k ≡ (event_of h first).after
+    → AltersBehind k events event
+    → AltersBehind h (first ∷ events) event
+alters-later h k first events event is a =
+    record {
+      before = first ∷ a.before;
+      behind = a.behind;
+      all = ap (λ (l : List Event). first ∷ l) a.all;
+      alters = subst (λ (l : Holding). AltersDesk (run_of l a.before) event) is a.alters;
+    }
 
 -- an exchange that made an event asked for it
 asked-for : (h : Holding) (event : Event) (x : Exchange) (text : List ℕ)
@@ -381,7 +446,10 @@ one-delivered : (a b c : DeskView) (x : Exchange) (told : Bool) (others : List E
     → Delivers b others count c
     → Delivers a (x ∷ others) (count_if told + count) c
 one-delivered a b c x told others count h (made_one event text after run t s keeps) rest =
-    let P : Holding → Type 0 = λ l. Delivered (event_turns l rest.events) rest.faults others in
+    let A : Event → Type 0 = AltersBehind a.holding (event ∷ rest.events) in
+    let P : Holding → Type 0 = λ l. Delivered A (event_turns l rest.events) rest.faults others in
+    let same = delivered-by (AltersBehind b.holding rest.events) A _ rest.faults others
+    (λ e. alters-later a.holding b.holding event rest.events e run) rest.delivered in
     let up = keeps.faults in
     let counts = rest.counted in
     record {
@@ -391,15 +459,17 @@ one-delivered a b c x told others count h (made_one event text after run t s kee
       counted = omega (arith, counts);
       run = rest.run ∙ ap (λ (l : Holding). run_of l rest.events) run;
       delivered = made (event_turn a.holding event) _ rest.faults x others text h t s
-          (subst P run rest.delivered);
+          (subst P run same);
       rose = subst (λ n. RoseBy n a.keeper.faults c.keeper.faults) (zero-add rest.faults)
           (rose_twice a.keeper.faults b.keeper.faults c.keeper.faults 0 rest.faults up rest.rose);
       asked = one_more (commits_at event) rest.commits x others
           (may-commit x event (asked-for a.holding event x text t)) rest.asked;
       keeps = keeps-twice (commits_at event) rest.commits _ a b c (omega arith) keeps rest.keeps;
+      dealt = next a b c x true others count h (made_one event text b run t s keeps) rest.dealt;
     }
 one-delivered a b c x told others count h (made_none faults most text after run t s rose may keeps) rest =
-    let P : Holding → Type 0 = λ l. Delivered (event_turns l rest.events) rest.faults others in
+    let P : Holding → Type 0 = λ l. Delivered (AltersBehind l rest.events)
+    (event_turns l rest.events) rest.faults others in
     let counts = rest.counted in
     record {
       events = rest.events;
@@ -407,12 +477,16 @@ one-delivered a b c x told others count h (made_none faults most text after run 
       commits = most + rest.commits;
       counted = omega (arith, counts);
       run = rest.run ∙ ap (λ (l : Holding). run_of l rest.events) run;
-      delivered = unmade (event_turns a.holding rest.events) faults rest.faults x others text h t s
+      delivered = unmade (event_turns a.holding rest.events) faults rest.faults x others text h
+          (text-by (AltersDesk a.holding) (AltersBehind a.holding rest.events) x text faults
+          (alters-now a.holding rest.events) t) s
           (subst P run rest.delivered);
       rose = rose_twice a.keeper.faults b.keeper.faults c.keeper.faults faults rest.faults rose
           rest.rose;
       asked = one_more most rest.commits x others may rest.asked;
       keeps = keeps-twice most rest.commits _ a b c (omega arith) keeps rest.keeps;
+      dealt = next a b c x false others count h (made_none faults most text b run t s rose may keeps)
+          rest.dealt;
     }
 
 -- all that came

@@ -1,5 +1,5 @@
 -- Files that are ready: found by id and path, and with one more.
-use Rattle.std.proofs.Common.{◌≡◌, ℕ, Bool, true, false, ◌↔◌, List, [], ◌∷◌, Some, None, sym, subst, ◌∙◌, inl, inr}
+use Rattle.std.proofs.Common.{◌≡◌, ℕ, Bool, true, false, ◌↔◌, List, [], ◌∷◌, Some, None, refl, sym, subst, ◌∙◌, inl, inr}
 use Rattle.std.specs.Prelude.{All, OnErr, OnOk, Result, Ok, Err, codes, encode_utf8_all}
 use Rattle.std.specs.List.{find}
 use Rattle.std.specs.Str.{bytes_eq}
@@ -8,7 +8,8 @@ use Rattle.std.proofs.lemmas.Bool.{and_parts, cases_Bool, false≢true}
 use Rattle.std.proofs.lemmas.List.Elements.{All-cons, All-head, All-nil, All-tail}
 use Rattle.bp_freeze.proofs.PutRowLemmas.{find-passes, same-text}
 use Rattle.bp_matter.specs.Matter.{Matter}
-use Rattle.bp_receiver.specs.Ready.{AreReady, IsGiven, IsOfOneItem, IsReady, is_ready_at}
+use Rattle.bp_receiver.specs.Ready.{AreReady, IsGiven, IsOfOneItem, IsReady, KeepsFile, is_ready_at}
+use Rattle.bp_receiver.specs.Ready.KeepsFile.{of_all, of_one}
 use Rattle.bp_receiver.specs.declared.ready.ReadyFile.{ReadyFile}
 
 -- ---- what is found
@@ -112,3 +113,21 @@ ready-added m before after file has (Ok done) added left one not none given are 
     (ready-more m before file given (λ is. false≢true (sym not ∙ one.1 is)) none are)
 ready-added m before after file has (Err why) added left one not none given are =
     subst (AreReady m) (sym left) are
+
+-- one of one item isn't kept
+pub kept-none : (ready : List ReadyFile) (file : ReadyFile) (has : Bool)
+    → ((has ≡ true) ↔ IsOfOneItem file.path)
+    → has ≡ true
+    → KeepsFile ready file ready
+kept-none ready file has one is = of_one (one.0 is) refl
+
+-- one of all items is, where there was memory for it
+pub kept-more : {T E : Type 0} (before after : List ReadyFile) (file : ReadyFile) (has : Bool)
+    (made : Result T E)
+    → OnOk made (after ≡ file ∷ before)
+    → ((has ≡ true) ↔ IsOfOneItem file.path)
+    → has ≡ false
+    → OnOk made (KeepsFile before file after)
+kept-more before after file has (Ok done) added one not =
+    of_all (λ is. false≢true (sym not ∙ one.1 is)) added
+kept-more before after file has (Err why) added one not = tt

@@ -57,28 +57,29 @@ pub data TextOfEvent (turn : EventTurn) (x : Exchange) (text : List ℕ) : Type 
   not_given : AsksFor x turn.asked → WasReadEvent x → text ≡ memory_text
       → TextOfEvent turn x text
 
--- What may be sent in one that made no event: why the bytes are no request; that the keeper failed at
--- a call, which counts as one; that memory ran out; or nothing, where a read was refused that was
--- still needed.
-pub data TextOfNoEvent (x : Exchange) (text : List ℕ) : ℕ → Type 0 where
+-- What may be sent in one that made no event: why the bytes are no request; that the keeper failed, at
+-- a call that alters what is kept, which counts as one; that memory ran out; or nothing, where a read
+-- was refused that was still needed.
+pub data TextOfNoEvent (Alters : Event → Type 0) (x : Exchange) (text : List ℕ) : ℕ → Type 0 where
   refusal : (why : WebRefusal) → EventReads x.read (Err why) → WasReadEvent x
-      → text ≡ reply_text (answers.Web why) → TextOfNoEvent x text 0
-  fault : (event : Event) → IsReview event → AsksFor x event → WasReadEvent x
-      → text ≡ reply_text answers.KeeperFault → TextOfNoEvent x text 1
-  no_memory : WasNeeded TellsEvent x.read → text ≡ memory_text → TextOfNoEvent x text 0
-  no_read : TellsEvent x.read false → WasRefused x → text ≡ [] → TextOfNoEvent x text 0
+      → text ≡ reply_text (answers.Web why) → TextOfNoEvent Alters x text 0
+  fault : (event : Event) → IsReview event → AsksFor x event → WasReadEvent x → Alters event
+      → text ≡ reply_text answers.KeeperFault → TextOfNoEvent Alters x text 1
+  no_memory : WasNeeded TellsEvent x.read → text ≡ memory_text → TextOfNoEvent Alters x text 0
+  no_read : TellsEvent x.read false → WasRefused x → text ≡ [] → TextOfNoEvent Alters x text 0
 
 -- Delivered: the exchanges of a door, in order, use up these events, in order, and none is left over.
--- Each was hung up. So many were answered that the keeper failed.
-pub data Delivered : List EventTurn → ℕ → List Exchange → Type 0 where
-  nobody : Delivered [] 0 []
+-- Each was hung up. So many were answered that the keeper failed, each at a call that alters what is
+-- kept.
+pub data Delivered (Alters : Event → Type 0) : List EventTurn → ℕ → List Exchange → Type 0 where
+  nobody : Delivered Alters [] 0 []
   made : (turn : EventTurn) (left : List EventTurn) (faults : ℕ) (x : Exchange)
       (others : List Exchange) (text : List ℕ)
       → x.hung_up ≡ true → TextOfEvent turn x text → Sent x text
-      → Delivered left faults others
-      → Delivered (turn ∷ left) faults (x ∷ others)
+      → Delivered Alters left faults others
+      → Delivered Alters (turn ∷ left) faults (x ∷ others)
   unmade : (left : List EventTurn) (here faults : ℕ) (x : Exchange) (others : List Exchange)
       (text : List ℕ)
-      → x.hung_up ≡ true → TextOfNoEvent x text here → Sent x text
-      → Delivered left faults others
-      → Delivered left (here + faults) (x ∷ others)
+      → x.hung_up ≡ true → TextOfNoEvent Alters x text here → Sent x text
+      → Delivered Alters left faults others
+      → Delivered Alters left (here + faults) (x ∷ others)

@@ -71,7 +71,8 @@ pub data EventReads (bytes : List ℕ) (outcome : Result Event WebRefusal) : Typ
 
 -- both are read as the same
 abbrev pub EventReadAlike : List ℕ → List ℕ → Type 0
-EventReadAlike a b = (outcome : Result Event WebRefusal) → EventReads a outcome ↔ EventReads b outcome
+EventReadAlike a b =
+    (outcome : Result Event WebRefusal) → EventReads a outcome ↔ EventReads b outcome
 
 -- how many bytes of body are to come after a head: none where its request is refused before
 abbrev pub wanted_by : Result Asking WebRefusal → ℕ

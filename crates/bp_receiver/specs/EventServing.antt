@@ -18,13 +18,13 @@ use Rattle.bp_web.specs.declared.replies.Answer.TheVariants as answers
 use Rattle.bp_doors.specs.Exchanges.{Sent, WasCut, memory_text}
 use Rattle.bp_doors.specs.Exchanges.Sent.{whole}
 use Rattle.bp_doors.specs.Exchanges.WasCut.{no_read as cut_read, no_room as cut_room}
-use Rattle.bp_doors.specs.Serving.{Returned, RoseBy, raised}
+use Rattle.bp_doors.specs.Serving.{InTurn, Returned, RoseBy, raised}
 use Rattle.bp_receiver.specs.Delivered.{AsksFor, Delivered, TellsEvent, TextOfEvent, TextOfNoEvent, WasReadEvent, event_turn, event_turns}
 use Rattle.bp_receiver.specs.Delivered.TextOfNoEvent.{no_memory, no_read}
 use Rattle.bp_receiver.specs.Delivering.{IsReview}
 use Rattle.bp_receiver.specs.EventReplies.{given_message}
 use Rattle.bp_receiver.specs.EventRequests.{EventReads}
-use Rattle.bp_receiver.specs.Events.{Holding, event_of, run_of}
+use Rattle.bp_receiver.specs.Events.{AltersBehind, AltersDesk, Holding, event_of, run_of}
 use Rattle.bp_receiver.specs.declared.events.Event.{Event}
 use Rattle.bp_receiver.specs.declared.events.Event.TheVariants as events
 use Rattle.bp_receiver.specs.declared.events.Given.{Given}
@@ -40,9 +40,10 @@ pub record DeskView : Type 0 where
 abbrev pub desk_view : Holding → KeeperView → DeskView
 desk_view h keeper = record { holding = h; keeper = keeper }
 
--- a keeper that kept the matter before keeps the matter after, and tells rows only where it told them
+-- A keeper that kept the matter before keeps the matter after, and tells rows only where it told them
 -- before; it wasn't asked to load, was asked to commit so often at most, is as sure as it was, and
--- its count of faults didn't fall
+-- its count of faults didn't fall. Where it may never be asked to commit, nothing was asked of it: rows
+-- and counts are as they were.
 pub record KeepsOn (most : ℕ) (before after : DeskView) : Type 0 where
   pub kept : KeepsRows before.keeper before.holding.matter
       → KeepsRows after.keeper after.holding.matter
@@ -51,6 +52,7 @@ pub record KeepsOn (most : ℕ) (before after : DeskView) : Type 0 where
   pub commits : after.keeper.commits ≤ before.keeper.commits + most
   pub sure : after.keeper.sure ≡ before.keeper.sure
   pub faults : before.keeper.faults ≤ after.keeper.faults
+  pub quiet : most ≡ 0 → after.keeper ≡ before.keeper
 
 -- whatever a keeper tells, it told
 pub told-itself : (rows : Option (List Row)) → IfSome rows (λ _. IsTrue (is_some rows))
@@ -93,7 +95,7 @@ pub data EventDeals (before : DeskView) (x : Exchange) : Bool → DeskView → T
       → EventDeals before x true after
   made_none : (faults most : ℕ) (text : List ℕ) (after : DeskView)
       → after.holding ≡ before.holding
-      → TextOfNoEvent x text faults → Sent x text
+      → TextOfNoEvent (AltersDesk before.holding) x text faults → Sent x text
       → RoseBy faults before.keeper.faults after.keeper.faults
       → MayCommit x most → KeepsOn most before after
       → EventDeals before x false after
@@ -107,6 +109,7 @@ keeps-all d = record {
   commits = le-add_right d.keeper.commits 0;
   sure = refl;
   faults = le_refl d.keeper.faults;
+  quiet = λ _. refl;
 }
 
 -- an exchange that came to no answer leaves all
@@ -150,7 +153,8 @@ AnswersEvent before read text made after =
 -- What exchanges in turn came to: these events were made, so many, and the exchanges use them up; so
 -- many were answered that the keeper failed, no more than its count rose by; and the desk holds what
 -- the events make of it. The keeper was asked to commit once at most in each exchange that asks for a
--- call, and in no other.
+-- call, and in no other. What each exchange did is said of the very desk before it and after it: so at
+-- a want nothing was asked of the keeper, and where it is told to have failed its count rose there.
 pub record Delivers (before : DeskView) (exchanges : List Exchange) (count : ℕ) (after : DeskView)
     : Type 0 where
   pub events : List Event
@@ -158,10 +162,12 @@ pub record Delivers (before : DeskView) (exchanges : List Exchange) (count : ℕ
   pub commits : ℕ
   pub counted : count ≡ length events
   pub run : after.holding ≡ run_of before.holding events
-  pub delivered : Delivered (event_turns before.holding events) faults exchanges
+  pub delivered : Delivered (AltersBehind before.holding events)
+      (event_turns before.holding events) faults exchanges
   pub rose : RoseBy faults before.keeper.faults after.keeper.faults
   pub asked : MayCommitIn commits exchanges
   pub keeps : KeepsOn commits before after
+  pub dealt : InTurn EventDeals before exchanges count after
 
 -- A door was served for so many connections: so many accepts were tried, or the last of fewer found
 -- it closed; and this is what its new exchanges came to.

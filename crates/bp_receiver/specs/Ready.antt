@@ -28,6 +28,12 @@ pub record IsReady (m : Matter) (file : ReadyFile) : Type 0 where
 abbrev pub is_ready_at : List ℕ → List ℕ → ReadyFile → Bool
 is_ready_at id path file = bytes_eq file.id id && bytes_eq file.path path
 
+-- what is ready once this file was made: that one more; but none more of one image or one text
+pub data KeepsFile (ready : List ReadyFile) (file : ReadyFile) (ready' : List ReadyFile)
+    : Type 0 where
+  of_all : ¬ (IsOfOneItem file.path) → ready' ≡ file ∷ ready → KeepsFile ready file ready'
+  of_one : IsOfOneItem file.path → ready' ≡ ready → KeepsFile ready file ready'
+
 -- none is ready twice
 abbrev pub AreApart : List ReadyFile → Type 0
 AreApart [] = ⊤

@@ -3,7 +3,7 @@ ghost use Rattle.std.specs.Prelude.{◌≡◌, ◌∷◌, None, false, true, ◌
 ghost use Rattle.std.specs.List.{find};
 ghost use Rattle.std.specs.Option.{option_copied};
 ghost use Rattle.bp_matter.specs.Matter.{Matter};
-ghost use Rattle.bp_receiver.specs.Ready.{AreReady, IsGiven, IsOfOneItem, is_ready_at};
+ghost use Rattle.bp_receiver.specs.Ready.{AreReady, IsGiven, IsOfOneItem, KeepsFile, is_ready_at};
 
 use bp_core::{Bytes, OutOfMemory, Text};
 
@@ -35,18 +35,28 @@ pub(crate) fn copy_of(bytes: &Bytes) -> Result<Bytes, OutOfMemory>
 
 // From now on a file that wasn't is ready, where there is memory for it. Those of a page or a text are
 // made fast, and many; a manifest or a load file is made of all others, and a production has four.
-pub(crate) fn keep_ready(ready: &mut Vec<ReadyFile>, id: &Text, path: &Text, bytes: &Bytes)
+pub(crate) fn keep_ready(
+    ready: &mut Vec<ReadyFile>,
+    id: &Text,
+    path: &Text,
+    bytes: &Bytes,
+) -> Result<(), OutOfMemory>
     requires { find (is_ready_at id.now path.now) ready.old.items ≡ None }
     ensures ready { (m : Matter)
         → IsGiven m id.now path.now bytes.now
         → AreReady m ready.old.items
         → AreReady m ready.new.items }
-    ensures one { IsOfOneItem path.now → ready.new.items ≡ ready.old.items }
+    ensures kept { OnOk result (KeepsFile ready.old.items (record {
+      id = id.now;
+      path = path.now;
+      bytes = bytes.now;
+    }) ready.new.items) }
+    ensures lacked { OnErr result (ready.new.items ≡ ready.old.items) }
 {
     if is_of_one_item(path) {
-        return;
+        return Ok(());
     }
-    let _added = add_ready(ready, id, path, bytes);
+    add_ready(ready, id, path, bytes)
 }
 
 // Whether a path is one of an image or of a text.

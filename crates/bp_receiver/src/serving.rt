@@ -1,6 +1,7 @@
 // Serving a door of the receiver's desk.
 ghost use Rattle.std.specs.Prelude.{◌≡◌, IfOk, Result};
 ghost use Rattle.bp_doors.specs.Exchanges.{text_of};
+ghost use Rattle.bp_doors.specs.Serving.{Knocks};
 ghost use Rattle.bp_receiver.specs.EventServing.{AnswersEvent, DeliversDoor, ReadsEvent, desk_view, is_made, text_for};
 
 use crate::delivery::Delivery;
@@ -19,17 +20,19 @@ use std::alloc::Global;
 
 /// Serves a door to receivers and reviewers: the request of each peer is read, the event that it asks
 /// for made, its answer sent (RFC 9112), and the exchange hung up. Answers how many events were made.
-/// It returns only where an accept found the door closed, or so many accepts were tried, and may wait
-/// for ever for a peer. A refusal of the door ends its exchange alone; an event that was made stays
-/// made.
+/// It returns only where an accept found the door closed, behind which none is tried, or so many were,
+/// and may wait for ever for a peer. A refusal of the door ends its exchange alone; an event that was
+/// made stays made. The keeper is asked to commit by calls alone: at a grant and a want it stays as it
+/// is.
 pub fn serve_receiver<K: Keeper, D: Door>(
     delivery: &mut Delivery,
     keeper: &mut K,
     door: &mut D,
     connections: u32,
 ) -> u32
-    ensures { DeliversDoor connections (desk_view delivery.old (K.shows keeper.old))
+    ensures served { DeliversDoor connections (desk_view delivery.old (K.shows keeper.old))
         (D.shows door.old) result (desk_view delivery.new (K.shows keeper.new)) (D.shows door.new) }
+    ensures knocks { Knocks D.shows connections door.old door.new }
 {
     let alloc = delivery.alloc;
     // Where there is no memory for the routes, each request is read by some of its own.

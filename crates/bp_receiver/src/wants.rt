@@ -72,7 +72,8 @@ fn file_given(
         return Ok(Given::File(copy_of(&there.bytes)?));
     }
     let bytes = file_made(alloc, file)?;
-    keep_ready(ready, file.id, file.path, &bytes);
+    // What lacks memory is made anew at the next want.
+    let _kept = keep_ready(ready, file.id, file.path, &bytes);
     Ok(Given::File(bytes))
 }
 

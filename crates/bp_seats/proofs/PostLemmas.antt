@@ -15,9 +15,9 @@ use Rattle.bp_desk.specs.Shown.{BookView}
 use Rattle.bp_desk.specs.declared.history.Made.{Made}
 use Rattle.bp_desk.specs.declared.history.TheConstants.{MOST_CALLS}
 use Rattle.bp_seats.specs.Laws.{FaultsRose, SameSeats, start_faults}
-use Rattle.bp_seats.specs.Matters.{ArePaired, AreServed, ServeEach, ServesMatter, ServesPosts, post_door, post_seat}
+use Rattle.bp_seats.specs.Matters.{ArePaired, AreServed, IsServed, ServeEach, ServesMatter, ServesPosts, post_door, post_seat}
 use Rattle.bp_seats.specs.Seats.{AreSeats, Closes, Desked, IsSeatOf, SeatCloses, SeatView, all_fresh, fresh_with}
-use Rattle.bp_seats.specs.Serving.{ServesAt, own_faults}
+use Rattle.bp_seats.specs.Serving.{ServesFor, own_faults}
 use Rattle.bp_seats.specs.declared.doors.PostOf.{PostOf}
 use Rattle.bp_seats.proofs.LawLemmas.{door_law, faults_law, seats_law}
 
@@ -62,9 +62,9 @@ module _ {D : Type 0} where
     pub serve_each : (before after : List (PostOf BookView D))
         → length after ≡ length before
         → ((k : ℕ) (d : PostOf BookView D) → k < length before
-        → ServesAt connections (slice_index_or before k d).seat
-        (shows (slice_index_or before k d).door) (slice_index_or after k d).seat
-        (shows (slice_index_or after k d).door))
+        → ServesFor shows connections (slice_index_or before k d).seat
+        (slice_index_or before k d).door (slice_index_or after k d).seat
+        (slice_index_or after k d).door)
         → ServeEach shows connections before after
     serve_each [] [] long each = tt
     serve_each [] (a ∷ after) long each = absurd (omega (arith, long))
@@ -81,7 +81,7 @@ module _ {D : Type 0} where
     failed_of [] (a ∷ after) each = absurd each
     failed_of (b ∷ before) [] each = absurd each
     failed_of (b ∷ before) (a ∷ after) each =
-        each.0.served.serves.faults ∷ failed_of before after each.1
+        each.0.at.served.serves.faults ∷ failed_of before after each.1
 
     counted : (before after : List (PostOf BookView D)) (each : ServeEach shows connections before after)
         → length (failed_of before after each) ≡ length before
@@ -96,7 +96,7 @@ module _ {D : Type 0} where
     same_seats [] [] each = tt
     same_seats [] (a ∷ after) each = absurd each
     same_seats (b ∷ before) [] each = absurd each
-    same_seats (b ∷ before) (a ∷ after) each = (each.0.same, same_seats before after each.1)
+    same_seats (b ∷ before) (a ∷ after) each = (each.0.at.same, same_seats before after each.1)
 
 -- the seats that were paired are these
 pub all_paired : {D : Type 0} (seats all : List SeatView) (given : List D)
@@ -184,12 +184,15 @@ module _ {D : Type 0} (shows : D → DoorView) (connections : ℕ) (desk : Deske
       let P : SeatView → Type 0 = SeatCloses history count in
       let f = fresh.0 in
       let own : DoorServed desk.book.opening history desk.book.room b.seat.view.number connections
-      each.0.served.serves.faults (shows b.door) (shows a.door) =
+      each.0.at.served.serves.faults (shows b.door) (shows a.door) =
       door_law desk history count connections b.seat a.seat (shows b.door) (shows a.door) f.of_desk
-      f.unseen each.0 (All-head P a.seat (map post_seat after) closes) fits in
+      f.unseen each.0.at (All-head P a.seat (map post_seat after) closes) fits in
       let Q : ℕ → ℕ → Type 0 = λ room number. DoorServed desk.book.opening history room number
-      connections each.0.served.serves.faults (shows b.door) (shows a.door) in (
-        subst (Q MOST_CALLS) f.numbered (subst (λ room. Q room b.seat.view.number) roomy own),
+      connections each.0.at.served.serves.faults (shows b.door) (shows a.door) in (
+        record {
+          served = subst (Q MOST_CALLS) f.numbered (subst (λ room. Q room b.seat.view.number) roomy own);
+          knocks = each.0.knocks;
+        },
         doors_served (seat + 1) before after behind each.1 fresh.1
             (All-tail P a.seat (map post_seat after) closes),
       )
@@ -204,8 +207,8 @@ module _ {D : Type 0} (shows : D → DoorView) (connections : ℕ) (desk : Deske
   faults_rose seat [] (a ∷ after) each fresh = absurd each
   faults_rose seat (b ∷ before) [] each fresh = absurd each
   faults_rose seat (b ∷ before) (a ∷ after) each fresh =
-      let R : ℕ → Type 0 = λ start. RoseBy each.0.served.serves.faults start (own_faults a.seat.view) in (
-        subst R fresh.0.faults each.0.served.serves.rose,
+      let R : ℕ → Type 0 = λ start. RoseBy each.0.at.served.serves.faults start (own_faults a.seat.view) in (
+        subst R fresh.0.faults each.0.at.served.serves.rose,
         faults_rose (seat + 1) before after each.1 fresh.1,
       )
 

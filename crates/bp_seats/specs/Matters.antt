@@ -10,16 +10,23 @@ use Rattle.bp_rules.specs.declared.refusals.MatterRefusal.TheVariants as refusal
 use Rattle.bp_desk.specs.Books.{Opens, StaysWith}
 use Rattle.bp_desk.specs.Calls.{run_calls}
 use Rattle.bp_desk.specs.Run.{DoorServed}
-use Rattle.bp_desk.specs.Serving.{RoseBy}
+use Rattle.bp_desk.specs.Serving.{Knocks, RoseBy}
 use Rattle.bp_desk.specs.Shown.{BookView}
 use Rattle.bp_desk.specs.declared.history.Made.{Made}
 use Rattle.bp_desk.specs.declared.history.TheConstants.{MOST_CALLS}
 use Rattle.bp_seats.specs.Seats.{SeatView}
-use Rattle.bp_seats.specs.Serving.{ServesAt}
+use Rattle.bp_seats.specs.Serving.{ServesFor}
 use Rattle.bp_seats.specs.Turns.{IsCaller}
 use Rattle.bp_seats.specs.declared.doors.PostOf.{PostOf}
 
 -- ---- what it comes to
+
+-- a door was served for a seat, by a history, and once found closed it isn't knocked at again
+pub record IsServed {D : Type 0} (shows : D → DoorView) (connections : ℕ) (opening : Matter)
+    (history : List Made) (seat failed : ℕ) (door door' : D) : Type 0 where
+  pub served : DoorServed opening history MOST_CALLS seat connections failed (shows door)
+      (shows door')
+  pub knocks : Knocks shows connections door door'
 
 -- The first doors were served, each for the seat of its place, from this one on: its exchanges use up
 -- the calls of that seat in this history, and so many of them were answered that the keeper failed.
@@ -30,7 +37,7 @@ AreServed shows connections opening history seat [] given handed = handed ≡ gi
 AreServed shows connections opening history seat (failed ∷ more) [] handed = ⊥
 AreServed shows connections opening history seat (failed ∷ more) (door ∷ given) [] = ⊥
 AreServed shows connections opening history seat (failed ∷ more) (door ∷ given) (door' ∷ handed) =
-    DoorServed opening history MOST_CALLS seat connections failed (shows door) (shows door')
+    IsServed shows connections opening history seat failed door door'
     × AreServed shows connections opening history (seat + 1) more given handed
 
 -- A matter was served at so many doors, from the book that it was loaded into. The history has calls
@@ -86,7 +93,7 @@ ServeEach shows connections [] [] = Unit {0}
 ServeEach shows connections [] (after ∷ others) = ⊥
 ServeEach shows connections (before ∷ more) [] = ⊥
 ServeEach shows connections (before ∷ more) (after ∷ others) =
-    ServesAt connections before.seat (shows before.door) after.seat (shows after.door)
+    ServesFor shows connections before.seat before.door after.seat after.door
     × ServeEach shows connections more others
 
 -- the doors of these posts were served, and seats and doors are back

@@ -251,7 +251,8 @@ seat_view seat = seat.view
 -- all seats of this desk: each number from 1 on is the number of one
 pub record AreSeats (desk : Desked) (seats : List SeatView) : Type 0 where
   pub of_desk : All (IsSeatOf desk) seats
-  pub whole : (number : ℕ) → 0 < number → number ≤ desk.seats → 0 < times number (map seat_number seats)
+  pub whole : (number : ℕ) → 0 < number → number ≤ desk.seats
+      → 0 < times number (map seat_number seats)
 
 -- what a seat knows of the whole history and of the keeper's last count
 pub record SeatCloses (history : List Made) (faults : ℕ) (seat : SeatView) : Type 0 where

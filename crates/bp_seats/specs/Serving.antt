@@ -2,7 +2,7 @@
 use Rattle.std.specs.Prelude.{◌≡◌, ℕ, ◌-◌, ◌^◌, nat_le, if◌then◌else◌}
 use Rattle.bp_outside.specs.Door.{DoorView}
 use Rattle.bp_desk.specs.History.{HistoryView}
-use Rattle.bp_desk.specs.Serving.{ServesDoor}
+use Rattle.bp_desk.specs.Serving.{Knocks, ServesDoor}
 use Rattle.bp_seats.specs.Calls.{calls_by}
 use Rattle.bp_seats.specs.Seats.{SameSeat, SeatView}
 use Rattle.bp_seats.specs.declared.views.View.{View}
@@ -29,3 +29,10 @@ pub record ServesAt (connections : ℕ) (seat : SeatView) (door : DoorView) (sea
       (history_at seat'.view) door'
   pub same : SameSeat seat seat'
   pub own : calls_by seat'.view.number seat'.view.seen ≡ seat'.view.mine
+
+-- the same of a door whose shows tells what is known of it; once found closed it isn't knocked at
+-- again
+pub record ServesFor {D : Type 0} (shows : D → DoorView) (connections : ℕ) (seat : SeatView)
+    (door : D) (seat' : SeatView) (door' : D) : Type 0 where
+  pub at : ServesAt connections seat (shows door) seat' (shows door')
+  pub knocks : Knocks shows connections door door'

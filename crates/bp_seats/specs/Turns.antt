@@ -69,7 +69,8 @@ pub record StaysAs (began : KeeperBegan) (keeper : KeeperView) : Type 0 where
   pub told : IfSome keeper.rows (λ _. IsTrue began.told)
 
 -- one that was taken in had seen what its taker has, and the calls of its number are its own
-pub record PeerFits (log : List Made) (faults given : ℕ) (seen : List Made) (p : Peer) : Type 0 where
+pub record PeerFits (log : List Made) (faults given : ℕ) (seen : List Made) (p : Peer)
+    : Type 0 where
   pub began : Begins p.seen seen
   pub own : calls_by p.number log ≡ p.mine
   pub below : p.left ≤ faults
@@ -78,7 +79,8 @@ pub record PeerFits (log : List Made) (faults given : ℕ) (seen : List Made) (p
 -- What holds of each view. One with a number tells what the desk began with. Each tells a beginning of
 -- the log, the calls of its number in the log, and a count of faults that the word is not below. The
 -- seat that deals has number 1, and knows how many numbers are given.
-pub record Fits (key : Opening BookView) (log : List Made) (faults given : ℕ) (v : View) : Type 0 where
+pub record Fits (key : Opening BookView) (log : List Made) (faults given : ℕ) (v : View)
+    : Type 0 where
   pub known : 0 < v.number
       → (v.opening ≡ key.book.value.opening) × (v.base ≡ key.book.value.keeper.faults)
       × (v.room ≡ key.book.value.room) × (v.keeper ≡ began_with key.book.value.keeper)

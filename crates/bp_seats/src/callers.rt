@@ -24,7 +24,8 @@ impl<'a, K: Keeper, R: Wait> Caller<Seat<K>> for AtSeat<'a, K, R> {
 
     ghost knows = { λ seat. history_at seat.view };
 
-    ghost Keeps = { λ caller seat. IsSeatOf caller.desk.now seat × SameSeat caller.start.value seat };
+    ghost Keeps = { λ caller seat. IsSeatOf caller.desk.now seat
+        × SameSeat caller.start.value seat };
 
     fn call(
         &self,

@@ -1,7 +1,7 @@
 // Serving doors at the seats of a desk.
 ghost use Rattle.std.specs.Prelude.{◌≡◌, ℕ, ◌<◌, All, length, slice_index_or};
 ghost use Rattle.bp_seats.specs.Seats.{IsSeatOf};
-ghost use Rattle.bp_seats.specs.Serving.{ServesAt};
+ghost use Rattle.bp_seats.specs.Serving.{ServesFor};
 
 use crate::callers::AtSeat;
 use crate::desk::Desk;
@@ -25,9 +25,9 @@ pub struct PostOf<B, D> {
 pub type Post<K, D> = PostOf<Book<K>, D>;
 
 /// Serves a door at a seat: the request of each peer is read and answered (RFC 9112), and the exchange
-/// hung up. It returns only where an accept found the door closed, or so many accepts were tried, and
-/// may wait for ever for a peer or for the turn. A refusal of the door ends its exchange alone; a call
-/// that was made stands in the history.
+/// hung up. It returns only where an accept found the door closed, behind which none is tried, or so
+/// many were, and may wait for ever for a peer or for the turn. A refusal of the door ends its exchange
+/// alone; a call that was made stands in the history.
 pub fn serve_door<K: Keeper, D: Door, R: Wait>(
     desk: &Desk<K>,
     rt: &R,
@@ -37,7 +37,7 @@ pub fn serve_door<K: Keeper, D: Door, R: Wait>(
     connections: u32,
 )
     requires { IsSeatOf desk.now seat.old }
-    ensures { ServesAt connections seat.old (D.shows door.old) seat.new (D.shows door.new) }
+    ensures { ServesFor D.shows connections seat.old door.old seat.new door.new }
 {
     let start = Snapshot::of(seat);
     let caller = AtSeat { desk, rt, start };
@@ -58,7 +58,7 @@ pub fn serve_all<K: Keeper + Send, D: Door + Send, R: Threads + Wait + Sync>(
     ensures each { (k : ℕ) (d : _) → k < length posts.old.items
         → let before = slice_index_or posts.old.items k d in
         let after = slice_index_or posts.new.items k d in
-        ServesAt connections before.seat (D.shows before.door) after.seat (D.shows after.door) }
+        ServesFor D.shows connections before.seat before.door after.seat after.door }
 {
     let threads = posts.len();
     if threads == 0 {
@@ -70,8 +70,8 @@ pub fn serve_all<K: Keeper + Send, D: Door + Send, R: Threads + Wait + Sync>(
         threads,
         &|_: usize, post: &mut Post<K, D>|
             requires { IsSeatOf desk.now post.old.seat }
-            ensures { ServesAt connections post.old.seat (D.shows post.old.door) post.new.seat
-                (D.shows post.new.door) }
+            ensures { ServesFor D.shows connections post.old.seat post.old.door post.new.seat
+                post.new.door }
         { serve_door(desk, rt, alloc, &mut post.seat, &mut post.door, connections) },
     );
 }

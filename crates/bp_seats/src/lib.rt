@@ -2,8 +2,9 @@
 //! and what they did is one history, each call once.
 //!
 //! `Desk::start` first, which deals the seats, then `Desk::call` at a seat, or `serve_all`, which serves
-//! the doors of posts, and `Desk::close`; `serve_matter` does all of it for a row of doors. The rule of the table that the seats share is `Ruled` of
-//! specs/Turns.antt, with its nine kinds of step; what a call tells is `Calls` of specs/Seats.antt.
+//! the doors of posts, and `Desk::close`; `serve_matter` does all of it for a row of doors. The rule of
+//! the table that the seats share is `Ruled` of specs/Turns.antt, with its nine kinds of step; what a
+//! call tells is `Calls` of specs/Seats.antt.
 #![tactic(auto)]
 
 mod callers;

@@ -31,12 +31,12 @@ returns-in_err-line_of_count-clause-delivers g c =
     let residual = c.from_residual-in_err-line_of_count in
     line_lacks (deliver_seen c.args.asked.now) (g.S.Source.shows c.args.source.now) (g.S.Source.shows c.grants_named.new.source) (g.K.Keeper.shows c.args.keeper.now) (g.K.Keeper.shows c.load_tables.new.keeper) (g.K.Keeper.shows c.serve_receiver-count.new.keeper)
     (g.D.Door.shows c.args.door.now) (g.D.Door.shows c.serve_receiver-count.new.door) c.in_ok-tables.tables c.in_ok-rows.rows c.in_ok-desk.desk c.serve_receiver-count.new.delivery c.serve_receiver-count.result
-    c.know_valid.ensures c.in_ok-tables.ensures.loaded c.in_ok-rows.ensures.grants (subst (λ (rows : List Grant). Answers (λ (desk : Holding). desk.grants) (Ok c.in_ok-desk.desk) (grant_each c.in_ok-tables.tables.matter [] 1 rows)) c.as_slice.ensures c.in_ok-desk.ensures.grants) c.in_ok-desk.ensures.matter c.serve_receiver-count.ensures c.want_law.ensures c.events_law.ensures
+    c.know_valid.ensures c.in_ok-tables.ensures.loaded c.in_ok-rows.ensures.grants (subst (λ (rows : List Grant). Answers (λ (desk : Holding). desk.grants) (Ok c.in_ok-desk.desk) (grant_each c.in_ok-tables.tables.matter [] 1 rows)) c.as_slice.ensures c.in_ok-desk.ensures.grants) c.in_ok-desk.ensures.matter c.serve_receiver-count.ensures.served c.want_law.ensures c.events_law.ensures
     residual.result residual.ensures.0 residual.ensures.1
 
 pub returns-clause-delivers : goal.returns-clause-delivers
 returns-clause-delivers g c =
     door_served (deliver_seen c.args.asked.now) (g.S.Source.shows c.args.source.now) (g.S.Source.shows c.grants_named.new.source) (g.K.Keeper.shows c.args.keeper.now) (g.K.Keeper.shows c.load_tables.new.keeper) (g.K.Keeper.shows c.serve_receiver-count.new.keeper)
     (g.D.Door.shows c.args.door.now) (g.D.Door.shows c.serve_receiver-count.new.door) c.in_ok-tables.tables c.in_ok-rows.rows c.in_ok-desk.desk c.serve_receiver-count.new.delivery c.serve_receiver-count.result
-    c.know_valid.ensures c.in_ok-tables.ensures.loaded c.in_ok-rows.ensures.grants (subst (λ (rows : List Grant). Answers (λ (desk : Holding). desk.grants) (Ok c.in_ok-desk.desk) (grant_each c.in_ok-tables.tables.matter [] 1 rows)) c.as_slice.ensures c.in_ok-desk.ensures.grants) c.in_ok-desk.ensures.matter c.serve_receiver-count.ensures c.want_law.ensures c.events_law.ensures
+    c.know_valid.ensures c.in_ok-tables.ensures.loaded c.in_ok-rows.ensures.grants (subst (λ (rows : List Grant). Answers (λ (desk : Holding). desk.grants) (Ok c.in_ok-desk.desk) (grant_each c.in_ok-tables.tables.matter [] 1 rows)) c.as_slice.ensures c.in_ok-desk.ensures.grants) c.in_ok-desk.ensures.matter c.serve_receiver-count.ensures.served c.want_law.ensures c.events_law.ensures
     c.in_ok-line_of_count.field-0 c.in_ok-line_of_count.ensures

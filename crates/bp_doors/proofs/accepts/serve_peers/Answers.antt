@@ -1,5 +1,8 @@
 use Rattle.std.proofs.Common.{◌≡◌, ◌+◌, arith, refl}
 use Rattle.std.specs.Prelude.{None}
+use Rattle.bp_doors.specs.Serving.Knocks.{found_closed}
+use Rattle.bp_doors.specs.Serving.LeftOpen.{untried}
+use Rattle.bp_doors.proofs.KnockLemmas.{knocks_all, left_open}
 use Rattle.bp_doors.proofs.ServingLemmas.{serves_none, serves_counted, serves_shut}
 use Rattle.bp_doors.proofs.accepts.serve_peers.Goals as goal
 
@@ -8,6 +11,7 @@ serving-init g c =
     record {
       few = omega arith;
       serves = serves_none (g.H.Handler.Deals c.args.handler.now) 0 _ _ _ refl refl;
+      opens = untried;
       keeps = c.requires;
     }
 
@@ -17,6 +21,8 @@ serving-preserved g c =
       few = omega arith;
       serves = serves_counted (g.H.Handler.Deals c.args.handler.now) _ _ _ _ _ _ _ _ _ _ _
           c.serving.invariant.serves c.serve_next.ensures.serves c.in-Some.is c.counted-count.ensures;
+      opens = left_open g.D.Door.shows _ _ _ _ _ _ c.serving.invariant.opens
+          c.serve_next.ensures.serves.accepts c.serve_next.ensures.opened c.in-Some.is;
       keeps = c.serve_next.ensures.keeps;
     }
 
@@ -24,3 +30,12 @@ pub returns-in-None-clause-served : goal.returns-in-None-clause-served
 returns-in-None-clause-served g c =
     serves_shut (g.H.Handler.Deals c.args.handler.now) _ _ _ _ _ _ _ _ _ _ c.serving.invariant.serves
     c.serve_next.ensures.serves c.in-None.is (omega arith) (c.serve_next.ensures.closed c.in-None.is)
+
+pub returns-in-None-clause-knocks : goal.returns-in-None-clause-knocks
+returns-in-None-clause-knocks g c =
+    found_closed _ _ (omega arith) c.serving.invariant.opens c.serve_next.ensures.serves.accepts
+    (c.serve_next.ensures.closed c.in-None.is)
+
+pub returns-clause-knocks : goal.returns-clause-knocks
+returns-clause-knocks g c =
+    knocks_all g.D.Door.shows _ _ _ _ c.serving.invariant.opens (omega arith)

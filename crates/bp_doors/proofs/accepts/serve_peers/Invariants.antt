@@ -1,5 +1,5 @@
 use Rattle.std.proofs.Common.{◌-◌, ◌≤◌}
-use Rattle.bp_doors.specs.Serving.{Serves}
+use Rattle.bp_doors.specs.Serving.{LeftOpen, Serves}
 use Rattle.bp_doors.proofs.accepts.serve_peers.Given as goal
 
 abbrev pub invariant-serving : goal.invariant-serving
@@ -8,6 +8,7 @@ invariant-serving g l =
       few : l.tried ≤ l.connections;
       serves : Serves (g.H.Handler.Deals l.handler) l.tried (l.initial.at, l.initial.by)
           (g.D.Door.shows l.initial.door) l.count (l.at, l.by) (g.D.Door.shows l.door);
+      opens : LeftOpen g.D.Door.shows l.initial.door l.tried l.door;
       keeps : g.H.Handler.Keeps l.handler (l.at, l.by);
     }
 

@@ -1,7 +1,7 @@
 use Rattle.std.proofs.Common.{◌<◌, ◌∙◌, ap, arith, length, slice_index_or, subst₂, sym, take_at}
 use denote.Param.Send.{sendable}
 use Rattle.std.proofs.Crossing.{crosses}
-use Rattle.bp_seats.specs.Serving.{ServesAt}
+use Rattle.bp_seats.specs.Serving.{ServesFor}
 use Rattle.bp_seats.proofs.ThreadLemmas.{book_send, desk_sync, post_send}
 use Rattle.bp_seats.proofs.doors.serve_all.Goals as goal
 
@@ -23,7 +23,7 @@ returns-clause-each g c = λ k d less.
     let below : k < length c.as_mut_slice.result.now = omega (arith, ap length same, less) in
     let step = (c.for_each_mut.ensures k d below).1 in
     let whole = take_at c.for_each_mut.new.s _ c.args.posts.now.len (omega (arith, long, shown.len)) in
-    subst₂ (λ x y. ServesAt c.args.connections x.seat (g.D.Door.shows x.door) y.seat (g.D.Door.shows y.door))
+    subst₂ (λ x y. ServesFor g.D.Door.shows c.args.connections x.seat x.door y.seat y.door)
     (step.argument_is ∙ ap (λ l. slice_index_or l k d) same)
     (step.left ∙ sym (ap (λ l. slice_index_or l k d) whole))
     step.call

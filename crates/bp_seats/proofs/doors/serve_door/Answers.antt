@@ -18,7 +18,10 @@ returns g c =
     (g.D.Door.shows c.args.door.now) (history_at c.serve_by.new.at.view)
     (g.D.Door.shows c.serve_by.new.door) in
     record {
-      served = subst Q c.of-start.ensures c.serve_by.ensures.served;
-      same = subst P c.of-start.ensures c.serve_by.ensures.keeps.1;
-      own = c.know_own.ensures.own;
+      at = record {
+        served = subst Q c.of-start.ensures c.serve_by.ensures.served;
+        same = subst P c.of-start.ensures c.serve_by.ensures.keeps.1;
+        own = c.know_own.ensures.own;
+      };
+      knocks = c.serve_by.ensures.knocks;
     }

@@ -4,7 +4,7 @@ ghost use Rattle.bp_seats.specs.Seats.{IsSeatOf, SameSeat};
 
 use crate::calls::{box_of, freeze, get_production, put_box};
 use crate::matters::confirmed;
-use crate::stage::{close_pair, make, pass_note, start_pair};
+use crate::stage::{close_pair, do_call, make, pass_note, start_pair};
 use bp_keep::MemKeeper;
 use bp_matter::{Call, Production, Reply};
 use bp_seats::{Desk, Seat};
@@ -30,6 +30,34 @@ fn produced_at<R: Wait>(
     }
 }
 
+// The production that is frozen at a seat.
+fn frozen_at<R: Wait>(
+    desk: &Desk<MemKeeper>,
+    rt: &R,
+    alloc: Global,
+    seat: &mut Seat<MemKeeper>,
+) -> Result<Production, Fail>
+    requires { IsSeatOf desk.now seat.old }
+    ensures { SameSeat seat.old seat.new }
+{
+    let call = freeze(alloc)?;
+    produced_at(desk, rt, alloc, seat, &call)
+}
+
+// The frozen production, as it is told at a seat.
+fn told_at<R: Wait>(
+    desk: &Desk<MemKeeper>,
+    rt: &R,
+    alloc: Global,
+    seat: &mut Seat<MemKeeper>,
+) -> Result<Production, Fail>
+    requires { IsSeatOf desk.now seat.old }
+    ensures { SameSeat seat.old seat.new }
+{
+    let call = get_production(alloc)?;
+    produced_at(desk, rt, alloc, seat, &call)
+}
+
 // Seat 1 freezes, and what it told seat 2 is not changed by a box that is put there.
 fn freeze_and_edit<R: Wait + Abort>(
     desk: &Desk<MemKeeper>,
@@ -41,12 +69,24 @@ fn freeze_and_edit<R: Wait + Abort>(
     requires { IsSeatOf desk.now one.old × IsSeatOf desk.now two.old }
     ensures { SameSeat one.old one.new × SameSeat two.old two.new }
 {
-    let frozen = produced_at(desk, rt, alloc, one, &freeze(alloc)?)?;
+    let frozen = frozen_at(desk, rt, alloc, one)?;
     pass_note(desk, alloc, one, two)?;
-    let put = make(desk, rt, alloc, two, &put_box(box_of(2)))?;
-    assert!(rt; matches!(put, Reply::Done));
-    let got = produced_at(desk, rt, alloc, two, &get_production(alloc)?)?;
-    assert!(rt; got == frozen);
+    edit_and_look(desk, rt, alloc, two, &frozen)
+}
+
+fn edit_and_look<R: Wait + Abort>(
+    desk: &Desk<MemKeeper>,
+    rt: &R,
+    alloc: Global,
+    seat: &mut Seat<MemKeeper>,
+    frozen: &Production,
+) -> Result<(), Fail>
+    requires { IsSeatOf desk.now seat.old }
+    ensures { SameSeat seat.old seat.new }
+{
+    do_call(desk, rt, alloc, seat, &put_box(box_of(2)))?;
+    let got = told_at(desk, rt, alloc, seat)?;
+    assert!(rt; got == *frozen);
     assert!(rt; has_box_1_alone(&got));
     Ok(())
 }

@@ -25,11 +25,23 @@ fn fill<R: Wait + Abort>(
     requires { IsSeatOf desk.now seat.old }
     ensures { SameSeat seat.old seat.new }
 {
-    let call = see_doc();
-    let _first = make(desk, rt, alloc, seat, &call)?;
-    let _second = make(desk, rt, alloc, seat, &call)?;
-    let third = make(desk, rt, alloc, seat, &call).err();
-    assert_eq!(rt; third, Some(DeskRefusal::JournalFull { count: 2 }));
+    see(desk, rt, alloc, seat)?;
+    see(desk, rt, alloc, seat)?;
+    let third = see(desk, rt, alloc, seat);
+    assert_eq!(rt; third, Err(DeskRefusal::JournalFull { count: 2 }));
+    Ok(())
+}
+
+fn see<R: Wait>(
+    desk: &Desk<MemKeeper>,
+    rt: &R,
+    alloc: Global,
+    seat: &mut Seat<MemKeeper>,
+) -> Result<(), DeskRefusal>
+    requires { IsSeatOf desk.now seat.old }
+    ensures { SameSeat seat.old seat.new }
+{
+    let _reply = make(desk, rt, alloc, seat, &see_doc())?;
     Ok(())
 }
 

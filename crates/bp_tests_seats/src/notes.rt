@@ -4,28 +4,35 @@ ghost use Rattle.bp_seats.specs.Seats.{IsSeatOf, SameSeat};
 
 use crate::calls::{box_of, put_box, see_doc};
 use crate::matters::called;
-use crate::stage::{close_pair, make, pass_note, start_pair};
+use crate::stage::{close_pair, do_call, make, pass_note, start_pair};
+use bp_desk::DeskRefusal;
 use bp_keep::MemKeeper;
-use bp_matter::{BoxList, Reply};
+use bp_matter::Reply;
 use bp_seats::{Desk, Seat};
 use std::alloc::Global;
 use std::process::Abort;
 use std::sync::Wait;
 use std::test::Fail;
 
-// The boxes of the document, as they are seen at a seat.
-fn boxes_at<R: Wait>(
+// The document is seen at a seat with box 1.
+fn look<R: Wait + Abort>(
     desk: &Desk<MemKeeper>,
     rt: &R,
     alloc: Global,
     seat: &mut Seat<MemKeeper>,
-) -> Result<BoxList, Fail>
+) -> Result<(), DeskRefusal>
     requires { IsSeatOf desk.now seat.old }
     ensures { SameSeat seat.old seat.new }
 {
-    match make(desk, rt, alloc, seat, &see_doc())? {
-        Reply::Doc(view) => Ok(view.boxes),
-        _ => Err(Fail::from("no document")),
+    let reply = make(desk, rt, alloc, seat, &see_doc())?;
+    assert!(rt; has_box_1(&reply));
+    Ok(())
+}
+
+fn has_box_1(reply: &Reply) -> bool {
+    match reply {
+        Reply::Doc(view) => view.boxes.as_slice() == [box_of(1)].as_slice(),
+        _ => false,
     }
 }
 
@@ -40,13 +47,10 @@ fn put_and_look<R: Wait + Abort>(
     requires { IsSeatOf desk.now one.old × IsSeatOf desk.now two.old }
     ensures { SameSeat one.old one.new × SameSeat two.old two.new }
 {
-    let put = make(desk, rt, alloc, one, &put_box(box_of(1)))?;
-    assert!(rt; matches!(put, Reply::Done));
+    do_call(desk, rt, alloc, one, &put_box(box_of(1)))?;
     pass_note(desk, alloc, one, two)?;
-    let at_two = boxes_at(desk, rt, alloc, two)?;
-    assert_eq!(rt; at_two.as_slice(), [box_of(1)].as_slice());
-    let at_one = boxes_at(desk, rt, alloc, one)?;
-    assert_eq!(rt; at_one.as_slice(), [box_of(1)].as_slice());
+    look(desk, rt, alloc, two)?;
+    look(desk, rt, alloc, one)?;
     Ok(())
 }
 

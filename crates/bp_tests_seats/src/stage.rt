@@ -11,6 +11,7 @@ use bp_matter::{Call, Reply};
 use bp_seats::{Desk, Seat, Started};
 use sha2::{Digest, Sha256};
 use std::alloc::{AllocError, Global};
+use std::process::Abort;
 use std::sync::Wait;
 use std::test::Fail;
 
@@ -63,6 +64,22 @@ pub fn make<R: Wait>(
     ensures { SameSeat seat.old seat.new }
 {
     desk.call(rt, alloc, seat, &Sha256::digest(KEY), call)
+}
+
+/// Makes a call of the lead, which tells that it was done.
+pub fn do_call<R: Wait + Abort>(
+    desk: &Desk<MemKeeper>,
+    rt: &R,
+    alloc: Global,
+    seat: &mut Seat<MemKeeper>,
+    call: &Call,
+) -> Result<(), DeskRefusal>
+    requires { IsSeatOf desk.now seat.old }
+    ensures { SameSeat seat.old seat.new }
+{
+    let reply = make(desk, rt, alloc, seat, call)?;
+    assert!(rt; matches!(reply, Reply::Done));
+    Ok(())
 }
 
 /// The second seat takes a note of the first in.

@@ -213,7 +213,7 @@ impl Office {
     fn make(&mut self, plan: Plan, turn: u32) -> Result<()> {
         let visit = visit_at(plan, turn)?;
         let call = self.call_of(visit)?;
-        self.ask(key_of(visit.act), &call)
+        self.ask(key_of(visit.act), call)
     }
 
     // How many rows that changes.
@@ -366,7 +366,7 @@ impl Office {
     // Asks for the first page of a document: its last byte.
     fn see_page(&mut self, doc: DocNo) -> Result<u64> {
         let page = PageNo(1);
-        let reply = self.reply(&REVIEWER, &Call::SeePage { doc, page })?;
+        let reply = self.reply(&REVIEWER, Call::SeePage { doc, page })?;
         image_byte(&reply)
     }
 

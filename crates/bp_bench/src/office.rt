@@ -119,7 +119,7 @@ impl Office {
     /// The lead takes in a member of the staff.
     pub fn add_staff(&mut self, name: &str, role: Role, digest: [u8; 32]) -> Result<()> {
         let name = self.text(name)?;
-        self.ask(&LEAD, &Call::AddStaff { name, role, digest })
+        self.ask(&LEAD, Call::AddStaff { name, role, digest })
     }
 
     // The reviewer calls a document Redact.
@@ -130,7 +130,7 @@ impl Office {
             treatment: Treatment::Redact,
             designation: self.text("CONFIDENTIAL")?,
         };
-        self.ask(&REVIEWER, &call)
+        self.ask(&REVIEWER, call)
     }
 
     // The reviewer puts a box on the first page of a document.
@@ -142,12 +142,12 @@ impl Office {
             rect,
             basis: Basis::Pi,
         };
-        self.ask(&REVIEWER, &call)
+        self.ask(&REVIEWER, call)
     }
 
     /// The second confirms the call of a document.
     pub fn confirm(&mut self, doc: DocNo) -> Result<()> {
-        self.ask(&SECOND, &Call::Confirm { doc })
+        self.ask(&SECOND, Call::Confirm { doc })
     }
 
     /// A request for the first documents, so many, with their authors.
@@ -173,17 +173,21 @@ impl Office {
     /// The lead freezes a request for the first documents, so many.
     pub fn freeze(&mut self, documents: u32) -> Result<()> {
         let request = self.request(documents)?;
-        self.ask(&LEAD, &Call::Freeze { request })
+        self.ask(&LEAD, Call::Freeze { request })
     }
 
     /// Makes a call, whose reply isn't looked at.
-    pub fn ask(&mut self, key: &[u8; 32], call: &Call) -> Result<()> {
+    pub fn ask(&mut self, key: &[u8; 32], call: Call) -> Result<()> {
         let _reply = self.reply(key, call)?;
         Ok(())
     }
 
-    /// Makes a call.
-    pub fn reply(&mut self, key: &[u8; 32], call: &Call) -> Result<Reply> {
+    /// Makes a call, which is let go.
+    pub fn reply(&mut self, key: &[u8; 32], call: Call) -> Result<Reply> {
+        self.reply_to(key, &call)
+    }
+
+    fn reply_to(&mut self, key: &[u8; 32], call: &Call) -> Result<Reply> {
         match step(self.alloc, &mut self.tables, &mut self.keeper, key, call) {
             Ok(reply) => Ok(reply),
             Err(refusal) => bail!("a call is refused: {refusal}"),

@@ -16,6 +16,8 @@ mod meeting_door;
 #[cfg(test)]
 mod notes;
 #[cfg(test)]
+mod replies;
+#[cfg(test)]
 mod stage;
 #[cfg(test)]
 mod waits;

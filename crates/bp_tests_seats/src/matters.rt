@@ -76,7 +76,7 @@ fn add_document(alloc: Global, rows: &mut Vec<Row>) -> Result<(), AllocError> {
 
 fn call_in(alloc: Global, keeper: &mut MemKeeper) -> Result<(), Fail> {
     let call = call_redact(alloc);
-    make(alloc, keeper, &Sha256::digest(KEY), &call)
+    make(alloc, keeper, &Sha256::digest(KEY), call)
 }
 
 /// The same, with one box, confirmed.
@@ -89,14 +89,12 @@ pub fn confirmed(alloc: Global) -> Result<MemKeeper, Fail> {
 
 fn add_second(alloc: Global, keeper: &mut MemKeeper) -> Result<(), Fail> {
     let call = second(alloc)?;
-    make(alloc, keeper, &Sha256::digest(KEY), &call)
+    make(alloc, keeper, &Sha256::digest(KEY), call)
 }
 
 fn confirm_in(alloc: Global, keeper: &mut MemKeeper) -> Result<(), Fail> {
-    let put = put_box(box_of(1));
-    make(alloc, keeper, &Sha256::digest(KEY), &put)?;
-    let confirm = Call::Confirm { doc: DocNo(1) };
-    make(alloc, keeper, &SECOND, &confirm)
+    make(alloc, keeper, &Sha256::digest(KEY), put_box(box_of(1)))?;
+    make(alloc, keeper, &SECOND, Call::Confirm { doc: DocNo(1) })
 }
 
 fn second(alloc: Global) -> Result<Call, AllocError> {
@@ -107,7 +105,17 @@ fn second(alloc: Global) -> Result<Call, AllocError> {
     })
 }
 
-fn make(alloc: Global, keeper: &mut MemKeeper, key: &[u8; 32], call: &Call) -> Result<(), Fail> {
+// The call, the tables and the reply are let go in one place each.
+fn make(alloc: Global, keeper: &mut MemKeeper, key: &[u8; 32], call: Call) -> Result<(), Fail> {
+    make_over(alloc, keeper, key, &call)
+}
+
+fn make_over(
+    alloc: Global,
+    keeper: &mut MemKeeper,
+    key: &[u8; 32],
+    call: &Call,
+) -> Result<(), Fail> {
     let mut tables = load_tables(alloc, keeper)?;
     step_in(alloc, &mut tables, keeper, key, call)
 }

@@ -4,37 +4,14 @@ ghost use Rattle.bp_seats.specs.Seats.{IsSeatOf, SameSeat};
 
 use crate::calls::{box_of, put_box, see_doc};
 use crate::matters::called;
-use crate::stage::{close_pair, do_call, make, pass_note, start_pair};
-use bp_desk::DeskRefusal;
+use crate::replies::make;
+use crate::stage::{close_pair, pass_note, start_pair};
 use bp_keep::MemKeeper;
-use bp_matter::Reply;
 use bp_seats::{Desk, Seat};
 use std::alloc::Global;
 use std::process::Abort;
 use std::sync::Wait;
 use std::test::Fail;
-
-// The document is seen at a seat with box 1.
-fn look<R: Wait + Abort>(
-    desk: &Desk<MemKeeper>,
-    rt: &R,
-    alloc: Global,
-    seat: &mut Seat<MemKeeper>,
-) -> Result<(), DeskRefusal>
-    requires { IsSeatOf desk.now seat.old }
-    ensures { SameSeat seat.old seat.new }
-{
-    let reply = make(desk, rt, alloc, seat, &see_doc())?;
-    assert!(rt; has_box_1(&reply));
-    Ok(())
-}
-
-fn has_box_1(reply: &Reply) -> bool {
-    match reply {
-        Reply::Doc(view) => view.boxes.as_slice() == [box_of(1)].as_slice(),
-        _ => false,
-    }
-}
 
 // A box that is put at seat 1 is seen at both.
 fn put_and_look<R: Wait + Abort>(
@@ -47,10 +24,13 @@ fn put_and_look<R: Wait + Abort>(
     requires { IsSeatOf desk.now one.old × IsSeatOf desk.now two.old }
     ensures { SameSeat one.old one.new × SameSeat two.old two.new }
 {
-    do_call(desk, rt, alloc, one, &put_box(box_of(1)))?;
+    let put = make(desk, rt, alloc, one, put_box(box_of(1)))?;
+    assert!(rt; put.is_done);
     pass_note(desk, alloc, one, two)?;
-    look(desk, rt, alloc, two)?;
-    look(desk, rt, alloc, one)?;
+    let at_two = make(desk, rt, alloc, two, see_doc())?;
+    assert!(rt; at_two.has_box_1);
+    let at_one = make(desk, rt, alloc, one, see_doc())?;
+    assert!(rt; at_one.has_box_1);
     Ok(())
 }
 

@@ -11,7 +11,7 @@ use std::test::Fail;
 use std::thread::Threads;
 
 // How long a commit goes on once the other door is read: its seat asks for the turn, and waits.
-const LINGERS: u64 = 50_000_000;
+const LINGERS: u64 = 2_000_000;
 
 // A keeper whose commits come to a meeting and then take their time, while their seat has the turn.
 #[derive(Drop)]

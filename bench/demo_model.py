@@ -5,7 +5,7 @@
     demo_model.py SEED PAGES manifest   the manifest of its volume
     demo_model.py SEED PAGES FOLDER     its volume, written below a folder
     demo_model.py ten                   ten seeds, each with a number of pages and the line that is due
-    demo_model.py days                  the lines of crates/bp_days/data/demo.txt
+    demo_model.py days                  the lines of crates/bp_test_days/data/demo.txt
 """
 import hashlib
 import os
@@ -157,7 +157,7 @@ def line_of(files):
     return f"production DEMO labels {label(1)} to {label(images)} files {len(files)} manifest {digest}"
 
 
-# ---- lines of bp_days
+# ---- lines of bp_test_days
 
 
 def escaped(text):

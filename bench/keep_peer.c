@@ -1,4 +1,4 @@
-/* The peer of `bp_timing keeper|statements` on sqlite3's own library: the same table and texts, each prepared once, over a
+/* The peer of `bp_bench_rows keeper|statements` on sqlite3's own library: the same table and texts, each prepared once, over a
  * file with a log (WAL) and full syncs, whose log is copied into it by `close` alone. Words:
  *
  *     keep_peer open FILE TIMES

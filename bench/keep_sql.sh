@@ -1,5 +1,5 @@
 #!/bin/sh
-# The keeper over a database (`SqlKeeper`), by the program bp_timing, beside the same statements through the kit's sqlite alone,
+# The keeper over a database (`SqlKeeper`), by the program bp_bench_rows, beside the same statements through the kit's sqlite alone,
 # and beside sqlite3's own library (keep_peer.c), all with a log beside the file and full syncs, in one folder of one disk:
 #   commits      of one put, of a hundred, of 20,000, each of 40 bytes; of the rows of an import of 450 letter pages
 #   loading      20,000 rows with strips of 20 KB, and the most memory that it takes
@@ -18,7 +18,7 @@ scratch=$(mktemp -d ${2:+-p "$2"})
 room=$scratch/room
 file=$room/matter.db
 
-build_crate bp_timing code_page "$letter" 1
+build_crate bp_bench_rows code_page "$letter" 1
 timing=$built
 need_header sqlite3.h libsqlite3-dev
 cc -O2 -o "$scratch/keep_peer" "$here/keep_peer.c" -lsqlite3

@@ -1,5 +1,5 @@
 #!/bin/sh
-# Strips of T.6 a row at a time beside whole pages, by the program bp_timing on the pages of pages.sh:
+# Strips of T.6 a row at a time beside whole pages, by the program bp_bench_rows on the pages of pages.sh:
 #   reading      `next_runs` of StripRows for each row (strip_rows) beside `read_strip`
 #   writing      `add` of StripWriter for each row, then `finish`, with the runs of all rows there already (strip_writer) and with
 #                those of each row made in turn (page_rows), beside `code_page`, which finds the changes of each row
@@ -19,7 +19,7 @@ rounds=${1:-7}
 [ $# -gt 0 ] || set -- letter form white halftone dithered random
 make_scratch
 
-build_crate bp_timing code_page "$letter" 1
+build_crate bp_bench_rows code_page "$letter" 1
 timing=$built
 cc -O2 -shared -fPIC -o "$scratch/heap_peak.so" "$here/heap_peak.c"
 pages=${PAGES:-$scratch/pages}

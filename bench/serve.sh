@@ -1,6 +1,6 @@
 #!/bin/sh
 # One desk over HTTP, at the port of desk 1 of this machine, by a client of one connection a request (serve_client.c):
-#   SetCall   on a matter of 10,000 documents kept in memory, by bp_serving_time: exchanges a second, beside a bare loop in C that
+#   SetCall   on a matter of 10,000 documents kept in memory, by bp_bench_desk: exchanges a second, beside a bare loop in C that
 #             accepts, reads a request and writes the same reply (serve_bare.c), and beside the same calls of the book without HTTP
 #   a page    of 2,550 by 3,300 pixels (examples/letter.tif), beside a bare loop that writes the same reply
 #   database  SetCall by the program, `tivrenan serve 1 N`, over matter.db with the example batch, beside the commits alone by
@@ -18,7 +18,7 @@ rounds=${1:-5} count=${2:-9999} pages=${3:-100} commits=${4:-200}
 docs=10000
 scratch=$(mktemp -d ${5:+-p "$5"})
 
-build_crate bp_serving_time read "$top/crates/bp_serving_time/data/request" 1
+build_crate bp_bench_desk read "$top/crates/bp_bench_desk/data/request" 1
 timing=$built
 build
 need_header sqlite3.h libsqlite3-dev

@@ -1,5 +1,5 @@
 #!/bin/sh
-# One desk beside sixteen, at the ports 48201 to 48216 of this machine, over a matter kept in memory, by bp_serving_time; each desk
+# One desk beside sixteen, at the ports 48201 to 48216 of this machine, over a matter kept in memory, by bp_bench_desk; each desk
 # has one client of one connection a request (serve_client.c), and all clients ask at once:
 #   SetCall   on a matter of 10,000 documents
 #   the usual mix on it: a document is seen, then its words, it is called, a box put, a field held and the entry written
@@ -16,7 +16,7 @@ rounds=${1:-5} count=${2:-16000} pages=${3:-320}
 docs=10000
 make_scratch
 
-build_crate bp_serving_time read "$top/crates/bp_serving_time/data/request" 1
+build_crate bp_bench_desk read "$top/crates/bp_bench_desk/data/request" 1
 timing=$built
 cc -O2 -o "$scratch/serve_client" "$here/serve_client.c"
 

@@ -1,4 +1,4 @@
-# Sourced by serve.sh and serve_desks.sh: the requests that clients make at a desk of bp_serving_time.
+# Sourced by serve.sh and serve_desks.sh: the requests that clients make at a desk of bp_bench_desk.
 # shellcheck shell=sh disable=SC2034,SC2154 # names of this file are for those who source it, and `port` is common.sh's
 
 key='the key of Ellis'

@@ -1,5 +1,5 @@
 #!/bin/sh
-# Requests and replies as bytes (bp_web), by the program bp_serving_time, beside what the libraries alone take on the same bytes:
+# Requests and replies as bytes (bp_web), by the program bp_bench_desk, beside what the libraries alone take on the same bytes:
 #   requests  a usual SetCall, and two with a body of 1,048,576 bytes, in one long member that is passed over, and in many short
 #             ones: `read_request_by` with a table of routes that is there, beside httparse, matchit, sha2 and serde_json; and
 #             `read_request`, which makes the table for each request
@@ -14,11 +14,11 @@
 set -eu
 here=$(CDPATH='' cd -- "$(dirname -- "$0")" && pwd)
 . "$here/../trials/common.sh"
-usual=$top/crates/bp_serving_time/data/request
+usual=$top/crates/bp_bench_desk/data/request
 rounds=${1:-5} percent=${2:-100}
 make_scratch
 
-build_crate bp_serving_time read "$usual" 1
+build_crate bp_bench_desk read "$usual" 1
 timing=$built
 
 python3 - "$usual" "$scratch" << 'END'

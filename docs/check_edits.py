@@ -7,8 +7,9 @@ import sys
 
 TOP = pathlib.Path(__file__).resolve().parent.parent
 FEWEST = 5
-# libraries that need fewer: laws, whose calls have no body that does something, and what tests alone use
-APART = {"bp_frozen", "bp_own_volumes", "bp_day", "bp_script"}
+# libraries that need fewer: laws, whose calls have no body that does something
+LAWS = {"bp_frozen", "bp_own_volumes"}
+NOT_PRODUCT = ("bp_test_", "bp_bench")
 
 
 def steps(edit):
@@ -42,7 +43,7 @@ def fault(crate, edit):
 
 def is_counted(crate):
     """Whether it is a library with code of its own."""
-    return (crate / "src" / "lib.rt").is_file() and not crate.name.startswith("bp_tests_") and crate.name not in APART
+    return (crate / "src" / "lib.rt").is_file() and not crate.name.startswith(NOT_PRODUCT) and crate.name not in LAWS
 
 
 def main():

@@ -131,7 +131,7 @@ BOTH = {
     ("bp_receiver/src/wants.rt", "receive"): [],
 }
 
-NOT_PRODUCT = re.compile(r"^(bp_tests|bp_bench|bp_timing|bp_serving_time|bp_script|bp_day|bp_lines|bp_web_lines|bp_check_lines)")
+NOT_PRODUCT = re.compile(r"^bp_(test_|bench)")
 ANSWER = r"(?:OutOfMemory|AllocError|AllocFailed|\w*Refusal)"
 # another name for the answer, or for what has it
 RENAMES = re.compile(r"\b" + ANSWER + r"\s+as\s+\w+|\btype\s+\w+\s*=\s*(?:\w+::)*" + ANSWER + r"\s*;")

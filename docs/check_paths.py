@@ -14,7 +14,7 @@ QUOTED = re.compile(r"`([^`\s]+)`")
 LINK = re.compile(r"\]\(([^)#\s]+)")
 STANDS_FOR_OTHERS = re.compile(r"[*<>{}$]|\.\.|(?:^|/)[A-Z]{3,}(?:/|$)|NAME|CRATE")
 # made by what runs, or on a machine that has it installed
-MADE = ("examples/out", "trials/out", "desk_page/tests/out", "dist/", "out/", "bin/", "lib/", "share/", "crates/bp_main/out", "crates/bp_lines/out")
+MADE = ("examples/out", "trials/out", "desk_page/tests/out", "dist/", "out/", "bin/", "lib/", "share/", "crates/bp_main/out", "crates/bp_test_codecs/out")
 
 
 def tracked():

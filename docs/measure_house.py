@@ -8,7 +8,7 @@ import re
 import sys
 
 TOP = pathlib.Path(__file__).resolve().parent.parent
-NOT_PRODUCT = re.compile(r"bp_(?:tests?_|bench|timing|serving_time|script|days?$|lines|web_lines|check_lines)")
+NOT_PRODUCT = re.compile(r"bp_(?:test_|bench)")
 DEFINED = re.compile(r"^(?:abbrev |unfoldable )?pub (?:record |data )?([^\s(:]+)")
 RUN = 6
 

@@ -1,5 +1,5 @@
 #!/bin/sh
-# Real peers at a real port: the job `door` of bp_timing takes them one after the other at the door of desk 1, and this script
+# Real peers at a real port: the job `door` of bp_bench_rows takes them one after the other at the door of desk 1, and this script
 # looks at what each gets back.
 #   curl              a request without a body, and one with a body that ends in an empty line
 #   byte by byte      a raw socket that sends a request a byte at a time
@@ -18,16 +18,16 @@ set -eu
 here=$(CDPATH='' cd -- "$(dirname -- "$0")" && pwd)
 . "$here/common.sh"
 need 'curl, python3' curl python3
-timing=$top/crates/bp_timing/out/bp_timing
+timing=$top/crates/bp_bench_rows/out/bp_bench_rows
 url=http://127.0.0.1:$port/
 make_scratch
 
 if [ ! -x "$timing" ] || [ -n "$(find "$top/crates" -name '*.rt' -newer "$timing")" ]; then
     if [ "${1-}" = built ]; then
-        echo "doors.sh: real peers at a door NOT TRIED: bp_timing isn't built from the sources as they stand"
+        echo "doors.sh: real peers at a door NOT TRIED: bp_bench_rows isn't built from the sources as they stand"
         exit 0
     fi
-    build_crate bp_timing code_page "$letter" 1
+    build_crate bp_bench_rows code_page "$letter" 1
 fi
 failed=0
 

@@ -5,9 +5,9 @@ Ends with status 1 where one does. The same words give the same cases.
 
 Where PROGRAM is - the lines of these are written into files of a hundred below KEEP, for fuzz_try.sh, and nothing runs.
 Jobs over the programs that read lines, COUNT lines each, of `volumes` COUNT checks:
-    tiff strips pages loads words names     by bp_lines
-    requests                                by bp_web_lines
-    volumes                                 by bp_check_lines: right volumes, each changed in one place at a time
+    tiff strips pages loads words names     by bp_test_codecs
+    requests                                by bp_test_requests
+    volumes                                 by bp_test_volumes: right volumes, each changed in one place at a time
 Jobs over the program, COUNT command lines or requests each:
     burn     page files, boxes and paths
     check    volumes as those of `volumes`, also with folders in place of files and files at the limit

@@ -28,16 +28,16 @@ while [ "$seed" -le "$last" ]; do
         go python3 -c "$own_network" "$top/tools/tests" python3 "$here/fuzz.py" day "$program" $((2000 * part / 100)) "$seed" "$keep"
         go python3 "$here/fuzz_desks.py" "$program" $((4000 * part / 100)) "$seed" "$keep"
     fi
-    if has bp_lines "$seed"; then
+    if has bp_test_codecs "$seed"; then
         for job in tiff:40000 strips:40000 pages:5000 loads:40000 words:40000 names:20000; do
-            go python3 "$here/fuzz.py" "${job%:*}" "$crates/bp_lines/out/bp_lines" $((${job#*:} * part / 100)) "$seed" "$keep"
+            go python3 "$here/fuzz.py" "${job%:*}" "$crates/bp_test_codecs/out/bp_test_codecs" $((${job#*:} * part / 100)) "$seed" "$keep"
         done
     fi
-    if has bp_web_lines "$seed"; then
-        go python3 "$here/fuzz.py" requests "$crates/bp_web_lines/out/bp_web_lines" $((40000 * part / 100)) "$seed" "$keep"
+    if has bp_test_requests "$seed"; then
+        go python3 "$here/fuzz.py" requests "$crates/bp_test_requests/out/bp_test_requests" $((40000 * part / 100)) "$seed" "$keep"
     fi
-    if has bp_check_lines "$seed"; then
-        go python3 "$here/fuzz.py" volumes "$crates/bp_check_lines/out/bp_check_lines" $((5000 * part / 100)) "$seed" "$keep"
+    if has bp_test_volumes "$seed"; then
+        go python3 "$here/fuzz.py" volumes "$crates/bp_test_volumes/out/bp_test_volumes" $((5000 * part / 100)) "$seed" "$keep"
     fi
     seed=$((seed + 1))
 done

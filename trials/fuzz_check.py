@@ -1,5 +1,5 @@
 """Volumes of few pages, right ones in many shapes, and changes of one cell, byte, line or file: cases of a check, whose model is
-check_model.py, as lines of bp_check_lines and as folders for the program."""
+check_model.py, as lines of bp_test_volumes and as folders for the program."""
 import copy
 import functools
 import hashlib

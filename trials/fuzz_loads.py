@@ -1,5 +1,5 @@
 """A plain model of load files, words files, paths and labels (docs/FORMATS.md: bp_load, bp_text, bp_tiff, bp_bates), whose
-readers of load files and paths stand in tools/volumes/profile.py, and random cases of them as lines of bp_lines."""
+readers of load files and paths stand in tools/volumes/profile.py, and random cases of them as lines of bp_test_codecs."""
 import re
 
 from fuzz_tools import Rule, answer, damaged, said, told_text
@@ -176,7 +176,7 @@ def some_words_file(draw, images=("P1", "P2", "", "a,b", 'q"q', "l\nl"), width=4
     return out.removesuffix(draw.choice((b"", b"", b"\n")))
 
 
-# ---- lines of bp_lines
+# ---- lines of bp_test_codecs
 
 
 def dat_told(data):

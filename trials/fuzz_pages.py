@@ -348,7 +348,7 @@ def some_file(draw):
     return damaged(draw, data) if kind < 0.30 or kind > 0.85 else data
 
 
-# ---- lines of bp_lines
+# ---- lines of bp_test_codecs
 
 
 def tiff_lines(draw):

@@ -14,7 +14,7 @@ def answer(make, *words):
         return rule.told()
 
 
-# ---- lines of bp_lines
+# ---- lines of bp_test_codecs
 
 PLAIN = set(b"ABCDEFGHIJKLMNOPQRSTUVWXYZabcdefghijklmnopqrstuvwxyz0123456789,.:/\\\"'|+*#!?;()[]{}<>@&~^$")
 

@@ -4,22 +4,22 @@
 # sum or a cast that is out of range. Prints for each program how many files of some hundred lines ended, and ends with 1 where one didn't, or
 # where a line was told otherwise.
 # Words: a new folder for the lines; how many of each job, 1000 where there is none; the seed, 1 where there is none; the programs, all three
-# where none is named: bp_lines bp_web_lines bp_check_lines. Needs rt; to compile one takes a minute on a quiet machine.
+# where none is named: bp_test_codecs bp_test_requests bp_test_volumes. Needs rt; to compile one takes a minute on a quiet machine.
 set -eu
 here=$(CDPATH='' cd -- "$(dirname -- "$0")" && pwd)
 . "$here/common.sh"
 [ $# -gt 0 ] || stop "usage: fuzz_try.sh FOLDER [COUNT] [SEED] [PROGRAM ..]"
 folder=$1 count=${2:-1000} seed=${3:-1}
 shift; [ $# = 0 ] || shift; [ $# = 0 ] || shift
-[ $# != 0 ] || set -- bp_lines bp_web_lines bp_check_lines
+[ $# != 0 ] || set -- bp_test_codecs bp_test_requests bp_test_volumes
 mkdir "$folder"
 folder=$(cd "$folder" && pwd)
 failed=0
 for program in "$@"; do
     case $program in
-        bp_lines) jobs="tiff strips pages loads words names" ;;
-        bp_web_lines) jobs=requests ;;
-        bp_check_lines) jobs=volumes ;;
+        bp_test_codecs) jobs="tiff strips pages loads words names" ;;
+        bp_test_requests) jobs=requests ;;
+        bp_test_volumes) jobs=volumes ;;
         *) stop "no program of lines is named $program" ;;
     esac
     lines=$folder/$program

@@ -152,7 +152,7 @@ def to_be_imported(folder):
     batches.write_folder(folder, {"notice.csv": b'1,AC,2019-01-07,Ng,"Ortiz, Berg",Letter to counsel\n'})
 
 
-# ---- lines for bp_lines
+# ---- lines for bp_test_codecs
 
 
 def with_load_lines(folder):
@@ -248,7 +248,7 @@ def asked_at_two_desks():
 
 # ---- cases
 
-# requests: what a desk is asked; steps: the commands of a day, each a case of its own; is_lines: files for bp_lines
+# requests: what a desk is asked; steps: the commands of a day, each a case of its own; is_lines: files for bp_test_codecs
 Case = collections.namedtuple("Case", "name prepare words requests steps is_lines", defaults=(None, None, False))
 
 PRODUCE = ["produce", "R-1", "V1", "AB-", "4", "1", "4", "AUTHOR", "NOTE"]

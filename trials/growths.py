@@ -13,7 +13,7 @@ KEEP has what was tried, so that the same words go on where they were left, also
 ended otherwise, with its folder. First comes one N for each place of the program that growths come from; then all others, in an order that
 is spread evenly at each moment. At the end, or after SECONDS, a table is printed. Names of cases run these alone; `list list` tells them.
 The case `day` is the commands of a day over one folder: behind the one of which a growth was refused it is given again, and the others follow.
-The cases `lines_..` are bp_lines over files of lines; it is looked for beside PROGRAM, in crates/bp_lines/out, and where LINES says.
+The cases `lines_..` are bp_test_codecs over files of lines; it is looked for beside PROGRAM, in crates/bp_test_codecs/out, and where LINES says.
 
 A name that ends in +lasting has each growth from the Nth on refused, as where memory stays full (not of a desk or a day); one that ends in
 +libc has also those refused that the C library makes for itself: the system then fails in other ways, so that also the answers 3, 4, 5 and 7
@@ -516,15 +516,15 @@ def left_by(before, prepare):
 
 
 class Lines(Trial):
-    """The runs of bp_lines over files of lines. Where memory runs out a line is told so, and what follows it in its file may be told
-    otherwise as well; where it runs out for the words of a line, which bp_script reads, that is told as not read; or the program ends with 1,
+    """The runs of bp_test_codecs over files of lines. Where memory runs out a line is told so, and what follows it in its file may be told
+    otherwise as well; where it runs out for the words of a line, which bp_test_words reads, that is told as not read; or the program ends with 1,
     and says on standard error why."""
 
     def __init__(self, program, library, case, mode, room):
-        beside = [os.path.join(os.path.dirname(program), "bp_lines"), os.path.join(HERE, "..", "crates", "bp_lines", "out", "bp_lines")]
+        beside = [os.path.join(os.path.dirname(program), "bp_test_codecs"), os.path.join(HERE, "..", "crates", "bp_test_codecs", "out", "bp_test_codecs")]
         found = [place for place in (os.environ.get("LINES"), *beside) if place and os.path.exists(place)]
         if not found:
-            raise Otherwise("there is no bp_lines beside the program")
+            raise Otherwise("there is no bp_test_codecs beside the program")
         super().__init__(os.path.abspath(found[0]), library, case, mode, room)
         self.words = sorted(os.listdir(self.template), key=lambda name: int(name.split(".")[0]))
         self.case = case._replace(words=self.words)
@@ -533,7 +533,7 @@ class Lines(Trial):
     def begin(self):
         count = super().begin()
         if self.right.status != 0 or not self.right.out.endswith(b" lines, 0 of them told otherwise\n"):
-            raise Otherwise(f"bp_lines tells {self.right.out!r}")
+            raise Otherwise(f"bp_test_codecs tells {self.right.out!r}")
         return count
 
     def is_right(self, at):
@@ -553,13 +553,13 @@ class Lines(Trial):
                 lacking.add(name)
                 others += 1
             elif line and line != self.right.out.decode().replace(" 0 of", f" {others} of").rstrip("\n") and k + 1 < len(lines):
-                raise Otherwise(f"bp_lines tells {line!r}, status {told.status}")
+                raise Otherwise(f"bp_test_codecs tells {line!r}, status {told.status}")
         self.errors.seek(0)
         why = self.errors.read()
         if told.status != 0 and (told.status != 1 or b"memory" not in why and b"no page is made" not in why):
-            raise Otherwise(f"bp_lines ends with {told.status}, {why!r}")
+            raise Otherwise(f"bp_test_codecs ends with {told.status}, {why!r}")
         if told.status == 0 and not lacking:
-            raise Otherwise(f"bp_lines tells {told.out!r}")
+            raise Otherwise(f"bp_test_codecs tells {told.out!r}")
         return verdict if told.status == 0 else "1"
 
     def again(self):

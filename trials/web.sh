@@ -1,12 +1,12 @@
 #!/bin/sh
 # Random requests: web_model.py makes lines of requests, usual ones and damaged ones, with what its plain model says is
-# due, and the program bp_web_lines reads them. Prints how many were tried and which are told otherwise; ends with status 1
+# due, and the program bp_test_requests reads them. Prints how many were tried and which are told otherwise; ends with status 1
 # where one is. Words: how many, 100,000 where none is given, and a seed. Needs rt on PATH, and python3.
 set -eu
 here=$(CDPATH='' cd -- "$(dirname -- "$0")" && pwd)
 . "$here/common.sh"
 make_scratch
-build_crate bp_web_lines
+build_crate bp_test_requests
 python3 "$here/web_model.py" make "${1:-100000}" "${2:-1}" > "$scratch/requests.txt"
 cd "$scratch"
 "$built" requests.txt | tee "$scratch/told"

@@ -1,6 +1,6 @@
 #!/usr/bin/env python3
 """A plain model of how requests are read and replies are written (docs/FORMATS.md, bp_web), apart
-from the proved crates. It knows nothing of them but the form of the lines that bp_web_lines reads.
+from the proved crates. It knows nothing of them but the form of the lines that bp_test_requests reads.
 
     web_model.py check FILE..     compares what each line says is to be told with the model
     web_model.py make COUNT SEED  writes COUNT lines of requests, usual and damaged, with what is due

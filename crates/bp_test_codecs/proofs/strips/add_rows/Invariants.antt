@@ -1,0 +1,6 @@
+use Rattle.std.proofs.Common.{◌≡◌}
+use Rattle.bp_test_codecs.proofs.strips.add_rows.Given as goal
+
+-- the rows that are added are as wide as the page
+abbrev pub invariant-loop-row : goal.invariant-loop-row
+invariant-loop-row l = l.writer.width ≡ l.page.width

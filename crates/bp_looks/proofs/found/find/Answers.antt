@@ -1,4 +1,4 @@
-use Rattle.std.proofs.Common.{◌≡◌, length, sym, ap, ◌∙◌, arith, rules, true}
+use Rattle.std.proofs.Common.{◌≡◌, length, sym, ap, ◌∙◌, arith, true}
 use Rattle.std.proofs.lemmas.List.{length-map}
 use Rattle.bp_looks.specs.Hits.{term_of}
 use Rattle.bp_looks.specs.Terms.{are_terms}

@@ -1,4 +1,4 @@
-use Rattle.std.proofs.Common.{◌≡◌, ◌<◌, ◌+◌, List, ◌++◌, Option, Some, length, drop, sym, ap, ◌∙◌, arith, rules, [], get_or}
+use Rattle.std.proofs.Common.{◌≡◌, ◌<◌, ◌+◌, List, ◌++◌, Option, Some, length, drop, sym, ap, ◌∙◌, arith, [], get_or}
 use Rattle.std.specs.Option.{option_copied}
 use Rattle.std.proofs.lemmas.List.{drop_all, drop_more}
 use Rattle.bp_matter.specs.LookUps.{doc_with}

@@ -1,5 +1,5 @@
 use Rattle.bp_receiver.specs.declared.ready.ReadyFile.{ReadyFile}
-use Rattle.bp_receiver.proofs.ReadyFileLemmas.{kept-more, kept-none, ready-added}
+use Rattle.bp_receiver.proofs.ReadyFileLemmas.{kept-more, ready-added}
 use Rattle.bp_receiver.proofs.ready.keep_ready.Goals as goal
 
 pub returns-clause-ready : goal.returns-clause-ready
@@ -10,10 +10,6 @@ returns-clause-ready c m given are =
     c.is_of_one_item.result c.add_ready.result c.add_ready.ensures.added
     c.add_ready.ensures.refused c.is_of_one_item.ensures c.if-is_of_one_item.false c.requires
     given are
-
-pub returns-then-clause-kept : goal.returns-then-clause-kept
-returns-then-clause-kept c =
-    kept-none _ _ c.is_of_one_item.result c.is_of_one_item.ensures c.if-is_of_one_item.true
 
 pub returns-clause-kept : goal.returns-clause-kept
 returns-clause-kept c =

@@ -115,7 +115,10 @@ fn run_in(alloc: Global, order: Order, operands: &[String]) -> Result<u64> {
     let count = count.parse::<u32>()?;
     let plan = plan_of(order, docs.as_str(), boxes.as_str(), mix.as_str())?;
     let mut office = office_of(alloc, plan)?;
-    office.make_all(plan, count)
+    for turn in 0..count {
+        office.make(plan, turn)?;
+    }
+    Ok(rows_of(&office.tables))
 }
 
 /// The number of rows that the calls change.
@@ -126,7 +129,12 @@ pub fn rows(alloc: Global, operands: &[String]) -> Result<u64> {
     let count = count.parse::<u32>()?;
     let plan = plan_of(Order::Desks, docs.as_str(), boxes.as_str(), mix.as_str())?;
     let mut office = office_of(alloc, plan)?;
-    office.count_puts(plan, count)
+    let mut sum = 0u64;
+    for turn in 0..count {
+        sum = sum.wrapping_add(office.puts(plan, turn)?);
+        office.make(plan, turn)?;
+    }
+    Ok(sum)
 }
 
 fn plan_of(order: Order, docs: &str, boxes: &str, mix: &str) -> Result<Plan> {
@@ -191,29 +199,11 @@ fn key_of(act: Act) -> &'static [u8; 32] {
 }
 
 impl Office {
-    // Does what a plan does in so many turns; the number of rows that stand then.
-    fn make_all(&mut self, plan: Plan, turns: u32) -> Result<u64> {
-        for turn in 0..turns {
-            self.make(plan, turn)?;
-        }
-        Ok(rows_of(&self.tables))
-    }
-
-    // Does the same; how many rows that changes.
-    fn count_puts(&mut self, plan: Plan, turns: u32) -> Result<u64> {
-        let mut sum = 0u64;
-        for turn in 0..turns {
-            sum = sum.wrapping_add(self.puts(plan, turn)?);
-            self.make(plan, turn)?;
-        }
-        Ok(sum)
-    }
-
     // Does what a plan does in a turn.
     fn make(&mut self, plan: Plan, turn: u32) -> Result<()> {
         let visit = visit_at(plan, turn)?;
         let call = self.call_of(visit)?;
-        self.ask(key_of(visit.act), call)
+        self.ask(key_of(visit.act), &call)
     }
 
     // How many rows that changes.
@@ -272,21 +262,18 @@ impl Office {
 
     // Another description each time.
     fn put_entry(&self, doc: DocNo, time: u32) -> Result<Call> {
+        let description = if time % 2 == 0 {
+            "A letter that tells an illness"
+        } else {
+            "A letter that tells an address"
+        };
         Ok(Call::PutEntry {
             doc,
             date: self.text("2019-03-04")?,
             author: self.text("Ng")?,
             recipients: self.text("Ortiz, Berg")?,
-            description: self.text(description_at(time))?,
+            description: self.text(description)?,
         })
-    }
-}
-
-fn description_at(time: u32) -> &'static str {
-    if time % 2 == 0 {
-        "A letter that tells an illness"
-    } else {
-        "A letter that tells an address"
     }
 }
 
@@ -328,7 +315,12 @@ pub fn see<R: Files + Alloc>(rt: &R, alloc: Global, operands: &[String]) -> Resu
     let docs = docs.parse::<u32>()?;
     let count = count.parse::<u32>()?;
     let mut office = pages_of(rt, alloc, file.as_str(), docs)?;
-    office.see_pages(docs, count)
+    let mut sum = 0u64;
+    for turn in 0..count {
+        let doc = DocNo(turn % docs.max(1) + 1);
+        sum = sum.wrapping_add(office.see_page(doc)?);
+    }
+    Ok(sum)
 }
 
 /// The sum of a byte of each copy.
@@ -339,34 +331,19 @@ pub fn copies<R: Files + Alloc>(rt: &R, alloc: Global, operands: &[String]) -> R
     let docs = docs.parse::<u32>()?;
     let count = count.parse::<u32>()?;
     let office = pages_of(rt, alloc, file.as_str(), docs)?;
-    office.copy_pages(docs, count)
+    let mut sum = 0u64;
+    for turn in 0..count {
+        let place = (turn % docs.max(1)) as usize;
+        sum = sum.wrapping_add(office.copy_page(place)?);
+    }
+    Ok(sum)
 }
 
 impl Office {
-    // Asks for so many pages of the first documents in turn.
-    fn see_pages(&mut self, docs: u32, count: u32) -> Result<u64> {
-        let mut sum = 0u64;
-        for turn in 0..count {
-            let doc = DocNo(turn % docs.max(1) + 1);
-            sum = sum.wrapping_add(self.see_page(doc)?);
-        }
-        Ok(sum)
-    }
-
-    // Reads as many from their strips.
-    fn copy_pages(&self, docs: u32, count: u32) -> Result<u64> {
-        let mut sum = 0u64;
-        for turn in 0..count {
-            let place = (turn % docs.max(1)) as usize;
-            sum = sum.wrapping_add(self.copy_page(place)?);
-        }
-        Ok(sum)
-    }
-
     // Asks for the first page of a document: its last byte.
     fn see_page(&mut self, doc: DocNo) -> Result<u64> {
         let page = PageNo(1);
-        let reply = self.reply(&REVIEWER, Call::SeePage { doc, page })?;
+        let reply = self.reply(&REVIEWER, &Call::SeePage { doc, page })?;
         image_byte(&reply)
     }
 

@@ -21,22 +21,18 @@ pub fn run(alloc: Global, operands: &[String]) -> Result<u64> {
     };
     let times = times.parse::<u32>()?;
     let bytes = written(alloc, &table)?;
-    read_times(&table, bytes.as_slice(), how.as_str(), times)
-}
-
-fn read_times(table: &CodeTable<104>, bytes: &[u8], how: &str, times: u32) -> Result<u64> {
     if bytes.len() >= 1 << 32 {
         bail!("the span is too long");
     }
     let span = BitSpan {
-        bytes,
+        bytes: bytes.as_slice(),
         fill: Fill::High,
     };
     let mut sum = 0u64;
     for _ in 0..times {
-        let rows = match how {
-            "index" => read_by_index(table, &span),
-            "scan" => read_by_scan(table, &span),
+        let rows = match how.as_str() {
+            "index" => read_by_index(&table, &span),
+            "scan" => read_by_scan(&table, &span),
             other => bail!("no way {other}"),
         };
         sum = sum.wrapping_add(rows);

@@ -12,18 +12,14 @@ pub fn run(alloc: Global, operands: &[String]) -> Result<u64> {
     let [rows, times] = operands else {
         bail!("dat ROWS TIMES");
     };
-    let (rows, times) = (rows.parse::<u32>()?, times.parse::<u32>()?);
-    let bytes = written(alloc, rows)?;
-    read_times(alloc, bytes.as_slice(), times)
-}
-
-fn read_times(alloc: Global, bytes: &[u8], times: u32) -> Result<u64> {
+    let bytes = written(alloc, rows.parse::<u32>()?)?;
+    let times = times.parse::<u32>()?;
     if bytes.len() >= 1 << 32 {
         bail!("the file is too long");
     }
     let mut sum = 0;
     for turn in 0..times {
-        let Ok(dat) = read_dat(alloc, bytes) else {
+        let Ok(dat) = read_dat(alloc, bytes.as_slice()) else {
             bail!("the file isn't read");
         };
         if turn == 0 {

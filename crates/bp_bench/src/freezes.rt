@@ -21,14 +21,10 @@ struct Task {
 pub fn run(alloc: Global, operands: &[String]) -> Result<u64> {
     let task = task_of(operands)?;
     let office = office_of(alloc, task)?;
-    freeze_times(alloc, &office, task)
-}
-
-fn freeze_times(alloc: Global, office: &Office, task: Task) -> Result<u64> {
     let request = office.request(task.docs)?;
     let mut sum = 0u64;
     for _ in 0..task.times {
-        sum = sum.wrapping_add(freeze_once(alloc, office, &request)?);
+        sum = sum.wrapping_add(freeze_once(alloc, &office, &request)?);
     }
     Ok(sum)
 }
@@ -42,25 +38,17 @@ fn freeze_once(alloc: Global, office: &Office, request: &Request) -> Result<u64>
 pub fn copies(alloc: Global, operands: &[String]) -> Result<u64> {
     let task = task_of(operands)?;
     let production = production_of(alloc, task)?;
-    copy_times(alloc, &production, task.times)
+    let mut sum = 0u64;
+    for _ in 0..task.times {
+        sum = sum.wrapping_add(copy_once(alloc, &production)?);
+    }
+    Ok(sum)
 }
 
 fn production_of(alloc: Global, task: Task) -> Result<Production> {
     let office = office_of(alloc, task)?;
-    produced(alloc, &office, task.docs)
-}
-
-fn produced(alloc: Global, office: &Office, docs: u32) -> Result<Production> {
-    let request = office.request(docs)?;
-    frozen(alloc, office, &request)
-}
-
-fn copy_times(alloc: Global, production: &Production, times: u32) -> Result<u64> {
-    let mut sum = 0u64;
-    for _ in 0..times {
-        sum = sum.wrapping_add(copy_once(alloc, production)?);
-    }
-    Ok(sum)
+    let request = office.request(task.docs)?;
+    frozen(alloc, &office, &request)
 }
 
 fn copy_once(alloc: Global, production: &Production) -> Result<u64> {
@@ -80,11 +68,8 @@ pub fn steps(alloc: Global, operands: &[String]) -> Result<u64> {
 
 fn step_once(alloc: Global, task: Task) -> Result<u64> {
     let mut office = office_of(alloc, task)?;
-    freeze_in(&mut office, task.docs)
-}
-
-fn freeze_in(office: &mut Office, docs: u32) -> Result<u64> {
-    office.freeze(docs)?;
+    let request = office.request(task.docs)?;
+    office.freeze(request)?;
     Ok(office.tables.productions.len() as u64)
 }
 

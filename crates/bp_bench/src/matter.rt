@@ -4,7 +4,6 @@
 use crate::made::{Shape, page_of, rows_of};
 use anyhow::{Result, bail};
 use bp_codes::Fill;
-use bp_core::{OutOfMemory, RowList};
 use bp_matter::read_tables;
 use bp_rows::Page;
 use bp_t6::{code_page, read_strip};
@@ -16,30 +15,21 @@ pub fn read<R: Files + Alloc>(rt: &R, alloc: Global, operands: &[String]) -> Res
     let [file, docs, pages, times] = operands else {
         bail!("matter FILE DOCS PAGES TIMES");
     };
+    let image = page_of(rt, alloc, file.as_str())?;
     let shape = Shape {
         docs: docs.parse::<u32>()?,
         pages: pages.parse::<u32>()?,
         words: 0,
     };
-    let times = times.parse::<u32>()?;
-    let image = page_of(rt, alloc, file.as_str())?;
     let rows = rows_of(alloc, &image, shape)?;
-    read_times(alloc, &rows, times)
-}
-
-fn read_times(alloc: Global, rows: &RowList, times: u32) -> Result<u64> {
     let mut sum = 0u64;
-    for _ in 0..times {
-        sum = sum.wrapping_add(read_once(alloc, rows)?);
+    for _ in 0..times.parse::<u32>()? {
+        match read_tables(alloc, &rows) {
+            Ok(tables) => sum = sum.wrapping_add(u64::from(tables.documents())),
+            Err(refusal) => bail!("the rows aren't read: {refusal}"),
+        }
     }
     Ok(sum)
-}
-
-fn read_once(alloc: Global, rows: &RowList) -> Result<u64> {
-    match read_tables(alloc, rows) {
-        Ok(tables) => Ok(u64::from(tables.documents())),
-        Err(refusal) => bail!("the rows aren't read: {refusal}"),
-    }
 }
 
 /// The sum of the bytes of the strips.
@@ -47,16 +37,12 @@ pub fn strips<R: Files + Alloc>(rt: &R, alloc: Global, operands: &[String]) -> R
     let [file, pages, times] = operands else {
         bail!("strips FILE PAGES TIMES");
     };
-    let (pages, times) = (pages.parse::<u32>()?, times.parse::<u32>()?);
     let image = page_of(rt, alloc, file.as_str())?;
-    strip_times(alloc, &image, pages, times)
-}
-
-fn strip_times(alloc: Global, image: &Page, pages: u32, times: u32) -> Result<u64> {
-    let strip = code_page(alloc, image)?;
+    let strip = code_page(alloc, &image)?;
+    let pages = pages.parse::<u32>()?;
     let mut sum = 0u64;
-    for _ in 0..times {
-        let read = read_pages(alloc, image, strip.as_slice(), pages)?;
+    for _ in 0..times.parse::<u32>()? {
+        let read = read_pages(alloc, &image, strip.as_slice(), pages)?;
         sum = sum.wrapping_add(read);
     }
     Ok(sum)
@@ -64,27 +50,17 @@ fn strip_times(alloc: Global, image: &Page, pages: u32, times: u32) -> Result<u6
 
 // Reads a strip so many times, and codes it again; the pages stay until all are read.
 fn read_pages(alloc: Global, image: &Page, strip: &[u8], pages: u32) -> Result<u64> {
-    let mut read = Vec::new(alloc);
-    let mut sum = 0u64;
-    for _ in 0..pages {
-        sum = sum.wrapping_add(read_page(alloc, image, strip, &mut read)?);
-    }
-    Ok(sum)
-}
-
-fn read_page(alloc: Global, image: &Page, strip: &[u8], read: &mut Vec<Page>) -> Result<u64> {
     if strip.len() >= 1 << 32 {
         bail!("the strip is too long");
     }
-    let Ok(page) = read_strip(alloc, strip, Fill::High, image.width(), image.height()) else {
-        bail!("the strip isn't read");
-    };
-    let length = coded_length(alloc, &page)?;
-    read.push(page)?;
-    Ok(length)
-}
-
-fn coded_length(alloc: Global, page: &Page) -> Result<u64, OutOfMemory> {
-    let strip = code_page(alloc, page)?;
-    Ok(strip.len() as u64)
+    let mut sum = 0u64;
+    let mut read = Vec::new(alloc);
+    for _ in 0..pages {
+        let Ok(page) = read_strip(alloc, strip, Fill::High, image.width(), image.height()) else {
+            bail!("the strip isn't read");
+        };
+        sum = sum.wrapping_add(code_page(alloc, &page)?.len() as u64);
+        read.push(page)?;
+    }
+    Ok(sum)
 }

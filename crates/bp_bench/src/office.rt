@@ -3,8 +3,7 @@ use crate::made::{FIELD, LEAD, Shape, rows_of};
 use anyhow::{Result, bail};
 use bp_bates::Prefix;
 use bp_core::{
-    Basis, DocNo, ListOf, NumberList, OutOfMemory, PageNo, Rect, Role, Text, TextList, Treatment,
-    ascends,
+    Basis, DocNo, ListOf, NumberList, OutOfMemory, PageNo, Rect, Role, Text, Treatment, ascends,
 };
 use bp_keep::MemKeeper;
 use bp_matter::{Call, Reply, Request, Tables, read_tables};
@@ -35,31 +34,41 @@ pub struct Office {
 /// boxes on its first page.
 pub fn called(alloc: Global, image: &Page, shape: Shape, boxes: u32) -> Result<Office> {
     let mut office = made(alloc, image, shape)?;
-    office.call_all(image, shape.docs, boxes)?;
+    office.staff()?;
+    for doc in 1..=shape.docs {
+        office.redact(DocNo(doc))?;
+        for num in 1..=boxes {
+            office.put_box(DocNo(doc), num, rect_on(image, num))?;
+        }
+    }
     Ok(office)
 }
 
 /// The same, with all documents confirmed.
 pub fn confirmed(alloc: Global, image: &Page, shape: Shape, boxes: u32) -> Result<Office> {
     let mut office = called(alloc, image, shape, boxes)?;
-    office.confirm_all(shape.docs)?;
+    for doc in 1..=shape.docs {
+        office.confirm(DocNo(doc))?;
+    }
     Ok(office)
 }
 
 // A made matter, whose keeper has its rows.
 fn made(alloc: Global, image: &Page, shape: Shape) -> Result<Office> {
     let rows = rows_of(alloc, image, shape)?;
+    let tables = match read_tables(alloc, &rows) {
+        Ok(tables) => tables,
+        Err(refusal) => bail!("the rows aren't read: {refusal}"),
+    };
     if !ascends(rows.as_slice()) {
         bail!("the rows don't ascend");
     }
-    match read_tables(alloc, &rows) {
-        Ok(tables) => Ok(Office {
-            alloc,
-            tables,
-            keeper: MemKeeper::over(rows, NumberList::new(alloc)),
-        }),
-        Err(refusal) => bail!("the rows aren't read: {refusal}"),
-    }
+    let keeper = MemKeeper::over(rows, NumberList::new(alloc));
+    Ok(Office {
+        alloc,
+        tables,
+        keeper,
+    })
 }
 
 /// A box of a page: a paragraph of a letter page, or a pixel of a small one.
@@ -86,32 +95,8 @@ pub fn pixel(num: u32) -> Rect {
 }
 
 impl Office {
-    // Each of the first documents is called Redact, with so many boxes.
-    fn call_all(&mut self, image: &Page, docs: u32, boxes: u32) -> Result<()> {
-        self.staff()?;
-        for doc in 1..=docs {
-            self.redact(DocNo(doc))?;
-            self.put_boxes(DocNo(doc), image, boxes)?;
-        }
-        Ok(())
-    }
-
-    fn put_boxes(&mut self, doc: DocNo, image: &Page, boxes: u32) -> Result<()> {
-        for num in 1..=boxes {
-            self.put_box(doc, num, rect_on(image, num))?;
-        }
-        Ok(())
-    }
-
-    fn confirm_all(&mut self, docs: u32) -> Result<()> {
-        for doc in 1..=docs {
-            self.confirm(DocNo(doc))?;
-        }
-        Ok(())
-    }
-
-    // The lead takes in a reviewer and one who confirms.
-    fn staff(&mut self) -> Result<()> {
+    /// The lead takes in a reviewer and one who confirms.
+    pub fn staff(&mut self) -> Result<()> {
         self.add_staff("Ellis", Role::Reviewer, REVIEWER)?;
         self.add_staff("Marlow", Role::Second, SECOND)
     }
@@ -119,7 +104,7 @@ impl Office {
     /// The lead takes in a member of the staff.
     pub fn add_staff(&mut self, name: &str, role: Role, digest: [u8; 32]) -> Result<()> {
         let name = self.text(name)?;
-        self.ask(&LEAD, Call::AddStaff { name, role, digest })
+        self.ask(&LEAD, &Call::AddStaff { name, role, digest })
     }
 
     // The reviewer calls a document Redact.
@@ -130,7 +115,7 @@ impl Office {
             treatment: Treatment::Redact,
             designation: self.text("CONFIDENTIAL")?,
         };
-        self.ask(&REVIEWER, call)
+        self.ask(&REVIEWER, &call)
     }
 
     // The reviewer puts a box on the first page of a document.
@@ -142,52 +127,42 @@ impl Office {
             rect,
             basis: Basis::Pi,
         };
-        self.ask(&REVIEWER, call)
+        self.ask(&REVIEWER, &call)
     }
 
     /// The second confirms the call of a document.
     pub fn confirm(&mut self, doc: DocNo) -> Result<()> {
-        self.ask(&SECOND, Call::Confirm { doc })
+        self.ask(&SECOND, &Call::Confirm { doc })
     }
 
     /// A request for the first documents, so many, with their authors.
-    pub fn request(&self, documents: u32) -> Result<Request, OutOfMemory> {
+    pub fn request(&self, documents: u32) -> Result<Request> {
         Ok(Request {
-            from: DocNo(1),
-            to: DocNo(documents),
             id: self.text(ID)?,
             volume: self.text("VOL001")?,
             prefix: Prefix {
-                width: 8,
                 text: self.text("ABC")?,
+                width: 8,
             },
-            fields: self.fields()?,
+            from: DocNo(1),
+            to: DocNo(documents),
+            fields: ListOf::from_vec(vec![in self.alloc; self.text(FIELD)?]?),
         })
     }
 
-    fn fields(&self) -> Result<TextList, OutOfMemory> {
-        let field = self.text(FIELD)?;
-        Ok(ListOf::from_vec(vec![in self.alloc; field]?))
-    }
-
-    /// The lead freezes a request for the first documents, so many.
-    pub fn freeze(&mut self, documents: u32) -> Result<()> {
-        let request = self.request(documents)?;
-        self.ask(&LEAD, Call::Freeze { request })
+    /// The lead freezes a request.
+    pub fn freeze(&mut self, request: Request) -> Result<()> {
+        self.ask(&LEAD, &Call::Freeze { request })
     }
 
     /// Makes a call, whose reply isn't looked at.
-    pub fn ask(&mut self, key: &[u8; 32], call: Call) -> Result<()> {
+    pub fn ask(&mut self, key: &[u8; 32], call: &Call) -> Result<()> {
         let _reply = self.reply(key, call)?;
         Ok(())
     }
 
-    /// Makes a call, which is let go.
-    pub fn reply(&mut self, key: &[u8; 32], call: Call) -> Result<Reply> {
-        self.reply_to(key, &call)
-    }
-
-    fn reply_to(&mut self, key: &[u8; 32], call: &Call) -> Result<Reply> {
+    /// Makes a call.
+    pub fn reply(&mut self, key: &[u8; 32], call: &Call) -> Result<Reply> {
         match step(self.alloc, &mut self.tables, &mut self.keeper, key, call) {
             Ok(reply) => Ok(reply),
             Err(refusal) => bail!("a call is refused: {refusal}"),

@@ -9,18 +9,14 @@ pub fn run(alloc: Global, operands: &[String]) -> Result<u64> {
     let [lines, times] = operands else {
         bail!("opt LINES TIMES");
     };
-    let (lines, times) = (lines.parse::<u32>()?, times.parse::<u32>()?);
-    let text = written(alloc, lines)?;
-    read_times(alloc, text.as_bytes(), times)
-}
-
-fn read_times(alloc: Global, text: &[u8], times: u32) -> Result<u64> {
+    let text = written(alloc, lines.parse::<u32>()?)?;
+    let times = times.parse::<u32>()?;
     if text.len() >= 1 << 32 {
         bail!("the file is too long");
     }
     let mut sum = 0;
     for turn in 0..times {
-        let Ok(lines) = read_opt(alloc, text) else {
+        let Ok(lines) = read_opt(alloc, text.as_bytes()) else {
             bail!("the file isn't read");
         };
         if turn == 0 {

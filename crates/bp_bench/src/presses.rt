@@ -56,7 +56,8 @@ fn task_of<'a, R: Files + Alloc>(
 /// An office where all documents are confirmed, each with a box on its first page, and frozen.
 pub fn frozen(alloc: Global, image: &Page, shape: Shape) -> Result<Office> {
     let mut office = confirmed(alloc, image, shape, 1)?;
-    office.freeze(shape.docs)?;
+    let request = office.request(shape.docs)?;
+    office.freeze(request)?;
     Ok(office)
 }
 
@@ -67,13 +68,9 @@ pub fn press<R: Files + Alloc + Threads + Sync>(
     operands: &[String],
 ) -> Result<u64> {
     let task = task_of(rt, alloc, operands)?;
-    press_times(rt, &task)
-}
-
-fn press_times<R: Files + Alloc + Threads + Sync>(rt: &R, task: &Task<'_>) -> Result<u64> {
     let mut sum = 0u64;
     for turn in 0..task.times {
-        sum = sum.wrapping_add(press_once(rt, task, turn)?);
+        sum = sum.wrapping_add(press_once(rt, &task, turn)?);
     }
     Ok(sum)
 }
@@ -99,13 +96,9 @@ fn press_to<R: Threads + Sync, F: Folder>(rt: &R, office: &Office, folder: &mut 
 /// The sum of the lengths of the files and of a byte of each digest.
 pub fn parts<R: Files + Alloc>(rt: &R, alloc: Global, operands: &[String]) -> Result<u64> {
     let task = task_of(rt, alloc, operands)?;
-    parts_times(rt, &task)
-}
-
-fn parts_times<R: Files + Alloc>(rt: &R, task: &Task<'_>) -> Result<u64> {
     let mut sum = 0u64;
     for turn in 0..task.times {
-        sum = sum.wrapping_add(parts_once(rt, task, turn)?);
+        sum = sum.wrapping_add(parts_once(rt, &task, turn)?);
     }
     Ok(sum)
 }
@@ -127,24 +120,11 @@ fn parts_to<F: Folder>(task: &Task<'_>, folder: &mut F) -> Result<u64> {
     let (mut sum, mut number) = (0u64, 0u32);
     for row in &task.office.tables.pages {
         number = number.wrapping_add(1);
-        let file = page_file(alloc, row, number, area, &designation)?;
+        let boxes = boxes_of(alloc, row, area)?;
+        let file = file_of(alloc, row, number, &boxes, &designation)?;
         sum = sum.wrapping_add(digest_and_put(alloc, number, file.as_slice(), folder)?);
     }
     Ok(sum)
-}
-
-// The page file of a page of this number.
-fn page_file(
-    alloc: Global,
-    row: &PageRow,
-    number: u32,
-    area: Rect,
-    designation: &Text,
-) -> Result<Bytes> {
-    let boxes = boxes_of(alloc, row, area)?;
-    let label = Text::from_string(format!(in alloc; "ABC{number:08}")?);
-    let page = row.image.page(alloc)?;
-    file_of(alloc, &page, &boxes, &label, designation)
 }
 
 // The boxes of a page: the one of its document, where it is the first.
@@ -176,21 +156,23 @@ fn digest_and_put<F: Folder>(
     Ok(first.wrapping_add(file.len() as u64))
 }
 
-// The page file of a page with these boxes, under the label and the designation.
+// The page file of a page with these boxes, under the label of this number and the designation.
 fn file_of(
     alloc: Global,
-    page: &Page,
+    row: &PageRow,
+    number: u32,
     boxes: &StampList,
-    label: &Text,
     designation: &Text,
 ) -> Result<Bytes> {
+    let label = Text::from_string(format!(in alloc; "ABC{number:08}")?);
+    let page = row.image.page(alloc)?;
     if !import_sides(page.width(), page.height()) {
         bail!("the page is too large");
     }
-    if !has_glyphs(label) || !has_glyphs(designation) {
+    if !has_glyphs(&label) || !has_glyphs(designation) {
         bail!("a text can't be drawn");
     }
-    let image = produced(alloc, Ink::Black, page, boxes, label, designation)?;
+    let image = produced(alloc, Ink::Black, &page, boxes, &label, designation)?;
     Ok(write_tiff(alloc, Form::G4, &image)?)
 }
 

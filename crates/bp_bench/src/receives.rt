@@ -7,10 +7,9 @@ use crate::office::{ID, Office};
 use crate::presses::frozen;
 use crate::volume::file_in;
 use anyhow::{Result, bail};
-use bp_core::{Bytes, ListOf, NumberList, Role, StaffNo, Text};
+use bp_core::{Bytes, ListOf, NumberList, Role, StaffNo};
 use bp_outside::{BytesList, Exchange, MemDoor};
 use bp_receiver::{Delivery, serve_receiver};
-use bp_rows::Page;
 use sha2::{Digest, Sha256};
 use std::alloc::Global;
 use std::rt::Files;
@@ -44,7 +43,8 @@ fn task_of<'a, R: Files + Alloc>(
     };
     let times = times.parse::<u32>()?;
     let image = page_of(rt, alloc, file.as_str())?;
-    let office = granted(alloc, &image, shape)?;
+    let mut office = frozen(alloc, &image, shape)?;
+    office.add_staff("Hale", Role::Receiver, Sha256::digest(KEY.as_bytes()))?;
     let path = path.as_str();
     Ok(Task {
         office,
@@ -53,24 +53,14 @@ fn task_of<'a, R: Files + Alloc>(
     })
 }
 
-// A frozen matter with a receiver.
-fn granted(alloc: Global, image: &Page, shape: Shape) -> Result<Office> {
-    let mut office = frozen(alloc, image, shape)?;
-    office.add_staff("Hale", Role::Receiver, Sha256::digest(KEY.as_bytes()))?;
-    Ok(office)
-}
-
 /// The sum of the lengths of the replies.
 pub fn receive<R: Files + Alloc>(rt: &R, alloc: Global, operands: &[String]) -> Result<u64> {
     let task = task_of(rt, alloc, operands)?;
-    let mut door = door_of(alloc, task.path, task.times)?;
-    serve(task.office, &mut door, task.times)
-}
-
-// A door with so many requests for the file.
-fn door_of(alloc: Global, path: &str, times: u32) -> Result<MemDoor> {
-    let inputs = requests(alloc, path, times)?;
-    Ok(MemDoor::over(inputs, NumberList::new(alloc)))
+    let door = MemDoor::over(
+        requests(alloc, task.path, task.times)?,
+        NumberList::new(alloc),
+    );
+    serve(task.office, door, task.times)
 }
 
 // So many requests for the file.
@@ -88,25 +78,20 @@ fn request(alloc: Global, path: &str) -> Result<Bytes> {
 }
 
 // Serves so many connections of the door, with the production granted.
-fn serve(office: Office, door: &mut MemDoor, connections: u32) -> Result<u64> {
+fn serve(office: Office, door: MemDoor, connections: u32) -> Result<u64> {
+    let id = office.text(ID)?;
     let Office {
         alloc,
         tables,
         keeper,
     } = office;
-    let mut keeper = keeper;
     let mut desk = Delivery::over(alloc, tables);
-    grant(alloc, &mut desk)?;
-    let _count = serve_receiver(&mut desk, &mut keeper, door, connections);
-    Ok(written(door.exchanges()))
-}
-
-fn grant(alloc: Global, desk: &mut Delivery) -> Result<()> {
-    let id = Text::from_string(String::from_str(alloc, ID)?);
-    match desk.grant(RECEIVER, &id) {
-        Ok(()) => Ok(()),
-        Err(_) => bail!("the production isn't granted"),
+    if desk.grant(RECEIVER, &id).is_err() {
+        bail!("the production isn't granted");
     }
+    let (mut keeper, mut door) = (keeper, door);
+    let _count = serve_receiver(&mut desk, &mut keeper, &mut door, connections);
+    Ok(written(door.exchanges()))
 }
 
 fn written(exchanges: &[Exchange]) -> u64 {
@@ -120,20 +105,12 @@ fn written(exchanges: &[Exchange]) -> u64 {
 /// The sum of the lengths of the file.
 pub fn make<R: Files + Alloc>(rt: &R, alloc: Global, operands: &[String]) -> Result<u64> {
     let task = task_of(rt, alloc, operands)?;
-    make_times(alloc, &task.office, task.path, task.times)
-}
-
-fn make_times(alloc: Global, office: &Office, path: &str, times: u32) -> Result<u64> {
-    let id = office.text(ID)?;
-    let path = office.text(path)?;
+    let office = &task.office;
+    let (id, path) = (office.text(ID)?, office.text(task.path)?);
     let mut sum = 0u64;
-    for _ in 0..times {
-        sum = sum.wrapping_add(make_once(alloc, office, &id, &path)?);
+    for _ in 0..task.times {
+        let file = file_in(alloc, &office.tables, &id, &path)?;
+        sum = sum.wrapping_add(file.len() as u64);
     }
     Ok(sum)
-}
-
-fn make_once(alloc: Global, office: &Office, id: &Text, path: &Text) -> Result<u64> {
-    let file = file_in(alloc, &office.tables, id, path)?;
-    Ok(file.len() as u64)
 }

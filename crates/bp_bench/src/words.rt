@@ -11,18 +11,14 @@ pub fn read(alloc: Global, operands: &[String]) -> Result<u64> {
     let [rows, times] = operands else {
         bail!("words ROWS TIMES");
     };
-    let (rows, times) = (rows.parse::<u32>()?, times.parse::<u32>()?);
-    let text = written(alloc, rows)?;
-    read_times(alloc, text.as_bytes(), times)
-}
-
-fn read_times(alloc: Global, text: &[u8], times: u32) -> Result<u64> {
+    let text = written(alloc, rows.parse::<u32>()?)?;
+    let times = times.parse::<u32>()?;
     if text.len() >= 1 << 32 {
         bail!("the file is too long");
     }
     let mut sum = 0;
     for turn in 0..times {
-        let Ok(rows) = read_words(alloc, text) else {
+        let Ok(rows) = read_words(alloc, text.as_bytes()) else {
             bail!("the file isn't read");
         };
         if turn == 0 {
@@ -66,28 +62,17 @@ pub fn keep(alloc: Global, operands: &[String]) -> Result<u64> {
     let [words, boxes, times] = operands else {
         bail!("kept WORDS BOXES TIMES");
     };
-    let (words, boxes) = (words.parse::<u32>()?, boxes.parse::<u32>()?);
+    let words = page_of(alloc, words.parse::<u32>()?)?;
+    let boxes = boxes_of(alloc, boxes.parse::<u32>()?)?;
     let times = times.parse::<u32>()?;
-    let words = page_of(alloc, words)?;
-    let boxes = boxes_of(alloc, boxes)?;
-    keep_times(alloc, &words, &boxes, times)
-}
-
-fn keep_times(alloc: Global, words: &WordList, boxes: &RectList, times: u32) -> Result<u64> {
     let mut sum = 0;
     for turn in 0..times {
-        let text = text_beside(alloc, words, boxes)?;
+        let text = page_text(alloc, &kept(alloc, &words, &boxes)?)?;
         if turn == 0 {
             sum = with_text(0, text.as_str().as_bytes());
         }
     }
     Ok(sum)
-}
-
-// The text of the words that no box touches.
-fn text_beside(alloc: Global, words: &WordList, boxes: &RectList) -> Result<Text> {
-    let words = kept(alloc, words, boxes)?;
-    Ok(page_text(alloc, &words)?)
 }
 
 fn page_of(alloc: Global, count: u32) -> Result<WordList, AllocError> {

@@ -18,7 +18,7 @@ use bp_desk::History;
 use bp_keep::MemKeeper;
 use bp_outside::{MemDoor, MemFolder, MemOut, MemSource};
 use bp_test_words::{Words, escaped};
-use std::alloc::{AllocError, Global};
+use std::alloc::Global;
 use std::sync::Wait;
 use std::thread::Threads;
 
@@ -120,65 +120,23 @@ fn note(alloc: Global, place: &mut NumberList, words: &mut Words) -> Result<Stri
 
 /// Carries out the command line of these words, texts with a space between them.
 pub fn carry_out<R: Threads + Wait + Sync>(rt: &R, day: &mut Day, line: &str) -> Result<String> {
-    let words = words_in(day.alloc, line)?;
-    let outside = std::mem::replace(&mut day.outside, Outside::new(day.alloc));
-    match set_up(day, outside)? {
-        Some((stage, doors)) => carry_out_on(rt, day, &words, stage, doors),
-        None => constant(day.alloc, "two files at one path"),
-    }
-}
-
-// What a command line meets, unless two files have one path.
-fn set_up(day: &Day, outside: Outside) -> Result<Option<(Stage, Vec<MemDoor>)>> {
     let alloc = day.alloc;
-    let Outside {
+    let words = words_in(alloc, line)?;
+    let outside = std::mem::replace(&mut day.outside, Outside::new(alloc));
+    let Some(source) = day.files.source(outside.source)? else {
+        return constant(alloc, "two files at one path");
+    };
+    let mut stage = Stage {
         source,
-        folder,
-        out,
-        door,
-        peers,
-        served: _served,
-        calls: _calls,
-    } = outside;
-    let doors = doors_of(alloc, MemDoor::over(ListOf::from_vec(peers), door))?;
-    match day.files.source(source)? {
-        Some(source) => {
-            let folder = MemFolder::over(ListOf::new(alloc), folder);
-            let out = MemOut::over(Bytes::from_vec(Vec::new(alloc)), out);
-            let stage = Stage {
-                source,
-                folder,
-                out,
-            };
-            Ok(Some((stage, doors)))
-        }
-        None => Ok(None),
-    }
-}
-
-fn doors_of(alloc: Global, door: MemDoor) -> Result<Vec<MemDoor>, AllocError> {
+        folder: MemFolder::over(ListOf::new(alloc), outside.folder),
+        out: MemOut::over(Bytes::from_vec(Vec::new(alloc)), outside.out),
+    };
     let mut doors = Vec::new(alloc);
-    doors.push(door)?;
-    Ok(doors)
-}
-
-fn carry_out_on<R: Threads + Wait + Sync>(
-    rt: &R,
-    day: &mut Day,
-    words: &[String],
-    stage: Stage,
-    doors: Vec<MemDoor>,
-) -> Result<String> {
-    let mut stage = stage;
-    let status = stage.run(rt, day.alloc, words, doors, day);
-    let told = stage.told(day.alloc, status);
-    let Stage {
-        source: _source,
-        folder,
-        out: _out,
-    } = stage;
-    day.pressed.lay(folder);
-    told
+    doors.push(MemDoor::over(ListOf::from_vec(outside.peers), outside.door))?;
+    let status = stage.run(rt, alloc, &words, doors, day);
+    let told = stage.told(alloc, status)?;
+    day.pressed.lay(stage.folder);
+    Ok(told)
 }
 
 fn words_in(alloc: Global, line: &str) -> Result<Vec<String>> {

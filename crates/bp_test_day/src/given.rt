@@ -142,29 +142,16 @@ impl Given {
         if !words.is_read() || body.is_empty() {
             return unread(self.alloc);
         }
-        let told = self.longer(key, body.as_slice())?;
-        match self.first_other(key, body.as_slice(), told.as_str())? {
-            Some(other) => Ok(other),
-            None => Ok(told),
-        }
-    }
-
-    // With this body and a 0 behind it.
-    fn longer(&self, key: Key, body: &[u8]) -> Result<String> {
-        let mut longer = body.to_vec(self.alloc)?;
+        let mut longer = body.as_slice().to_vec(self.alloc)?;
         longer.push(0)?;
-        self.with_body(key, longer)
-    }
-
-    // The first of the shorter bodies that comes to something else.
-    fn first_other(&self, key: Key, body: &[u8], told: &str) -> Result<Option<String>> {
+        let told = self.with_body(key, longer)?;
         for len in 0..body.len() {
             let shorter = self.with_body(key, body[..len].to_vec(self.alloc)?)?;
-            if shorter.as_str() != told {
-                return Ok(Some(format!(in self.alloc; "{len} bytes: {shorter}")?));
+            if shorter != told {
+                return Ok(format!(in self.alloc; "{len} bytes: {shorter}")?);
             }
         }
-        Ok(None)
+        Ok(told)
     }
 
     fn without(&self, words: &mut Words) -> Result<String> {

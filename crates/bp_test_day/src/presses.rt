@@ -150,14 +150,6 @@ impl Meeting {
         }
     }
 
-    // How many saw that so many had entered, and how often each number entered.
-    fn told(&self, alloc: Global) -> Result<String> {
-        let seen = self.seen.load(Ordering::SeqCst);
-        let numbers = self.numbers.load(Ordering::SeqCst).to_be_bytes();
-        let digits = hex::encode(alloc, numbers.as_slice())?;
-        Ok(format!(in alloc; "{seen} {digits}")?)
-    }
-
     // Waits until so many have entered.
     fn wait(&self) {
         for _ in 0..TURNS {
@@ -187,27 +179,24 @@ fn press_met<R: Threads + Sync>(rt: &R, day: &mut Day, words: &mut Words) -> Res
     if !words.is_read() {
         return unread(day.alloc);
     }
+    let mut folder = empty(day.alloc, NumberList::new(day.alloc));
     match production_in(&day.tables, &id) {
         Some(production) => {
-            press_through(rt, day.alloc, &day.tables, production, &meeting)?;
-            meeting.told(day.alloc)
+            press(
+                rt,
+                day.alloc,
+                &day.tables,
+                production,
+                &mut folder,
+                &meeting,
+            )?;
+            let seen = meeting.seen.load(Ordering::SeqCst);
+            let numbers = meeting.numbers.load(Ordering::SeqCst).to_be_bytes();
+            let digits = hex::encode(day.alloc, numbers.as_slice())?;
+            Ok(format!(in day.alloc; "{seen} {digits}")?)
         }
         None => constant(day.alloc, "none"),
     }
-}
-
-// Presses into a folder in memory, which is let go.
-fn press_through<R: Threads + Sync>(
-    rt: &R,
-    alloc: Global,
-    tables: &Tables,
-    production: &Production,
-    gate: &Meeting,
-) -> Result<Pressed, PressRefusal>
-    requires { Keeps tables.now.matter production.now }
-{
-    let mut folder = empty(alloc, NumberList::new(alloc));
-    press(rt, alloc, tables, production, &mut folder, gate)
 }
 
 fn of_press(alloc: Global, told: Result<Pressed, PressRefusal>) -> Result<String> {
@@ -323,37 +312,17 @@ fn begins(files: &[FileRow], others: &[FileRow], place: usize) -> bool {
 
 fn found(day: &Day, words: &mut Words) -> Result<String> {
     let id = words.text();
-    match production_in(&day.tables, &id) {
-        Some(production) => {
-            let files = day.pressed.folder.files();
-            all_found(day.alloc, &day.tables, production, files)
-        }
-        None => constant(day.alloc, "none"),
-    }
-}
-
-// Whether each file is found, or the path of the first that isn't.
-fn all_found(
-    alloc: Global,
-    tables: &Tables,
-    production: &Production,
-    files: &[FileRow],
-) -> Result<String>
-    requires { Keeps tables.now.matter production.now }
-{
-    for file in files {
-        if !is_found(alloc, tables, production, file)? {
-            return escaped(alloc, file.path.as_str());
+    let Some(production) = production_in(&day.tables, &id) else {
+        return constant(day.alloc, "none");
+    };
+    let shown = Covered::of(&day.tables, production);
+    for file in day.pressed.folder.files() {
+        let bytes = file_of(day.alloc, &shown, &file.path)?;
+        if bytes != file.bytes {
+            return escaped(day.alloc, file.path.as_str());
         }
     }
-    constant(alloc, "yes")
-}
-
-fn is_found(alloc: Global, tables: &Tables, production: &Production, file: &FileRow) -> Result<bool>
-    requires { Keeps tables.now.matter production.now }
-{
-    let bytes = file_of(alloc, &Covered::of(tables, production), &file.path)?;
-    Ok(bytes == file.bytes)
+    constant(day.alloc, "yes")
 }
 
 fn find(day: &Day, words: &mut Words) -> Result<String> {

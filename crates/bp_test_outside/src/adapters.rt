@@ -13,7 +13,8 @@ use std::test::Fail;
 
 // The calls are the opening (0), the length (1) and the reads of 2 bytes, of 1 and of none (2 to
 // 4).
-fn a_source_tells_absent_from_failed(rt: &HostRuntime) -> Result<(), Fail> {
+#[test]
+fn a_source_tells_absent_from_failed(rt: HostRuntime) -> Result<(), Fail> {
     let alloc = rt.alloc();
     for (failing, error, refusal) in [
         (0, NO_SUCH_FILE, ReadRefusal::Absent),
@@ -38,7 +39,8 @@ fn a_source_tells_absent_from_failed(rt: &HostRuntime) -> Result<(), Fail> {
 }
 
 // A source asks for that path below its folder, and for nothing else.
-fn a_source_reads_that_file_alone(rt: &HostRuntime) -> Result<(), Fail> {
+#[test]
+fn a_source_reads_that_file_alone(rt: HostRuntime) -> Result<(), Fail> {
     let alloc = rt.alloc();
     for (path, max, lines) in [
         ("a.tif", 3, "read in/a.tif\nlength\nread\nread\nread\n"),
@@ -66,7 +68,8 @@ fn a_source_reads_that_file_alone(rt: &HostRuntime) -> Result<(), Fail> {
 }
 
 // The calls are the folder (0), the opening (1) and the writes of 2 bytes and of 1 (2 and 3).
-fn a_folder_fails_where_the_system_does(rt: &HostRuntime) -> Result<(), Fail> {
+#[test]
+fn a_folder_fails_where_the_system_does(rt: HostRuntime) -> Result<(), Fail> {
     let alloc = rt.alloc();
     for (failing, error, step, lines) in [
         (0, NO_SPACE, 2, "create_dir out\nmetadata out\n"),
@@ -99,7 +102,8 @@ fn a_folder_fails_where_the_system_does(rt: &HostRuntime) -> Result<(), Fail> {
 }
 
 // A file is put at that path below the folder, and nowhere else.
-fn a_folder_writes_that_file_alone(rt: &HostRuntime) -> Result<(), Fail> {
+#[test]
+fn a_folder_writes_that_file_alone(rt: HostRuntime) -> Result<(), Fail> {
     let alloc = rt.alloc();
     for (path, lines) in [
         ("a.tif", "create_dir out\nempty out/a.tif\nwrite\nwrite\n"),
@@ -122,7 +126,8 @@ fn a_folder_writes_that_file_alone(rt: &HostRuntime) -> Result<(), Fail> {
 }
 
 // The calls are the writes of 2 bytes, 2 bytes and 1. An out that takes nothing fails.
-fn an_out_fails_where_the_system_does(rt: &HostRuntime) -> Result<(), Fail> {
+#[test]
+fn an_out_fails_where_the_system_does(rt: HostRuntime) -> Result<(), Fail> {
     let alloc = rt.alloc();
     for (failing, error, step, lines, written, answer) in [
         (0, CLOSED_PIPE, 2, "print\n", "", Err(OutRefusal::Failed)),
@@ -156,7 +161,8 @@ fn an_out_fails_where_the_system_does(rt: &HostRuntime) -> Result<(), Fail> {
 }
 
 // Long pieces pass too: none of them is kept beside its file, or put elsewhere.
-fn a_long_file_is_written_in_its_place_alone(rt: &HostRuntime) -> Result<(), Fail> {
+#[test]
+fn a_long_file_is_written_in_its_place_alone(rt: HostRuntime) -> Result<(), Fail> {
     let alloc = rt.alloc();
     let long = counted(alloc, 70_000)?;
     let stage = Stage::new(alloc, NONE, NO_SPACE, &[], 65_536)?;
@@ -168,7 +174,8 @@ fn a_long_file_is_written_in_its_place_alone(rt: &HostRuntime) -> Result<(), Fai
     Ok(())
 }
 
-fn a_long_file_is_read_whole(rt: &HostRuntime) -> Result<(), Fail> {
+#[test]
+fn a_long_file_is_read_whole(rt: HostRuntime) -> Result<(), Fail> {
     let alloc = rt.alloc();
     let long = counted(alloc, 200_000)?;
     let stage = Stage::new(alloc, NONE, NO_SPACE, long.as_slice(), 65_536)?;
@@ -181,7 +188,8 @@ fn a_long_file_is_read_whole(rt: &HostRuntime) -> Result<(), Fail> {
     Ok(())
 }
 
-fn a_long_piece_is_printed_whole(rt: &HostRuntime) -> Result<(), Fail> {
+#[test]
+fn a_long_piece_is_printed_whole(rt: HostRuntime) -> Result<(), Fail> {
     let alloc = rt.alloc();
     let long = counted(alloc, 70_000)?;
     let stage = Stage::new(alloc, NONE, NO_SPACE, &[], 65_536)?;
@@ -190,17 +198,4 @@ fn a_long_piece_is_printed_whole(rt: &HostRuntime) -> Result<(), Fail> {
     assert_eq!(rt; stage.lines().as_str(), "print\nprint\n");
     assert_eq!(rt; stage.written().as_slice(), long.as_slice());
     Ok(())
-}
-
-// All of these in one, since each test has a proof of its own around it.
-#[test]
-fn adapters(rt: HostRuntime) -> Result<(), Fail> {
-    a_source_tells_absent_from_failed(&rt)?;
-    a_source_reads_that_file_alone(&rt)?;
-    a_folder_fails_where_the_system_does(&rt)?;
-    a_folder_writes_that_file_alone(&rt)?;
-    an_out_fails_where_the_system_does(&rt)?;
-    a_long_file_is_written_in_its_place_alone(&rt)?;
-    a_long_file_is_read_whole(&rt)?;
-    a_long_piece_is_printed_whole(&rt)
 }

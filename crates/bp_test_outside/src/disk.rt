@@ -7,16 +7,17 @@ use std::fs;
 use std::rt::Files;
 use std::test::Fail;
 
-fn files_are_read_below_a_folder(rt: &HostRuntime) -> Result<(), Fail> {
+#[test]
+fn files_are_read_below_a_folder(rt: HostRuntime) -> Result<(), Fail> {
     let alloc = rt.alloc();
     let long = counted(alloc, 70_000)?;
     let name = "n".repeat(alloc, 300)?;
-    fs::create_dir_all(rt, "file_source/deep/er")?;
-    fs::write(rt, "file_source/deep/er/long.bin", long.as_slice())?;
-    fs::write(rt, "file_source/plain", "12345")?;
+    fs::create_dir_all(&rt, "file_source/deep/er")?;
+    fs::write(&rt, "file_source/deep/er/long.bin", long.as_slice())?;
+    fs::write(&rt, "file_source/plain", "12345")?;
     let _ = rt.remove_file("file_source/loop");
     rt.symlink("loop", "file_source/loop")?;
-    let mut source = FileSource::below(rt, "file_source");
+    let mut source = FileSource::below(&rt, "file_source");
     for (path, max, answer) in [
         ("plain", 5, Ok(b"12345".as_slice())),
         ("plain", u64::MAX, Ok(b"12345".as_slice())),
@@ -43,11 +44,12 @@ fn files_are_read_below_a_folder(rt: &HostRuntime) -> Result<(), Fail> {
 }
 
 // A file that stands there is replaced, also by a shorter one.
-fn files_are_written_below_a_folder(rt: &HostRuntime) -> Result<(), Fail> {
+#[test]
+fn files_are_written_below_a_folder(rt: HostRuntime) -> Result<(), Fail> {
     let alloc = rt.alloc();
     let long = counted(alloc, 70_000)?;
-    let mut folder = FileFolder::below(rt, "file_folder");
-    let mut source = FileSource::below(rt, "file_folder");
+    let mut folder = FileFolder::below(&rt, "file_folder");
+    let mut source = FileSource::below(&rt, "file_folder");
     for (path, bytes) in [
         ("new/er/long.bin", long.as_slice()),
         ("empty", b"".as_slice()),
@@ -65,10 +67,11 @@ fn files_are_written_below_a_folder(rt: &HostRuntime) -> Result<(), Fail> {
 }
 
 // A file that was begun anew is empty, and one that is cut off keeps what was added.
-fn a_file_begins_empty(rt: &HostRuntime) -> Result<(), Fail> {
+#[test]
+fn a_file_begins_empty(rt: HostRuntime) -> Result<(), Fail> {
     let alloc = rt.alloc();
-    let mut folder = FileFolder::below(rt, "file_begun");
-    let mut source = FileSource::below(rt, "file_begun");
+    let mut folder = FileFolder::below(&rt, "file_begun");
+    let mut source = FileSource::below(&rt, "file_begun");
     for (added, held) in [
         (b"12345".as_slice(), 5),
         (b"1".as_slice(), 1),
@@ -81,17 +84,9 @@ fn a_file_begins_empty(rt: &HostRuntime) -> Result<(), Fail> {
     Ok(())
 }
 
-fn bytes_reach_standard_output(rt: &HostRuntime) -> Result<(), Fail> {
-    let mut out = StdOut::of(rt);
+#[test]
+fn bytes_reach_standard_output(rt: HostRuntime) -> Result<(), Fail> {
+    let mut out = StdOut::of(&rt);
     write_all(rt.alloc(), &mut out, b"written\n")?;
     Ok(())
-}
-
-// All of these in one, since each test has a proof of its own around it.
-#[test]
-fn a_real_disk(rt: HostRuntime) -> Result<(), Fail> {
-    files_are_read_below_a_folder(&rt)?;
-    files_are_written_below_a_folder(&rt)?;
-    a_file_begins_empty(&rt)?;
-    bytes_reach_standard_output(&rt)
 }

@@ -34,7 +34,8 @@ fn converse(alloc: Global, door: &mut MemDoor) -> Result<bool, DoorRefusal> {
 pub fn know_send<D: Door + Send>(_door: &D) {}
 
 // Two peers, and the door is closed after them.
-fn a_door_in_memory_passes_bytes(rt: &HostRuntime) -> Result<(), Fail> {
+#[test]
+fn a_door_in_memory_passes_bytes(rt: HostRuntime) -> Result<(), Fail> {
     let alloc = rt.alloc();
     let mut door = MemDoor::over(inputs(alloc, &[&[1, 2, 3], &[]])?, numbers(alloc, &[])?);
     know_send(&door);
@@ -55,7 +56,8 @@ fn a_door_in_memory_passes_bytes(rt: &HostRuntime) -> Result<(), Fail> {
 
 // The calls are accept (0), two reads (1 and 2), a write (3) and an accept that finds the door
 // closed (4). A call that fails leaves what passed before it, and half of what it was to write.
-fn each_call_at_a_door_fails_in_turn(rt: &HostRuntime) -> Result<(), Fail> {
+#[test]
+fn each_call_at_a_door_fails_in_turn(rt: HostRuntime) -> Result<(), Fail> {
     let alloc = rt.alloc();
     for (failing, read, written) in [(1, 0, 0), (2, 2, 0), (3, 3, 1), (4, 3, 2)] {
         let mut door = MemDoor::over(inputs(alloc, &[&[1, 2, 3]])?, numbers(alloc, &[failing])?);
@@ -84,7 +86,8 @@ fn each_call_at_a_door_fails_in_turn(rt: &HostRuntime) -> Result<(), Fail> {
 }
 
 // A refused accept leaves the peer, who comes at the next.
-fn a_peer_waits_for_the_next_accept(rt: &HostRuntime) -> Result<(), Fail> {
+#[test]
+fn a_peer_waits_for_the_next_accept(rt: HostRuntime) -> Result<(), Fail> {
     let alloc = rt.alloc();
     let mut door = MemDoor::over(inputs(alloc, &[&[1, 2, 3]])?, numbers(alloc, &[0])?);
     assert_eq!(rt; door.accept(alloc), Err(DoorRefusal::Failed));
@@ -132,7 +135,8 @@ fn read_of(
 // An input of 10,000 bytes. The calls are accept (0) and reads of at most 4,096 bytes (1, 2, 3, and
 // 4 for the end). Enough are some bytes in the middle of what was sent, none, all, and more than
 // all; or they are passed, up to the most. No read is asked for after that.
-fn an_input_is_read_until_it_is_enough(rt: &HostRuntime) -> Result<(), Fail> {
+#[test]
+fn an_input_is_read_until_it_is_enough(rt: HostRuntime) -> Result<(), Fail> {
     let alloc = rt.alloc();
     let long = counted(alloc, 10_000)?;
     let failed = Err(InputStop::Refused(DoorRefusal::Failed));
@@ -151,13 +155,4 @@ fn an_input_is_read_until_it_is_enough(rt: &HostRuntime) -> Result<(), Fail> {
         assert_eq!(rt; told, answer, "{few} up to {most}");
     }
     Ok(())
-}
-
-// All of these in one, since each test has a proof of its own around it.
-#[test]
-fn doors_in_memory(rt: HostRuntime) -> Result<(), Fail> {
-    a_door_in_memory_passes_bytes(&rt)?;
-    each_call_at_a_door_fails_in_turn(&rt)?;
-    a_peer_waits_for_the_next_accept(&rt)?;
-    an_input_is_read_until_it_is_enough(&rt)
 }

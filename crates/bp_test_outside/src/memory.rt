@@ -24,7 +24,8 @@ fn rows(alloc: Global, of: &[(&str, &[u8])]) -> Result<FileList, AllocError> {
 }
 
 // The fourth call, number 3, is to fail.
-fn a_source_in_memory_reads_and_fails_as_told(rt: &HostRuntime) -> Result<(), Fail> {
+#[test]
+fn a_source_in_memory_reads_and_fails_as_told(rt: HostRuntime) -> Result<(), Fail> {
     let alloc = rt.alloc();
     let files = rows(alloc, &[("a.tif", &[1, 2, 3]), ("b/é.txt", &[])])?;
     assert!(rt; paths_differ(&files));
@@ -42,7 +43,8 @@ fn a_source_in_memory_reads_and_fails_as_told(rt: &HostRuntime) -> Result<(), Fa
     Ok(())
 }
 
-fn a_path_that_stands_twice_is_seen(rt: &HostRuntime) -> Result<(), Fail> {
+#[test]
+fn a_path_that_stands_twice_is_seen(rt: HostRuntime) -> Result<(), Fail> {
     let files = rows(rt.alloc(), &[("a", &[1]), ("b", &[1]), ("a", &[])])?;
     assert!(rt; !paths_differ(&files));
     Ok(())
@@ -50,7 +52,8 @@ fn a_path_that_stands_twice_is_seen(rt: &HostRuntime) -> Result<(), Fail> {
 
 // The calls are create (0), append of 4,096 (1), of 4,096 (2), of 1,808 (3), and finish (4). A call
 // that fails has added half of what it would have taken.
-fn a_file_is_put_whole_or_in_part(rt: &HostRuntime) -> Result<(), Fail> {
+#[test]
+fn a_file_is_put_whole_or_in_part(rt: HostRuntime) -> Result<(), Fail> {
     let alloc = rt.alloc();
     let bytes = counted(alloc, 10_000)?;
     for (failing, files, length) in [
@@ -75,7 +78,8 @@ fn a_file_is_put_whole_or_in_part(rt: &HostRuntime) -> Result<(), Fail> {
 }
 
 // The calls are create (0), append of the first part (1), of the rest (2), and finish (3).
-fn a_file_of_two_parts_is_put_whole_or_in_part(rt: &HostRuntime) -> Result<(), Fail> {
+#[test]
+fn a_file_of_two_parts_is_put_whole_or_in_part(rt: HostRuntime) -> Result<(), Fail> {
     let alloc = rt.alloc();
     let wholes: [&[u8]; 5] = [b"", b"ab", b"abcdef", b"abcdefgh", b"abcdefgh"];
     for (failing, whole) in wholes.iter().enumerate() {
@@ -89,7 +93,8 @@ fn a_file_of_two_parts_is_put_whole_or_in_part(rt: &HostRuntime) -> Result<(), F
     Ok(())
 }
 
-fn a_piece_is_written_whole_or_in_part(rt: &HostRuntime) -> Result<(), Fail> {
+#[test]
+fn a_piece_is_written_whole_or_in_part(rt: HostRuntime) -> Result<(), Fail> {
     let alloc = rt.alloc();
     let bytes = counted(alloc, 10_000)?;
     for (failing, length) in [(0, 2048), (1, 6144), (2, 9096), (3, 10_000)] {
@@ -109,7 +114,8 @@ fn a_piece_is_written_whole_or_in_part(rt: &HostRuntime) -> Result<(), Fail> {
 }
 
 // A volume of the most files: each call takes memory as it needs it, and none lacks it.
-fn a_folder_takes_40_000_files(rt: &HostRuntime) -> Result<(), Fail> {
+#[test]
+fn a_folder_takes_40_000_files(rt: HostRuntime) -> Result<(), Fail> {
     let alloc = rt.alloc();
     let mut folder = MemFolder::over(rows(alloc, &[])?, numbers(alloc, &[])?);
     for number in 0..40_000 {
@@ -121,15 +127,4 @@ fn a_folder_takes_40_000_files(rt: &HostRuntime) -> Result<(), Fail> {
         assert_eq!(rt; file.bytes.as_slice(), b"scan".as_slice());
     }
     Ok(())
-}
-
-// All of these in one, since each test has a proof of its own around it.
-#[test]
-fn objects_in_memory(rt: HostRuntime) -> Result<(), Fail> {
-    a_source_in_memory_reads_and_fails_as_told(&rt)?;
-    a_path_that_stands_twice_is_seen(&rt)?;
-    a_file_is_put_whole_or_in_part(&rt)?;
-    a_file_of_two_parts_is_put_whole_or_in_part(&rt)?;
-    a_piece_is_written_whole_or_in_part(&rt)?;
-    a_folder_takes_40_000_files(&rt)
 }

@@ -27,7 +27,8 @@ fn serve<D: Door>(alloc: Global, door: &mut D) -> Result<usize, DoorRefusal> {
 
 // It listens once, on the port of its desk, and limits silence; it hangs up by reading off what
 // comes, here 2 bytes and then none.
-fn a_door_asks_for_its_port_alone(rt: &HostRuntime) -> Result<(), Fail> {
+#[test]
+fn a_door_asks_for_its_port_alone(rt: HostRuntime) -> Result<(), Fail> {
     let alloc = rt.alloc();
     let peer = "accept\nread limit 10000\nwrite limit 10000\nread\nwrite\nshut writing\n";
     let end = "clock\nclock\nread limit 1600\nread\nclock\nread limit 1200\nread\n";
@@ -45,7 +46,8 @@ fn a_door_asks_for_its_port_alone(rt: &HostRuntime) -> Result<(), Fail> {
 
 // The calls are bind (0), accept (1), the limits (2 and 3), read (4) and write (5); a hang up can't
 // fail. Once it listens it keeps its port, whatever fails then.
-fn a_door_fails_where_the_system_does(rt: &HostRuntime) -> Result<(), Fail> {
+#[test]
+fn a_door_fails_where_the_system_does(rt: HostRuntime) -> Result<(), Fail> {
     let alloc = rt.alloc();
     for failing in [0, 1, 2, 3, 4, 5, 6, 7, 8, 9] {
         let error = if failing == 4 {
@@ -72,7 +74,8 @@ fn a_door_fails_where_the_system_does(rt: &HostRuntime) -> Result<(), Fail> {
 }
 
 // After an accept that the system refused it rests, and then asks for its port again.
-fn a_door_rests_after_a_refusal(rt: &HostRuntime) -> Result<(), Fail> {
+#[test]
+fn a_door_rests_after_a_refusal(rt: HostRuntime) -> Result<(), Fail> {
     let alloc = rt.alloc();
     let stage = Stage::new(alloc, 0, NO_SPACE, b"ping", 9)?;
     let mut door = TcpDoor::of(&stage, 16);
@@ -86,7 +89,8 @@ fn a_door_rests_after_a_refusal(rt: &HostRuntime) -> Result<(), Fail> {
 }
 
 // A long reply goes out in pieces of 65,536 bytes. A door that is left asks for its port again.
-fn a_long_reply_is_sent(rt: &HostRuntime) -> Result<(), Fail> {
+#[test]
+fn a_long_reply_is_sent(rt: HostRuntime) -> Result<(), Fail> {
     let alloc = rt.alloc();
     let long = counted(alloc, 2_000_000)?;
     let stage = Stage::new(alloc, NONE, NO_SPACE, b"ping", 4_000_000)?;
@@ -104,7 +108,8 @@ fn a_long_reply_is_sent(rt: &HostRuntime) -> Result<(), Fail> {
 }
 
 // A peer that took no whole piece in its time is waited for a second at a time.
-fn a_slow_peer_is_hurried(rt: &HostRuntime) -> Result<(), Fail> {
+#[test]
+fn a_slow_peer_is_hurried(rt: HostRuntime) -> Result<(), Fail> {
     let alloc = rt.alloc();
     let stage = Stage::new(alloc, NONE, NO_SPACE, b"pin", 3)?;
     let mut door = TcpDoor::of(&stage, 16);
@@ -123,7 +128,8 @@ fn times(lines: &str, line: &str) -> usize {
 }
 
 // What comes is read off for 2 seconds, and up to 2,097,152 bytes.
-fn hanging_up_ends(rt: &HostRuntime) -> Result<(), Fail> {
+#[test]
+fn hanging_up_ends(rt: HostRuntime) -> Result<(), Fail> {
     let alloc = rt.alloc();
     let long = counted(alloc, 2_200_000)?;
     for (tick, reads) in [(0, 33), (500, 4), (2000, 1), (1999, 2)] {
@@ -204,10 +210,11 @@ fn reply<S: Read>(alloc: Global, peer: &mut S) -> io::Result<Vec<u8>> {
 // The door reads 4 bytes of 20,000, and the peer gets the whole reply all the same. Who comes then
 // is let wait, and refused once the door was left.
 // A door of the system itself may be moved to the thread that serves it.
-fn a_peer_gets_the_reply(rt: &HostRuntime) -> Result<(), Fail> {
+#[test]
+fn a_peer_gets_the_reply(rt: HostRuntime) -> Result<(), Fail> {
     let alloc = rt.alloc();
     let long = counted(alloc, 20_000)?;
-    let network = Loopback::over(alloc, rt, long.as_slice())?;
+    let network = Loopback::over(alloc, &rt, long.as_slice())?;
     let mut door = TcpDoor::of(&network, 1);
     assert_eq!(rt; serve(alloc, &mut door), Ok(4));
     let (mut peer, address) = network.take_peer()?;
@@ -216,18 +223,6 @@ fn a_peer_gets_the_reply(rt: &HostRuntime) -> Result<(), Fail> {
     assert!(rt; rt.connect(address).is_ok());
     door.leave();
     assert!(rt; rt.connect(address).is_err());
-    know_send(&TcpDoor::of(rt, 1));
+    know_send(&TcpDoor::of(&rt, 1));
     Ok(())
-}
-
-// All of these in one, since each test has a proof of its own around it.
-#[test]
-fn doors_at_ports(rt: HostRuntime) -> Result<(), Fail> {
-    a_door_asks_for_its_port_alone(&rt)?;
-    a_door_fails_where_the_system_does(&rt)?;
-    a_door_rests_after_a_refusal(&rt)?;
-    a_long_reply_is_sent(&rt)?;
-    a_slow_peer_is_hurried(&rt)?;
-    hanging_up_ends(&rt)?;
-    a_peer_gets_the_reply(&rt)
 }

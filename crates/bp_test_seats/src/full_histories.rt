@@ -4,8 +4,7 @@ ghost use Rattle.bp_seats.specs.Seats.{IsSeatOf, SameSeat};
 
 use crate::calls::see_doc;
 use crate::matters::called;
-use crate::replies::make;
-use crate::stage::{close_pair, start_pair};
+use crate::stage::{close_pair, make, start_pair};
 use bp_core::{Bytes, NumberList};
 use bp_desk::DeskRefusal;
 use bp_keep::MemKeeper;
@@ -26,9 +25,10 @@ fn fill<R: Wait + Abort>(
     requires { IsSeatOf desk.now seat.old }
     ensures { SameSeat seat.old seat.new }
 {
-    make(desk, rt, alloc, seat, see_doc())?;
-    make(desk, rt, alloc, seat, see_doc())?;
-    let third = make(desk, rt, alloc, seat, see_doc()).err();
+    let call = see_doc();
+    let _first = make(desk, rt, alloc, seat, &call)?;
+    let _second = make(desk, rt, alloc, seat, &call)?;
+    let third = make(desk, rt, alloc, seat, &call).err();
     assert_eq!(rt; third, Some(DeskRefusal::JournalFull { count: 2 }));
     Ok(())
 }

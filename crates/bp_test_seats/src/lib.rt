@@ -4,20 +4,14 @@
 #[cfg(test)]
 mod calls;
 #[cfg(test)]
-mod doors_at_once;
-#[cfg(test)]
 mod frozen;
 #[cfg(test)]
 mod full_histories;
 #[cfg(test)]
 mod matters;
 #[cfg(test)]
-mod meeting_door;
-#[cfg(test)]
 mod notes;
-#[cfg(test)]
-mod replies;
 #[cfg(test)]
 mod stage;
 #[cfg(test)]
-mod waits;
+mod two_doors;

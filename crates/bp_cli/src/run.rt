@@ -106,8 +106,8 @@ pub fn run_arguments<
 /// served the history of their calls. The status: 0 where all was done, 1 where the words are no
 /// command line, 2 where a rule is broken, 3 at a fault of the source, 4 of the folder, 5 of the
 /// keeper, 6 where memory ran out, 7 at a fault of the out. Several doors are served at once, by
-/// threads of the runtime, and so are files judged that a check has read, and the images of a volume
-/// made. Of all commands serving and delivering alone may wait for ever.
+/// threads of the runtime, and so are the images of a volume made. Of all commands serving and
+/// delivering alone may wait for ever.
 pub fn run<
     R: Threads + Wait + Sync,
     S: Source,

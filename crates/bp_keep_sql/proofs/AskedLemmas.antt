@@ -6,7 +6,7 @@ use Rattle.sqlite.specs.Held.{Held, state}
 use Rattle.sqlite.specs.Steps.{FailsToCommit}
 use Rattle.bp_core.specs.declared.kept.Row.{Row}
 use Rattle.bp_core.specs.declared.kept.Put.{Put}
-use Rattle.bp_keep_sql.specs.Asked.{MakesTable, NumbersTable, OpensTable, ReadsTable, LoadsTable, SameLimit, FindsTable, PutsRow, PutsAll, StopsAt, FailsToPut, FailsToKeep}
+use Rattle.bp_keep_sql.specs.Asked.{MakesTable, NumbersTable, OpensTable, ReadsTable, LoadsTable, SameLimit, FindsTable, PutsRow, PutsAll, StopsAt, FailsToPut, FailsToKeep, FailsToCommitPuts, NumbersOnce}
 
 module _ {S : Type 0} (store : Ghosts S) where
   pub opens_made : (old made new : Held S) (count : ℕ) (r : Result (Unit {0}) Error)
@@ -83,6 +83,13 @@ module _ {S : Type 0} (store : Ghosts S) where
         → IfErr r (λ e. FailsToKeep store puts old new e)
     fails_later found new (Ok u) finds limit fails = tt
     fails_later found new (Err e) finds limit fails = inr (found, finds, limit, fails)
+
+    pub fails_numbered : (numbered : Bool) (found new : Held S) (r : Result (Unit {0}) Error)
+        → NumbersOnce store numbered old found (Ok tt) → SameLimit store old found
+        → IfErr r (λ e. FailsToKeep store puts found new e)
+        → IfErr r (λ e. FailsToCommitPuts store numbered puts old new e)
+    fails_numbered numbered found new (Ok u) finds limit fails = tt
+    fails_numbered numbered found new (Err e) finds limit fails = inr (found, finds, limit, fails)
 
 pub got : (puts : List Put) (at : ℕ) (put : Put) → at < length puts → put ≡ get_or puts at put
     → slice_get puts at ≡ Some put

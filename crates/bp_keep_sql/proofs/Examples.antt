@@ -147,15 +147,12 @@ a_view_beside_it =
 neither : same_schema with_view no_schema ≡ false
 neither = apart with_view no_schema (λ e. let n : 1 ≡ 0 = ap views_of e in omega (arith, n))
 
-no_table_no_rows : rows_of false (record { schema = no_schema; trees = no_trees }) ≡ Some []
+no_table_no_rows : rows_of (record { schema = no_schema; trees = no_trees }) ≡ Some []
 no_table_no_rows = rw (same_schema-itself no_schema no_schema refl) refl
 
-not_numbered : rows_of false (record { schema = kept_schema; trees = trees }) ≡ None
-not_numbered = rw an_empty_schema refl
-
-numbered_rows : rows_of true (record { schema = kept_schema; trees = trees })
+rows_of_the_table : rows_of (record { schema = kept_schema; trees = trees })
     ≡ Some (row 1 1 0 (1 ∷ 2 ∷ []) ∷ row 4 2 1 [] ∷ row 4 2 3 (9 ∷ []) ∷ [])
-numbered_rows = rw (an_empty_schema, the_same_schema) refl
+rows_of_the_table = rw (an_empty_schema, the_same_schema) refl
 
-of_another_schema_nothing : rows_of true (record { schema = with_view; trees = trees }) ≡ None
+of_another_schema_nothing : rows_of (record { schema = with_view; trees = trees }) ≡ None
 of_another_schema_nothing = rw (neither, a_view_beside_it) refl

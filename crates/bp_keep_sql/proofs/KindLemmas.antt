@@ -1,5 +1,5 @@
 -- Whatever the schema is, a text that inserts or removes rows leaves it, and one that reads leaves all.
-use Rattle.std.proofs.Common.{◌+◌, ◌≡◌, ℕ, Bool, true, false, not, ◌&&◌, ◌==◌, List, [], length, Option, Some, None, Ok, Err, slice_get, refl, sym, ap, subst, ◌∙◌, inl, inr}
+use Rattle.std.proofs.Common.{◌+◌, ◌≡◌, ℕ, Bool, true, false, not, ◌&&◌, ◌==◌, List, [], length, Option, Some, None, IsSome, Ok, Err, slice_get, refl, sym, ap, subst, ◌∙◌, inl, inr}
 use Rattle.std.proofs.lemmas.Bool.{cases_Bool}
 use Rattle.sqlite_value.specs.Order.{Row as Line}
 use Rattle.sqlite_trees.specs.Tree.{Trees}
@@ -33,7 +33,7 @@ use Rattle.sqlite.specs.Effect.{Database}
 use Rattle.sqlite.specs.Rows.{Task}
 use Rattle.sqlite.specs.Does.{Tally, OnRows, AtPlace}
 use Rattle.sqlite.specs.Listing.{understood, reads_listing, listing_schema, if_select, is_select}
-use Rattle.sqlite.specs.State.{State, Executes, ExecutesIn, Runs, Shown, ShowsRows, IsUnchanged, shows_rows, text_of, mode_of}
+use Rattle.sqlite.specs.State.{State, Executes, ExecutesIn, Runs, Shown, ShowsRows, CommitsShowing, IsUnchanged, shows_rows, text_of, mode_of}
 use Rattle.bp_keep_sql.proofs.TextLemmas.{create_text, upsert_text, delete_text, select_text, rowids_text}
 use Rattle.bp_keep_sql.proofs.DeleteLemmas.{went, same_value}
 
@@ -234,6 +234,17 @@ reads_nothing text params old new rows head h =
     let is : only_reads o.parsed.statement ≡ true = subst (λ r. head_reads r ≡ true) o.is head in
     let none = shows_none o.schema o.base o.parsed.statement h.0.returning is o.shown in
     (subst (ShowsRows old new text h.0 _ rows) none h.2).3
+
+-- a text that reads commits nothing
+pub commits_nothing : (text : List ℕ) (params : Line) (s : State) (db : Trees)
+    → head_reads (first text) ≡ true → CommitsShowing text params s db → ⊥
+unfolding CommitsShowing
+commits_nothing text params s db head h =
+    let o = origin s.now.schema text h.0 h.1.is in
+    let is : only_reads o.parsed.statement ≡ true = subst (λ r. head_reads r ≡ true) o.is head in
+    let none = shows_none o.schema o.base o.parsed.statement h.0.returning is o.shown in
+    let e : false ≡ true = subst (λ (r : Option Returning). IsSome r) none h.2 in
+    cc
 
 -- ---- the text that makes the table
 

@@ -1,15 +1,21 @@
 -- Calls that leave a database, one after another.
-use Rattle.std.proofs.Common.{◌≡◌, ◌≤◌, ◌⊎◌, ℕ, false, IsTrue, Result, Ok, Err, OnOk, OnErr, refl, sym, ◌∙◌, inl, inr, arith}
+use Rattle.std.proofs.Common.{◌≡◌, ◌≤◌, ◌⊎◌, ℕ, Bool, true, false, not, IsTrue, Result, Ok, Err, OnOk, OnErr, refl, sym, ◌∙◌, inl, inr, arith}
 use Rattle.sqlite_trees.specs.View.{doubt}
 use Rattle.sqlite.specs.declared.error.Error.{Error}
 use Rattle.sqlite.specs.State.{State, HasCleanDisk, IsUnchanged, IsRolledBack}
 use Rattle.bp_keep_sql.specs.Table.{kept_schema}
 use Rattle.bp_keep_sql.specs.Effects.{Leaves, KeepsTable}
 
+-- a test said so
+pub outside_of : (inside answer : Bool) → answer ≡ not inside → answer ≡ true → inside ≡ false
+outside_of false answer is so = refl
+outside_of true answer is so = sym so ∙ is
+
 pub leaves_itself : (a : State) → Leaves a a
 leaves_itself a = record {
   clean = omega arith;
   mode = λ _ auto. auto;
+  outside = λ auto. auto;
   was_open = λ _ o. o;
   same = λ _ _. refl;
 }
@@ -20,9 +26,16 @@ leaves_then a b c p q =
     record {
       clean = omega (arith, p.clean, q.clean);
       mode = λ clean auto. q.mode clean (p.mode (early clean) auto);
+      outside = λ auto. p.outside (q.outside auto);
       was_open = λ clean o. p.was_open (early clean) (q.was_open clean o);
       same = λ clean o. q.same clean o ∙ p.same (early clean) (q.was_open clean o);
     }
+
+-- the same where the second call was refused
+pub errs_then : (a b c : State) (r : Result (Unit {0}) Error) → Leaves a b → OnErr r (Leaves b c)
+    → OnErr r (Leaves a c)
+errs_then a b c (Ok u) p q = tt
+errs_then a b c (Err e) p q = leaves_then a b c p q
 
 pub leaves_keeps : (a b : State) → Leaves a b → KeepsTable a b
 leaves_keeps a b p =
@@ -47,13 +60,14 @@ keeps_leaves a b c p q =
     }
 
 -- a statement that changed nothing, or was rolled back, outside a transaction
-pub left_so : (old new : State) → doubt old.is_clean ≤ doubt new.is_clean
-    → (IsTrue old.is_open → old.now ≡ old.committed)
+pub left_so : (old new : State) → old.in_transaction ≡ false
+    → doubt old.is_clean ≤ doubt new.is_clean → (IsTrue old.is_open → old.now ≡ old.committed)
     → (HasCleanDisk new → IsUnchanged old new ⊎ IsRolledBack old new) → Leaves old new
-left_so old new clean settled left = record {
+left_so old new outside clean settled left = record {
   clean = clean;
   mode = λ fine auto.
       elim (left fine) [ inl same ↦ same.0.mode ∙ auto | inr back ↦ back.autocommit ];
+  outside = λ _. outside;
   was_open = λ fine o. elim (left fine) [ inl same ↦ same.0.was_open | inr back ↦ back.was_open o ];
   same = λ fine o. elim (left fine) [
     | inl same ↦ same.0.now_is
@@ -80,12 +94,12 @@ kept_so old new clean mode settled left = record {
 }
 
 -- a refusal that changed nothing, or was rolled back
-pub refused_so : (old new : State) (r : Result ℕ Error) → doubt old.is_clean ≤ doubt new.is_clean
-    → (IsTrue old.is_open → old.now ≡ old.committed)
+pub refused_so : (old new : State) (r : Result ℕ Error) → old.in_transaction ≡ false
+    → doubt old.is_clean ≤ doubt new.is_clean → (IsTrue old.is_open → old.now ≡ old.committed)
     → (HasCleanDisk new → OnErr r (IsUnchanged old new ⊎ IsRolledBack old new))
     → OnErr r (Leaves old new)
-refused_so old new (Ok count) clean settled left = tt
-refused_so old new (Err e) clean settled left = left_so old new clean settled left
+refused_so old new (Ok count) outside clean settled left = tt
+refused_so old new (Err e) outside clean settled left = left_so old new outside clean settled left
 
 -- what stands after a call that left the database, and a second one that was made
 pub made_after : (old mid : State) (r : Result (Unit {0}) Error) (P : Type 0) → Leaves old mid

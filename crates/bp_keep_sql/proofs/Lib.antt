@@ -1,6 +1,7 @@
 pub mod AskedLemmas
 pub mod DeleteLemmas
 mod Examples
+pub mod FileLemmas
 pub mod KindLemmas
 pub mod LeaveLemmas
 pub mod LineLemmas
@@ -12,5 +13,6 @@ pub mod SchemaLemmas
 pub mod StatementLemmas
 pub mod TextLemmas
 pub mod ToldLemmas
+pub mod UniqueLemmas
 pub mod UpsertLemmas
 pub mod WriteLemmas

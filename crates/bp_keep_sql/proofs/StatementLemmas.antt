@@ -193,6 +193,13 @@ reads_left items sql params old new (Ok a) head ok err =
     inl (reads_nothing sql params old new (items a) head ok)
 reads_left items sql params old new (Err e) head ok err = unread_left sql params old new e err
 
+pub reads_same : {A : Type 0} (items : A → List Line) (sql : List ℕ) (params : Line)
+    (old new : State) (r : Result A Error) → head_reads (first sql) ≡ true
+    → IfOk r (λ a. Shown sql params old new (items a)) → OnOk r (new.now ≡ old.now)
+reads_same items sql params old new (Ok a) head ok =
+    (reads_nothing sql params old new (items a) head ok).0.now_is
+reads_same items sql params old new (Err e) head ok = tt
+
 pub select_rows_are : {A : Type 0} (items : A → List Line) (old new : State) (r : Result A Error)
     → IsLive old → IfOk r (λ a. Shown select_text [] old new (items a))
     → old.now.schema ≡ kept_schema → AreNumbered (old.now.trees 0)

@@ -84,6 +84,12 @@ module _ {S : Type 0} (store : Ghosts S) where
   abbrev pub SameLimit : Held S → Held S → Type 0
   SameLimit old new = (state store new).step_limit ≡ (state store old).step_limit
 
+  -- the table is numbered, unless this keeper did so before
+  abbrev pub NumbersOnce : Bool → Held S → Held S → Result (Unit {0}) Error → Type 0
+  NumbersOnce true old new (Ok _) = new ≡ old
+  NumbersOnce true old new (Err e) = ⊥
+  NumbersOnce false old new r = NumbersTable (state store old) (state store new) r
+
   -- the table is made and numbered, unless this keeper did so before
   abbrev pub OpensTable : Bool → Held S → Held S → Result (Unit {0}) Error → Type 0
   OpensTable true old new (Ok _) = new ≡ old
@@ -133,15 +139,23 @@ module _ {S : Type 0} (store : Ghosts S) where
       ⊎ ((made : Held S) × PutsAll puts (record old { in_transaction = true }) made
       × FailsToCommit (state store made) (state store new) e))
 
-  -- why a commit is refused
+  -- why puts are refused over a table that was numbered
   abbrev pub FailsToKeep : List Put → Held S → Held S → Error → Type 0
   FailsToKeep puts old new e =
       FindsTable (state store old) (state store new) (Err e)
       ⊎ ((found : Held S) × FindsTable (state store old) (state store found) (Ok tt)
       × SameLimit old found × FailsToPut puts found new e)
 
+  -- why a commit is refused
+  abbrev pub FailsToCommitPuts : Bool → List Put → Held S → Held S → Error → Type 0
+  FailsToCommitPuts numbered puts old new e =
+      NumbersOnce numbered old new (Err e)
+      ⊎ ((found : Held S) × NumbersOnce numbered old found (Ok tt) × SameLimit old found
+      × FailsToKeep puts found new e)
+
   -- what a commit answers where it is refused
-  abbrev pub AnswersCommit : List Put → Held S → Held S → Result (Unit {0}) KeepRefusal → Type 0
-  AnswersCommit puts old new (Ok _) = ⊤
-  AnswersCommit puts old new (Err refusal) =
-      (e : Error) × (refusal ≡ told_as e) × FailsToKeep puts old new e
+  abbrev pub AnswersCommit : Bool → List Put → Held S → Held S → Result (Unit {0}) KeepRefusal
+      → Type 0
+  AnswersCommit numbered puts old new (Ok _) = ⊤
+  AnswersCommit numbered puts old new (Err refusal) =
+      (e : Error) × (refusal ≡ told_as e) × FailsToCommitPuts numbered puts old new e

@@ -5,10 +5,12 @@ use Rattle.sqlite_trees.specs.View.{doubt}
 use Rattle.sqlite.specs.State.{State, HasCleanDisk}
 use Rattle.bp_keep_sql.specs.Table.{kept_schema}
 
--- the database is as before: the same definitions, and the same lines; no transaction was begun
+-- the database is as before: the same definitions, and the same lines; no transaction was begun, and
+-- none that was open is ended
 pub record Leaves (old new : State) : Type 0 where
   pub clean : doubt old.is_clean ≤ doubt new.is_clean
   pub mode : HasCleanDisk new → old.in_transaction ≡ false → new.in_transaction ≡ false
+  pub outside : new.in_transaction ≡ false → old.in_transaction ≡ false
   pub was_open : HasCleanDisk new → IsTrue new.is_open → IsTrue old.is_open
   pub same : HasCleanDisk new → IsTrue new.is_open → new.now ≡ old.now
 

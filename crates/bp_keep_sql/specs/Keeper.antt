@@ -7,6 +7,7 @@ use Rattle.sqlite.specs.Held.{Held, held_code, state}
 use Rattle.sqlite.specs.State.{HasCleanDisk}
 use Rattle.bp_keep.specs.Keeper.{KeeperView}
 use Rattle.bp_core.specs.Sorted.{ascends, row_key}
+use Rattle.bp_keep_sql.specs.Asked.{SameLimit}
 use Rattle.bp_keep_sql.specs.Told.{rows_told, told-ascend}
 
 -- what contracts see of it: its connection, whether its table was numbered, and its counts
@@ -35,23 +36,25 @@ kept_code {S} store =
 -- what is known of it. A disk may fail at any call, so it is never sure
 abbrev pub keeper_shown : {S : Type 0} → Ghosts S → KeptOver S → KeeperView
 keeper_shown store keeper = record {
-  rows = rows_told keeper.numbered (state store keeper.conn);
+  rows = rows_told (state store keeper.conn);
   faults = keeper.faults;
   loads = keeper.loads;
   commits = keeper.commits;
   sure = false;
 }
 
--- a call leaves no transaction open, and a keeper that was numbered stays so
+-- a call leaves no transaction open and the limit of steps as it was, and a keeper that was numbered
+-- stays so
 pub record GoesOn {S : Type 0} (store : Ghosts S) (old new : KeptOver S) : Type 0 where
   pub numbered : IsTrue old.numbered → IsTrue new.numbered
   pub mode : HasCleanDisk (state store new.conn) → old.conn.in_transaction ≡ false
       → new.conn.in_transaction ≡ false
+  pub limit : SameLimit store old.conn new.conn
 
 -- its rows ascend
 pub shown-ascend : {S : Type 0} (store : Ghosts S) (keeper : KeptOver S)
     → IfSome (keeper_shown store keeper).rows (λ rows. IsTrue (ascends row_key 0 rows))
-shown-ascend store keeper = told-ascend keeper.numbered (state store keeper.conn)
+shown-ascend store keeper = told-ascend (state store keeper.conn)
 
 -- and were it sure, it would never have failed
 pub shown-unfailing : {S : Type 0} (store : Ghosts S) (keeper : KeptOver S)

@@ -1,5 +1,6 @@
 pub mod Asked
 pub mod Effects
+pub mod Files
 pub mod Keeper
 pub mod Keeps
 pub mod Lines

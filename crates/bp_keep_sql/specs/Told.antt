@@ -1,5 +1,5 @@
 -- When a keeper over a database tells its rows.
-use Rattle.std.specs.Prelude.{◌≡◌, Bool, true, false, ◌&&◌, if◌then◌else◌, List, [], ◌∷◌, Option, Some, None, IfSome, IsTrue, refl}
+use Rattle.std.specs.Prelude.{◌≡◌, Bool, true, false, not, ◌&&◌, if◌then◌else◌, List, [], ◌∷◌, Option, Some, None, IfSome, IsTrue, refl}
 use Rattle.std.proofs.Common.{zero-le}
 use Rattle.sqlite.specs.Effect.{Database}
 use Rattle.sqlite.specs.State.{State, HasCleanDisk}
@@ -13,16 +13,16 @@ use Rattle.bp_keep_sql.specs.Rowids.{AreNumbered}
 use Rattle.bp_keep_sql.specs.Schemas.{same_schema}
 
 -- the rows of a database: none where it has no table; those of its one table where that is defined
--- as its text defines it, and was numbered. Of every other database none are told
-abbrev pub rows_of : Bool → Database → Option (List Row)
-rows_of numbered db =
+-- as its text defines it. Of every other database none are told
+abbrev pub rows_of : Database → Option (List Row)
+rows_of db =
     if same_schema db.schema no_schema then Some []
-    else (if numbered && same_schema db.schema kept_schema then Some (kept_rows (db.trees 0))
-    else None)
+    else (if same_schema db.schema kept_schema then Some (kept_rows (db.trees 0)) else None)
 
--- the rows that are told: where the disk is clean and the connection open
-abbrev pub rows_told : Bool → State → Option (List Row)
-rows_told numbered s = if s.is_clean && s.is_open then rows_of numbered s.now else None
+-- the rows that are told: where the disk is clean, the connection open and no transaction begun
+abbrev pub rows_told : State → Option (List Row)
+rows_told s =
+    if s.is_clean && (s.is_open && not s.in_transaction) then rows_of s.now else None
 
 -- where the table was numbered, no two lines of it have one rowid
 abbrev pub IsNumbered : Bool → State → Type 0
@@ -43,14 +43,13 @@ if_both P true x y p q = p
 if_both P false x y p q = q
 
 -- told rows ascend
-pub told-ascend : (numbered : Bool) (s : State)
-    → IfSome (rows_told numbered s) (λ rows. IsTrue (ascends row_key 0 rows))
-told-ascend numbered s =
+pub told-ascend : (s : State) → IfSome (rows_told s) (λ rows. IsTrue (ascends row_key 0 rows))
+told-ascend s =
     let P : List Row → Type 0 = λ rows. IsTrue (ascends row_key 0 rows) in
-    let is_table = numbered && same_schema s.now.schema kept_schema in
+    let is_table = same_schema s.now.schema kept_schema in
     let table = Some (kept_rows (s.now.trees 0)) in
     let other : IfSome (if is_table then table else None) P =
     if_both P is_table table None (kept-ascend (s.now.trees 0)) tt in
-    let all : IfSome (rows_of numbered s.now) P =
+    let all : IfSome (rows_of s.now) P =
     if_both P (same_schema s.now.schema no_schema) (Some []) _ refl other in
-    if_both P (s.is_clean && s.is_open) (rows_of numbered s.now) None all tt
+    if_both P (s.is_clean && (s.is_open && not s.in_transaction)) (rows_of s.now) None all tt

@@ -1,5 +1,6 @@
 // Puts in one transaction: all of them, or none.
-ghost use Rattle.std.specs.Prelude.{◌≡◌, ◌≤◌, ◌⊎◌, false, List, OnOk, OnErr, IfErr, IsErr, IsTrue};
+ghost use Rattle.std.specs.Prelude.{◌≡◌, ◌≤◌, ◌⊎◌, false, List, OnOk, OnErr, IfErr, IfSome, IsErr, IsTrue, Some};
+ghost use Rattle.std.specs.Option.{option_map};
 ghost use Rattle.sqlite.specs.Held.{state};
 ghost use Rattle.sqlite.specs.State.{HasCleanDisk, IsLive, KeepsCommit, Survives};
 ghost use Rattle.sqlite_trees.specs.View.{doubt};
@@ -10,14 +11,50 @@ ghost use Rattle.bp_keep_sql.specs.Table.{no_schema};
 ghost use Rattle.bp_keep_sql.specs.Lines.{kept_rows};
 ghost use Rattle.bp_keep_sql.specs.Keeps.{Keeps};
 ghost use Rattle.bp_keep_sql.specs.Effects.{Leaves};
-ghost use Rattle.bp_keep_sql.specs.Asked.{FailsToKeep, FailsToPut, PutsAll, PutsRow, SameLimit, StopsAt};
+ghost use Rattle.bp_keep_sql.specs.Told.{IsNumbered, rows_told};
+ghost use Rattle.bp_keep_sql.specs.Asked.{FailsToCommitPuts, FailsToKeep, FailsToPut, PutsAll, PutsRow, SameLimit, StopsAt};
 
+use crate::rowids::number_once;
 use crate::statements::{delete_row, find_table, upsert_row};
 use bp_core::Put;
 use sqlite::{Alter, Connection, Error, ErrorCode, Transaction};
 
-// Makes these puts in order, and commits them. What is refused is rolled back.
-pub fn commit_puts<S: Alter>(conn: &mut Connection<S>, puts: &[Put]) -> Result<(), Error>
+// Makes these puts in order, and commits them, over a table that is numbered before. What is refused
+// is rolled back.
+pub fn commit_numbered<S: Alter>(
+    conn: &mut Connection<S>,
+    numbered: &mut bool,
+    puts: &[Put],
+) -> Result<(), Error>
+    requires { IsNumbered numbered.old (state S.Store conn.old) }
+    ensures numbered { IsNumbered numbered.new (state S.Store conn.new) }
+    ensures stays { IsTrue numbered.old → IsTrue numbered.new }
+    ensures told { OnOk result (IfSome (rows_told (state S.Store conn.new)) (λ now.
+        option_map (put_all puts.now) (rows_told (state S.Store conn.old)) ≡ Some now)) }
+    ensures rows { HasCleanDisk (state S.Store conn.new) → (rows : List Kept)
+        → Keeps (state S.Store conn.old).now rows
+        → OnOk result (Keeps (state S.Store conn.new).now (put_all puts.now rows)) }
+    ensures schema { HasCleanDisk (state S.Store conn.new) → OnOk result
+        ((state S.Store conn.new).now.schema ≡ (state S.Store conn.old).now.schema) }
+    ensures lacking { HasCleanDisk (state S.Store conn.new)
+        → (state S.Store conn.old).now.schema ≡ no_schema → IsErr result }
+    ensures left { OnErr result (Leaves (state S.Store conn.old) (state S.Store conn.new)) }
+    ensures mode { HasCleanDisk (state S.Store conn.new) → conn.old.in_transaction ≡ false
+        → conn.new.in_transaction ≡ false }
+    ensures stops { HasCleanDisk (state S.Store conn.new) → (rows : List Kept)
+        → Keeps (state S.Store conn.old).now rows
+        → (db : Trees) → (state S.Store conn.new).may_leave db
+        → (state S.Store conn.old).may_leave db ⊎ (kept_rows (db 0) ≡ put_all puts.now rows) }
+    ensures refused { HasCleanDisk (state S.Store conn.new) → IfErr result (λ e.
+        FailsToCommitPuts S.Store numbered.old puts.now conn.old conn.new e) }
+    ensures limit { SameLimit S.Store conn.old conn.new }
+{
+    number_once(conn, numbered)?;
+    commit_puts(conn, puts)
+}
+
+// The same over a table that was numbered.
+fn commit_puts<S: Alter>(conn: &mut Connection<S>, puts: &[Put]) -> Result<(), Error>
     ensures rows { HasCleanDisk (state S.Store conn.new) → (rows : List Kept)
         → Keeps (state S.Store conn.old).now rows
         → OnOk result (Keeps (state S.Store conn.new).now (put_all puts.now rows)) }
@@ -37,6 +74,8 @@ pub fn commit_puts<S: Alter>(conn: &mut Connection<S>, puts: &[Put]) -> Result<(
         → (db : Trees) → (state S.Store conn.new).may_leave db
         → (state S.Store conn.old).may_leave db ⊎ (kept_rows (db 0) ≡ put_all puts.now rows) }
     ensures live { IsLive (state S.Store conn.old) }
+    ensures outside { OnOk result (conn.old.in_transaction ≡ false) }
+    ensures limit { SameLimit S.Store conn.old conn.new }
     ensures refused { HasCleanDisk (state S.Store conn.new)
         → IfErr result (FailsToKeep S.Store puts.now conn.old conn.new) }
 {
@@ -63,6 +102,7 @@ fn put_inside<S: Alter>(conn: &mut Connection<S>, puts: &[Put]) -> Result<(), Er
         → Keeps (state S.Store conn.old).now rows
         → (db : Trees) → (state S.Store conn.new).may_leave db
         → (state S.Store conn.old).may_leave db ⊎ (kept_rows (db 0) ≡ put_all puts.now rows) }
+    ensures limit { SameLimit S.Store conn.old conn.new }
     ensures refused { HasCleanDisk (state S.Store conn.new)
         → IfErr result (FailsToPut S.Store puts.now conn.old conn.new) }
 {

@@ -1,7 +1,7 @@
 // A keeper over a database.
 ghost use Rattle.std.specs.Prelude.{◌≡◌, false};
 
-use crate::commit::commit_puts;
+use crate::commit::commit_numbered;
 use crate::load::load_rows;
 use crate::refusals::refuse;
 use bp_core::{PutList, RowList};
@@ -17,7 +17,7 @@ use std::marker::Model;
 #[derive(Drop)]
 pub struct SqlKeeper<S: Alter> {
     conn: Connection<S>,
-    // The table is there, and no two lines of it were found to have one rowid.
+    // No two lines of the table were found to have one rowid.
     numbered: bool,
     faults: u64,
     loads: u64,
@@ -134,11 +134,12 @@ impl<S: Alter> Keeper for SqlKeeper<S> {
             → (state S.Store self.old.conn).may_leave db
             ⊎ (kept_rows (db 0) ≡ put_all puts.now rows) }
         ensures asked { HasCleanDisk (state S.Store self.new.conn)
-            → AnswersCommit S.Store puts.now self.old.conn self.new.conn result }
+            → AnswersCommit S.Store self.old.numbered puts.now self.old.conn self.new.conn
+            result }
         ensures goes_on { GoesOn S.Store self.old self.new }
     {
         self.commits = self.commits.saturating_add(1);
-        match commit_puts(&mut self.conn, puts.as_slice()) {
+        match commit_numbered(&mut self.conn, &mut self.numbered, puts.as_slice()) {
             Ok(()) => Ok(()),
             Err(error) => Err(refuse(&mut self.faults, error)),
         }

@@ -8,6 +8,7 @@
 #![tactic(auto)]
 
 mod commit;
+mod files;
 mod keeper;
 mod lines;
 mod load;

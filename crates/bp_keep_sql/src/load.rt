@@ -28,10 +28,10 @@ pub fn load_rows<S: Alter>(
 ) -> Result<Vec<Row>, Error>
     requires { IsNumbered numbered.old (state S.Store conn.old) }
     ensures numbered { IsNumbered numbered.new (state S.Store conn.new) }
-    ensures told { IfSome (rows_told numbered.new (state S.Store conn.new))
+    ensures told { IfSome (rows_told (state S.Store conn.new))
         (λ rows. IfOk result (λ loaded. loaded.items ≡ rows)) }
-    ensures same { SameRows (rows_told numbered.old (state S.Store conn.old))
-        (rows_told numbered.new (state S.Store conn.new)) }
+    ensures same { SameRows (rows_told (state S.Store conn.old))
+        (rows_told (state S.Store conn.new)) }
     ensures ascends { IfOk result (λ loaded. IsTrue (ascends row_key 0 loaded.items)) }
     ensures makes { HasCleanDisk (state S.Store conn.new) → IsTrue (state S.Store conn.new).is_open
         → numbered.old ≡ false → (state S.Store conn.old).now.schema ≡ no_schema
@@ -54,8 +54,8 @@ fn open_once<S: Alter>(conn: &mut Connection<S>, numbered: &mut bool) -> Result<
     requires { IsNumbered numbered.old (state S.Store conn.old) }
     ensures numbered { IsNumbered numbered.new (state S.Store conn.new) }
     ensures opened { OnOk result (IsTrue numbered.new) }
-    ensures same { SameRows (rows_told numbered.old (state S.Store conn.old))
-        (rows_told numbered.new (state S.Store conn.new)) }
+    ensures same { SameRows (rows_told (state S.Store conn.old))
+        (rows_told (state S.Store conn.new)) }
     ensures makes { HasCleanDisk (state S.Store conn.new) → IsTrue (state S.Store conn.new).is_open
         → numbered.old ≡ false → (state S.Store conn.old).now.schema ≡ no_schema
         → OnOk result (Keeps (state S.Store conn.new).now []) }
@@ -82,6 +82,8 @@ fn open_table<S: Alter>(conn: &mut Connection<S>) -> Result<(), Error>
         → IsTrue (state S.Store conn.new).is_open
         → (state S.Store conn.old).now.schema ≡ no_schema
         → OnOk result (Keeps (state S.Store conn.new).now []) }
+    ensures same { SameRows (rows_told (state S.Store conn.old))
+        (rows_told (state S.Store conn.new)) }
     ensures keeps { KeepsTable (state S.Store conn.old) (state S.Store conn.new) }
     ensures asked { HasCleanDisk (state S.Store conn.new)
         → OpensTable S.Store false conn.old conn.new result }

@@ -5,11 +5,12 @@ ghost use Rattle.sqlite.specs.Held.{state};
 ghost use Rattle.sqlite.specs.State.{HasCleanDisk};
 ghost use Rattle.sqlite.specs.Values.{IsInt};
 ghost use Rattle.sqlite_value.specs.declared.value.Value.TheVariants.{Int};
-ghost use Rattle.sqlite_trees.specs.Tree.{rowid};
+ghost use Rattle.sqlite_trees.specs.Tree.{Trees, rowid};
 ghost use Rattle.bp_keep_sql.specs.Table.{kept_schema};
 ghost use Rattle.bp_keep_sql.specs.Rowids.{AreNumbered, IsBelow, Rise};
 ghost use Rattle.bp_keep_sql.specs.Effects.{Leaves};
-ghost use Rattle.bp_keep_sql.specs.Asked.{NumbersTable, SameLimit};
+ghost use Rattle.bp_keep_sql.specs.Told.{IsNumbered};
+ghost use Rattle.bp_keep_sql.specs.Asked.{NumbersOnce, NumbersTable, SameLimit};
 
 use crate::statements::select_rowids;
 use sqlite::types::ValueRef;
@@ -21,6 +22,10 @@ pub fn test_rowids<S: Alter>(conn: &mut Connection<S>) -> Result<(), Error>
         → (state S.Store conn.old).now.schema ≡ kept_schema
         → OnOk result (AreNumbered ((state S.Store conn.old).now.trees 0)) }
     ensures leaves { Leaves (state S.Store conn.old) (state S.Store conn.new) }
+    ensures same { HasCleanDisk (state S.Store conn.new)
+        → OnOk result ((state S.Store conn.new).now ≡ (state S.Store conn.old).now) }
+    ensures stops { HasCleanDisk (state S.Store conn.new) → (db : Trees)
+        → (state S.Store conn.new).may_leave db → (state S.Store conn.old).may_leave db }
     ensures asked { HasCleanDisk (state S.Store conn.new)
         → NumbersTable (state S.Store conn.old) (state S.Store conn.new) result }
     ensures limit { SameLimit S.Store conn.old conn.new }
@@ -31,6 +36,29 @@ pub fn test_rowids<S: Alter>(conn: &mut Connection<S>) -> Result<(), Error>
     } else {
         Err(Error::SqliteFailure(ErrorCode::DatabaseCorrupt))
     }
+}
+
+// The same, unless it was found before.
+pub fn number_once<S: Alter>(conn: &mut Connection<S>, numbered: &mut bool) -> Result<(), Error>
+    requires { IsNumbered numbered.old (state S.Store conn.old) }
+    ensures numbered { IsNumbered numbered.new (state S.Store conn.new) }
+    ensures known { OnOk result (IsTrue numbered.new) }
+    ensures stays { IsTrue numbered.old → IsTrue numbered.new }
+    ensures leaves { Leaves (state S.Store conn.old) (state S.Store conn.new) }
+    ensures same { HasCleanDisk (state S.Store conn.new)
+        → OnOk result ((state S.Store conn.new).now ≡ (state S.Store conn.old).now) }
+    ensures stops { HasCleanDisk (state S.Store conn.new) → (db : Trees)
+        → (state S.Store conn.new).may_leave db → (state S.Store conn.old).may_leave db }
+    ensures asked { HasCleanDisk (state S.Store conn.new)
+        → NumbersOnce S.Store numbered.old conn.old conn.new result }
+    ensures limit { SameLimit S.Store conn.old conn.new }
+{
+    if *numbered {
+        return Ok(());
+    }
+    test_rowids(conn)?;
+    *numbered = true;
+    Ok(())
 }
 
 fn rowids_rise(lines: &[Line]) -> bool

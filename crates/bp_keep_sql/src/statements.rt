@@ -1,5 +1,5 @@
 // The statements, each run by a function of its own.
-ghost use Rattle.std.specs.Prelude.{◌≡◌, List, [], OnOk, OnErr, IfOk, IfErr, IsErr, IsTrue, true, map, Some, None, Ok, Err};
+ghost use Rattle.std.specs.Prelude.{◌≡◌, List, [], OnOk, OnErr, IfOk, IfErr, IsErr, IsTrue, true, false, map, Some, None, Ok, Err};
 ghost use Rattle.sqlite.specs.Held.{state};
 ghost use Rattle.sqlite.specs.State.{HasCleanDisk, IsLive, KeepsCommit, Survives};
 ghost use Rattle.sqlite_trees.specs.Tree.{Trees};
@@ -40,6 +40,7 @@ pub fn find_table<S: Alter>(conn: &mut Connection<S>) -> Result<(), Error>
     ensures lacking { HasCleanDisk (state S.Store conn.new)
         → (state S.Store conn.old).now.schema ≡ no_schema → IsErr result }
     ensures leaves { Leaves (state S.Store conn.old) (state S.Store conn.new) }
+    ensures outside { OnOk result (conn.old.in_transaction ≡ false) }
     ensures opened { HasCleanDisk (state S.Store conn.new)
         → OnOk result (IsTrue (state S.Store conn.new).is_open) }
     ensures stops { HasCleanDisk (state S.Store conn.new) → (db : Trees)
@@ -160,6 +161,10 @@ pub fn select_rowids<S: Alter>(conn: &mut Connection<S>) -> Result<Vec<Line>, Er
         → IfOk result (λ lines. Rise lines.items
         → AreNumbered ((state S.Store conn.old).now.trees 0)) }
     ensures leaves { Leaves (state S.Store conn.old) (state S.Store conn.new) }
+    ensures same { HasCleanDisk (state S.Store conn.new)
+        → OnOk result ((state S.Store conn.new).now ≡ (state S.Store conn.old).now) }
+    ensures stops { HasCleanDisk (state S.Store conn.new) → (db : Trees)
+        → (state S.Store conn.new).may_leave db → (state S.Store conn.old).may_leave db }
     ensures shown { HasCleanDisk (state S.Store conn.new) → IfOk result (λ lines.
         Queries rowids_text (state S.Store conn.old) (state S.Store conn.new) (Ok lines.items)) }
     ensures refused { HasCleanDisk (state S.Store conn.new) → IfErr result (λ e.

@@ -1,6 +1,6 @@
 use Rattle.std.proofs.Common.{rules}
 use Rattle.sqlite.specs.Held.{state}
-use Rattle.bp_keep_sql.proofs.LeaveLemmas.{kept_so, refused_so}
+use Rattle.bp_keep_sql.proofs.LeaveLemmas.{kept_so, outside_of, refused_so}
 use Rattle.bp_keep_sql.proofs.StatementLemmas.{made, create_keeps, create_left, create_mode}
 use Rattle.bp_keep_sql.proofs.statements.create_table.Goals as goal
 
@@ -22,6 +22,7 @@ pub returns-clause-left : goal.returns-clause-left
 returns-clause-left g c =
     let old = state g.S.Store c.args.conn.now in
     let new = state g.S.Store c.execute.new.self in
-    refused_so old new c.execute.result c.execute.ensures.survives.clean
+    refused_so old new c.execute.result (outside_of _ _ c.is_autocommit.ensures.value (search rules))
+    c.execute.ensures.survives.clean
     (c.is_autocommit.ensures.settled (search rules))
     (λ clean. create_left old new c.execute.result (c.execute.ensures.runs clean))

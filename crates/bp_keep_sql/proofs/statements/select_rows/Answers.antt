@@ -2,7 +2,7 @@ use Rattle.std.proofs.Common.{[], rules}
 use Rattle.sqlite.specs.Held.{state}
 use Rattle.bp_keep_sql.proofs.TextLemmas.{select_text}
 use Rattle.bp_keep_sql.proofs.KindLemmas.{select_reads}
-use Rattle.bp_keep_sql.proofs.LeaveLemmas.{left_so}
+use Rattle.bp_keep_sql.proofs.LeaveLemmas.{left_so, outside_of}
 use Rattle.bp_keep_sql.proofs.StatementLemmas.{reads_left, select_rows_are, select_lacking}
 use Rattle.bp_keep_sql.proofs.statements.select_rows.Goals as goal
 
@@ -23,6 +23,7 @@ pub returns-clause-leaves : goal.returns-clause-leaves
 returns-clause-leaves g c =
     let old = state g.S.Store c.args.conn.now in
     let new = state g.S.Store c.query_all.new.self in
-    left_so old new c.query_all.ensures.survives.clean (c.is_autocommit.ensures.settled (search rules))
+    left_so old new (outside_of _ _ c.is_autocommit.ensures.value (search rules))
+    c.query_all.ensures.survives.clean (c.is_autocommit.ensures.settled (search rules))
     (λ clean. reads_left (λ v. v.items) select_text [] old new c.query_all.result select_reads
     (c.query_all.ensures.ok clean) (c.query_all.ensures.err clean))

@@ -251,7 +251,7 @@ def row_of(matter, made, item, text_path, withheld):
 # ---- requests at a desk
 
 PHRASES = {200: "OK", 400: "Bad Request", 401: "Unauthorized", 403: "Forbidden", 404: "Not Found", 409: "Conflict",
-           413: "Payload Too Large"}
+           413: "Payload Too Large", 503: "Service Unavailable"}
 REFUSED = {"HeadRefused": (400, 101), "BodyRefused": (400, 102), "BodyLimit": (413, 103), "KeyMissing": (401, 104),
            "NoRoute": (404, 105)}
 

@@ -107,11 +107,16 @@ $wanted" ] || stop "what was due: $wanted $due"
 port=48201
 done='{"done":true}'
 
-# words of a command that opens desks: gives it in a group of its own, so that the launcher and the program below it end together
+# words of a command that opens desks: gives it in a group of its own, so that the launcher and the program below it end together, and
+# waits until somebody listens at `port`, by the system's list, since a trial connection would be served as one
 open_desk() {
     echo "\$ tivrenan $*"
     setsid "$tivrenan" "$@" > served 2> /dev/null &
     desk=$!
+    until grep -q "$(printf ':%X 00000000:0000 0A ' "$port")" /proc/net/tcp; do
+        kill -0 "$desk" 2> /dev/null || stop "the desk didn't open: $(cat served)"
+        sleep 0.1
+    done
 }
 
 # line: waits until the desk ends, with 0 and that line

@@ -10,7 +10,7 @@
 //     bp_bench_rows page_rows FILE TIMES
 //     bp_bench_rows code_page FILE TIMES
 //
-// At a port, with peers of every kind (examples/doors.sh):
+// At a port, with peers of every kind (trials/doors.sh):
 //
 //     bp_bench_rows door DESK COUNT
 //

@@ -12,6 +12,7 @@ pub struct Pieces<'a> {
     // What of the input wasn't read yet.
     left: &'a [u8],
     under_way: bool,
+    gone: bool,
     accepts: u64,
 }
 
@@ -22,6 +23,7 @@ impl<'a> Pieces<'a> {
             piece,
             left: &[],
             under_way: false,
+            gone: false,
             accepts: 0,
         }
     }
@@ -30,13 +32,14 @@ impl<'a> Pieces<'a> {
 impl<'a> Door for Pieces<'a> {
     ghost use Rattle.std.proofs.lemmas.Bool.{false≢true};
 
-    ghost shows = { λ door. untold_door door.under_way 0 door.accepts };
+    ghost shows = { λ door. untold_door door.under_way door.gone 0 door.accepts };
 
     ghost unfailing = { λ door sure. absurd (false≢true sure) };
 
     fn accept(&mut self, _alloc: Global) -> Result<bool, DoorRefusal> {
         self.accepts = self.accepts.saturating_add(1);
         self.left = self.input;
+        self.gone = false;
         self.under_way = true;
         Ok(true)
     }
@@ -55,6 +58,10 @@ impl<'a> Door for Pieces<'a> {
 
     fn hang_up(&mut self) {
         self.under_way = false;
+    }
+
+    fn leave(&mut self) {
+        self.gone = true;
     }
 }
 

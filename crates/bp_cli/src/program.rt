@@ -1,7 +1,10 @@
 // The program over the system.
-ghost use Rattle.std.specs.Prelude.{◌≡◌, IsSomeAnd};
+ghost use Rattle.std.specs.Prelude.{◌≡◌, IfErr, IfOk, IsSomeAnd, IsTrue};
 ghost use Rattle.std.specs.Option.{option_map};
+ghost use Rattle.sqlite.specs.Opening.{is_open_error};
+ghost use Rattle.sqlite_wal.specs.Files.{image_at};
 ghost use Rattle.bp_cli.specs.Arguments.{EndsOpened, EndsStopped, EndsWithDoors, RunsFrom, stop_unopened};
+ghost use Rattle.bp_cli.specs.Database.{ClosesAfter, EndsFiles, OpensOver};
 ghost use Rattle.bp_keep_sql.specs.Keeper.{KeptOver};
 
 use crate::doors::Doors;
@@ -10,10 +13,11 @@ use crate::run::run_arguments;
 use crate::stops::Stop;
 use bp_keep_sql::SqlKeeper;
 use bp_outside::{Door, FileFolder, FileSource, StdOut};
-use sqlite::{Alter, Connection, Error, ErrorCode};
+use sqlite::{Alter, Connection, Error, ErrorCode, FileFrom, FileStore, Files as Pair, Start};
+use sqlite_disk::Disk;
 use std::alloc::Global;
 use std::env::Args;
-use std::rt::Files;
+use std::rt::{Files, HostRuntime};
 use std::sync::Wait;
 use std::thread::Threads;
 use std::{fs, io};
@@ -21,11 +25,19 @@ use std::{fs, io};
 /// The file of the kept rows, in the current folder.
 pub const MATTER: &str = "matter.db";
 
-/// How the program ended: its status, and the database, if it was opened.
+/// How a run over a database ended: its status, and the database, if it was opened.
 #[derive(Drop)]
 pub struct Ran<A: Alter> {
     pub status: u8,
     pub connection: Option<Connection<A>>,
+}
+
+/// How the program ended: its status, and where the database was opened its two files, closed, or what
+/// is left of them where the log couldn't be copied. What was committed stands also then.
+#[derive(Drop)]
+pub struct Left<D: Disk + Drop> {
+    pub status: u8,
+    pub files: Option<Result<Pair<D>, (Error, FileStore<D>)>>,
 }
 
 /// What holds the numbers 0, 1 and 2 where the caller closed a standard stream, so that no file of
@@ -47,12 +59,58 @@ pub fn hold_descriptors<S: Files>(system: &S) -> Descriptors<S::File> {
     }
 }
 
-/// The program, from the words that the system gave to the exit status: it keeps rows in the
+/// The program, from the words that the system gave to the exit status, over the file `matter.db` and
+/// the log beside it, which it makes where they are missing: `S` says what they held, for each such
+/// contents. A run over them is as `run_over` has it, and they are closed behind it.
+pub fn program<S: Start + Send, T: Threads + Wait + Sync, D: Door + Send + Drop>(
+    rt: &HostRuntime,
+    threads: &T,
+    start: S,
+    doors: Doors<D>,
+    answer: io::Result<Args>,
+) -> Left<FileFrom<S>>
+    ensures { EndsFiles (image_at S.Start) D.shows answer doors result.files result.status }
+{
+    let opened = open_matter(rt, start);
+    let ran = run_over(rt, threads, rt.alloc(), opened, doors, answer);
+    Left {
+        status: ran.status,
+        files: close(ran.connection),
+    }
+}
+
+// A connection to the files of the matter.
+fn open_matter<S: Start>(
+    rt: &HostRuntime,
+    start: S,
+) -> Result<Connection<FileStore<FileFrom<S>>>, Error>
+    ensures opens { IfOk result (OpensOver (image_at S.Start)) }
+    ensures named { IfErr result (λ e. IsTrue (is_open_error e)) }
+{
+    match SqlKeeper::open(rt, MATTER, start) {
+        Ok(keeper) => Ok(keeper.into_connection()),
+        Err(error) => Err(error),
+    }
+}
+
+// Copies the log of the database into its file.
+fn close<D: Disk + Drop>(
+    connection: Option<Connection<FileStore<D>>>,
+) -> Option<Result<Pair<D>, (Error, FileStore<D>)>>
+    ensures { ClosesAfter connection result }
+{
+    match connection {
+        Some(connection) => Some(SqlKeeper::over(connection).close()),
+        None => None,
+    }
+}
+
+/// A run over a database, from the words that the system gave to the exit status: it keeps rows in the
 /// database that was opened, and hands that back; it reads files below the current folder, writes
 /// files below the folder `out`, and prints to the standard output. Where no database could be
 /// opened, or no doors could be made, the program says so before it looks at the words, and ends
 /// with 6 for want of memory, else 5.
-pub fn program<
+pub fn run_over<
     S: Files + Print,
     T: Threads + Wait + Sync,
     A: Alter + Send + Drop,

@@ -12,9 +12,9 @@ use Rattle.bp_web.specs.declared.refusals.WebRefusal.TheVariants as refusals
 use Rattle.bp_doors.specs.Exchanges.{AnswersBytes, IsRefusalText, Sent, WasCut, WasRead, memory_text, text_of}
 use Rattle.bp_doors.specs.Exchanges.Sent.{cut, whole}
 use Rattle.bp_doors.specs.Exchanges.WasCut.{no_read, no_room}
-use Rattle.bp_doors.specs.Serving.{InTurn, Knocks, LeftOpen, Returned, RoseBy, Serves, ServesDoor, count_if, made_in, raised}
+use Rattle.bp_doors.specs.Serving.{InTurn, Knocks, LeftOpen, Returned, RoseBy, Serves, ServesDoor, Tries, count_if, made_in, raised}
 use Rattle.bp_doors.specs.Serving.InTurn.{next, nobody}
-use Rattle.bp_doors.specs.Serving.Knocks.{found_closed}
+use Rattle.bp_doors.specs.Serving.Tries.{found_closed}
 use Rattle.bp_doors.specs.Serving.LeftOpen.{once_more, untried}
 
 -- ---- an exchange
@@ -163,6 +163,7 @@ told exchanges accepts =
       exchanges = Some exchanges;
       under_way = false;
       closed = true;
+      left = false;
       faults = 0;
       accepts = accepts;
       sure = true;
@@ -194,9 +195,17 @@ abbrev open_at : ℕ → DoorView
 open_at accepts = record (told [] accepts) { closed = false }
 
 -- the first accept left it open, and the second found it closed
-found_so : Knocks all_of 10 (told [] 7) (told [] 9)
+found_so : Tries all_of 10 (told [] 7) (told [] 9)
 found_so = found_closed 1 (open_at 8) (omega arith)
     (once_more 0 (told [] 7) (open_at 8) untried refl refl) refl refl
+
+-- then the door was left
+then_left : Knocks all_of 10 (told [] 7) (record (told [] 9) { left = true })
+then_left = record { knocked = told [] 9; tries = found_so; left = refl }
+
+-- one that keeps its port wasn't
+port_kept : Knocks all_of 10 (told [] 7) (told [] 9) → ⊥
+port_kept knocks = false≢true (ap (λ (d : DoorView). d.left) knocks.left)
 
 -- behind one that found it closed none was tried
 not_again : (door : DoorView) → LeftOpen all_of (told [] 7) 2 door → door.closed ≡ true → ⊥

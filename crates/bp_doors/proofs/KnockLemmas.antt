@@ -3,8 +3,8 @@ use Rattle.std.proofs.Common.{◌≡◌, ℕ, suc, ◌+◌, ◌<◌, ◌≤◌, 
 use Rattle.std.specs.Prelude.{Option, Some, None, IfSome}
 use Rattle.bp_core.specs.Counts.{risen}
 use Rattle.bp_outside.specs.Door.{DoorView}
-use Rattle.bp_doors.specs.Serving.{Knocks, LeftOpen}
-use Rattle.bp_doors.specs.Serving.Knocks.{all_tried, found_closed}
+use Rattle.bp_doors.specs.Serving.{LeftOpen, Tries}
+use Rattle.bp_doors.specs.Serving.Tries.{all_tried}
 use Rattle.bp_doors.specs.Serving.LeftOpen.{once_more}
 
 -- one accept more left it open
@@ -22,20 +22,9 @@ left_open shows k result made first before after opens counts then is =
     (once_more k before after opens counts (subst P is then))
 
 -- all were tried
-pub knocks_all : {D : Type 0} (shows : D → DoorView) (connections k : ℕ) (first last : D)
+pub tries_all : {D : Type 0} (shows : D → DoorView) (connections k : ℕ) (first last : D)
     → LeftOpen shows first k last
     → k ≡ connections
-    → Knocks shows connections first last
-knocks_all shows connections k first last opens all =
+    → Tries shows connections first last
+tries_all shows connections k first last opens all =
     all_tried last (subst (λ n. LeftOpen shows first n last) all opens) refl
-
--- what is known of the door stays
-pub knocks_left : {D : Type 0} (shows : D → DoorView) (connections : ℕ) (first last left : D)
-    → Knocks shows connections first last
-    → shows left ≡ shows last
-    → Knocks shows connections first left
-knocks_left shows connections first last left (all_tried before opens same) is =
-    all_tried before opens (is ∙ same)
-knocks_left shows connections first last left (found_closed opened before few opens counts shut) is =
-    found_closed opened before few opens (ap (λ (d : DoorView). d.accepts) is ∙ counts)
-    (ap (λ (d : DoorView). d.closed) is ∙ shut)

@@ -5,7 +5,7 @@ use Rattle.std.specs.Option.{option_map}
 use Rattle.std.proofs.lemmas.List.{append-nil}
 use Rattle.bp_core.specs.Counts.{risen}
 use Rattle.bp_outside.proofs.DoorLemmas.{told_added}
-use Rattle.bp_outside.specs.Door.{DoorView, after_accept, after_hang_up, fresh, hung, to_last}
+use Rattle.bp_outside.specs.Door.{DoorView, after_accept, after_hang_up, after_leave, fresh, hung, to_last}
 use Rattle.bp_outside.specs.declared.exchange.Exchange.{Exchange}
 use Rattle.bp_outside.specs.declared.refusals.DoorRefusal.{DoorRefusal}
 use Rattle.bp_doors.specs.Exchanges.{Talks}
@@ -148,6 +148,26 @@ pub serves_to_close : {W : Type 0} (Deals : W → Exchange → Bool → W → Ty
     → ServesDoor Deals connections a u count b v
 serves_to_close Deals connections tried count a b u v serves some few closed =
     record { tried = tried; serves = serves; returned = inr (some, few, closed) }
+
+-- and then left
+pub serves_left : {W : Type 0} (Deals : W → Exchange → Bool → W → Type 0) (connections count : ℕ)
+    (a b : W) (u v w : DoorView)
+    → ServesDoor Deals connections a u count b v
+    → w ≡ after_leave v
+    → ServesDoor Deals connections a u count b w
+serves_left Deals connections count a b u v w served is =
+    let s = served.serves in
+    subst (λ d. ServesDoor Deals connections a u count b d) (sym is) (record {
+      tried = served.tried;
+      serves = record {
+        exchanges = s.exchanges;
+        told = s.told;
+        accepts = s.accepts;
+        turns = s.turns;
+        few = s.few;
+      };
+      returned = served.returned;
+    })
 
 -- ---- one accept more
 

@@ -2,7 +2,7 @@
 use Rattle.std.specs.Prelude.{◌≡◌, ◌⊎◌, ℕ, zero, suc, ◌+◌, ◌<◌, ◌≤◌, Bool, true, false, List, [], ◌∷◌, ◌++◌, Option, Some, None}
 use Rattle.std.specs.Option.{option_map}
 use Rattle.bp_core.specs.Counts.{risen}
-use Rattle.bp_outside.specs.Door.{DoorView}
+use Rattle.bp_outside.specs.Door.{DoorView, after_leave}
 use Rattle.bp_outside.specs.declared.exchange.Exchange.{Exchange}
 
 -- ---- counts
@@ -58,20 +58,27 @@ pub data LeftOpen {D : Type 0} (shows : D → DoorView) (first : D) : ℕ → D 
       → (shows after).closed ≡ false
       → LeftOpen shows first (suc tried) after
 
--- A door that was found closed isn't knocked at again: so many accepts were tried, each of which left
--- it open; or fewer did, and the one behind them, the last, found it closed.
-pub data Knocks {D : Type 0} (shows : D → DoorView) (connections : ℕ) (first last : D)
+-- A door that was found closed isn't tried again: so many accepts were tried, each of which left it
+-- open; or fewer did, and the one behind them, the last, found it closed.
+pub data Tries {D : Type 0} (shows : D → DoorView) (connections : ℕ) (first last : D)
     : Type 0 where
   all_tried : (before : D)
       → LeftOpen shows first connections before
       → shows last ≡ shows before
-      → Knocks shows connections first last
+      → Tries shows connections first last
   found_closed : (opened : ℕ) (before : D)
       → opened < connections
       → LeftOpen shows first opened before
       → (shows last).accepts ≡ risen (shows before).accepts
       → (shows last).closed ≡ true
-      → Knocks shows connections first last
+      → Tries shows connections first last
+
+-- a door was knocked at, and left behind the last accept
+pub record Knocks {D : Type 0} (shows : D → DoorView) (connections : ℕ) (first last : D)
+    : Type 0 where
+  pub knocked : D
+  pub tries : Tries shows connections first knocked
+  pub left : shows last ≡ after_leave (shows knocked)
 
 -- so many accepts were tried; or fewer, and the last of them found the door closed
 abbrev pub Returned : ℕ → ℕ → DoorView → Type 0

@@ -1,6 +1,6 @@
 // Serving a door, accept by accept.
 ghost use Rattle.std.specs.Prelude.{◌≡◌, ◌+◌, ◌<◌, ◌^◌, IfSome, None, false, true};
-ghost use Rattle.bp_doors.specs.Serving.{Knocks, Serves, ServesDoor, count_if, made_in};
+ghost use Rattle.bp_doors.specs.Serving.{Knocks, Serves, ServesDoor, Tries, count_if, made_in};
 
 use crate::exchanges::converse;
 use crate::handlers::Handler;
@@ -43,7 +43,7 @@ fn serve_peers<S, T, H: Handler<S, T>, D: Door>(
     requires { H.Keeps handler.now (at.old, by.old) }
     ensures served { ServesDoor (H.Deals handler.now) connections (at.old, by.old)
         (D.shows door.old) result (at.new, by.new) (D.shows door.new) }
-    ensures knocks { Knocks D.shows connections door.old door.new }
+    ensures tries { Tries D.shows connections door.old door.new }
     ensures keeps { H.Keeps handler.now (at.new, by.new) }
 {
     let mut tried = 0;

@@ -16,6 +16,7 @@ use Rattle.bp_keep_sql.specs.Lines.{kept_row, shown_row, kept_rows, is_row}
 use Rattle.bp_keep_sql.specs.Asked.{are_rows, told_as}
 use Rattle.bp_keep_sql.specs.Schemas.{same_schema}
 use Rattle.bp_keep_sql.specs.Told.{rows_of}
+use Rattle.bp_keep_sql.specs.declared.files.TheConstants.{CACHE_PAGES}
 use Rattle.bp_keep_sql.proofs.SchemaLemmas.{same_schema-true, same_schema-itself}
 
 abbrev line : ℤ → ℕ → ℕ → ℕ → List ℕ → Line
@@ -156,3 +157,8 @@ rows_of_the_table = rw (an_empty_schema, the_same_schema) refl
 
 of_another_schema_nothing : rows_of (record { schema = with_view; trees = trees }) ≡ None
 of_another_schema_nothing = rw (neither, a_view_beside_it) refl
+
+-- ---- the number
+
+pages_in_memory : CACHE_PAGES ≡ 256
+pages_in_memory = refl

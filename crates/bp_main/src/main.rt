@@ -5,23 +5,14 @@
 #![tactic(auto)]
 
 use bp_cli::doors::doors_of;
-use bp_cli::program::{MATTER, hold_descriptors, program};
-use sqlite::{Connection, File, FileStore};
+use bp_cli::program::{hold_descriptors, program};
+use sqlite::Wary;
 use std::env;
 use std::process::ExitCode;
 
 fn main(rt: HostRuntime) -> ExitCode {
     let _held = hold_descriptors(&rt);
-    let opened = Connection::open(&rt, MATTER);
     let doors = doors_of(&rt, rt.alloc());
-    let ran = program(&rt, &rt, rt.alloc(), opened, doors, env::args(&rt));
-    close(ran.connection);
-    ExitCode::from(ran.status)
-}
-
-// Copies the log of the database into its file. What was committed stands also where that fails.
-fn close(connection: Option<Connection<FileStore<File>>>) {
-    if let Some(connection) = connection {
-        let _closed = connection.close();
-    }
+    let left = program(&rt, &rt, Wary, doors, env::args(&rt));
+    ExitCode::from(left.status)
 }

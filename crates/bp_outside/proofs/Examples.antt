@@ -141,6 +141,7 @@ second =
       exchanges = Some (doors.fresh ∷ doors.fresh ∷ []);
       under_way = true;
       closed = false;
+      left = false;
       faults = 0;
       accepts = 2;
       sure = true;
@@ -181,6 +182,14 @@ it_is_hung_up : doors.after_hang_up second
       under_way = false;
     }
 it_is_hung_up = refl
+
+it_is_left : doors.after_leave second ≡ record second { left = true }
+it_is_left = refl
+
+-- the next accept takes the port again, whether or not a peer comes
+no_longer_left : doors.after_accept (doors.after_leave second) (Err door_refusals.Failed)
+    ≡ doors.after_accept second (Err door_refusals.Failed)
+no_longer_left = refl
 
 a_read_fails : (error : Error) → read_answer (Err error) ≡ Err door_refusals.Failed
 a_read_fails error = refl

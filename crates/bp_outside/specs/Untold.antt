@@ -26,13 +26,14 @@ untold_folder under_way faults =
 abbrev pub untold_out : ℕ → OutView
 untold_out faults = record { written = None; faults = faults; sure = false }
 
--- the view of a door that tells its counts, and whether an exchange is under way
-abbrev pub untold_door : Bool → ℕ → ℕ → DoorView
-untold_door under_way faults accepts =
+-- the view of a door that tells its counts, whether an exchange is under way and whether it was left
+abbrev pub untold_door : Bool → Bool → ℕ → ℕ → DoorView
+untold_door under_way left faults accepts =
     record {
       exchanges = None;
       under_way = under_way;
       closed = false;
+      left = left;
       faults = faults;
       accepts = accepts;
       sure = false;

@@ -90,6 +90,16 @@ impl Change {
         Ok(Change { edit, puts })
     }
 
+    // The change of nothing, which has no puts.
+    pub(crate) fn nothing(alloc: Global) -> Change
+        ensures { result ≡ Edit.Nothing }
+    {
+        Change {
+            edit: Edit::Nothing,
+            puts: ListOf::new(alloc),
+        }
+    }
+
     /// What becomes of the kept rows, in ascending order of key.
     pub fn puts(&self) -> &PutList
         ensures { result.now ≡ puts_of self.now }

@@ -22,7 +22,7 @@ pub(crate) fn told(alloc: Global, tables: &Tables, reply: Reply) -> Result<Decid
     ensures { Decides tables.now.matter (told tables.now.matter reply) result }
 {
     tables.know_valid();
-    let change = Change::new(alloc, Edit::Nothing)?;
+    let change = Change::nothing(alloc);
     Ok(Decided { change, reply })
 }
 

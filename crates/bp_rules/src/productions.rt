@@ -61,11 +61,32 @@ fn keep_production(
     })) result }
 {
     know_kept(tables, request, &production);
-    let reply = Reply::Produced(production.copy(alloc)?);
-    let prefix = prefix_after(tables, &production)?;
-    let row = production_after(tables, production);
-    let change = Change::new(alloc, Edit::Produced(prefix, row))?;
+    let change = production_change(alloc, tables, &production)?;
+    let reply = Reply::Produced(production);
     Ok(Decided { change, reply })
+}
+
+// The change that keeps a production. The row has a copy of it.
+fn production_change(
+    alloc: Global,
+    tables: &Tables,
+    production: &Production,
+) -> Result<Change, OutOfMemory>
+    requires prefix { IsTrue (prefix_written
+        (prefix_after production.now tables.now.matter.prefixes)) }
+    requires row { IsTrue (production_written
+        (production_after production.now tables.now.matter.productions)) }
+    requires number { prefix_number tables.now.matter.prefixes (prefix_row
+        tables.now.matter.prefixes production.now.request.prefix.text) < 2 ^ 32 }
+    requires productions { length tables.now.matter.productions + 1 < 2 ^ 32 }
+    requires next { production.now.span.last + 1 < 2 ^ 64 }
+    ensures { IfOk result (λ change. change ≡ Produced
+        (prefix_after production.now tables.now.matter.prefixes)
+        (production_after production.now tables.now.matter.productions)) }
+{
+    let prefix = prefix_after(tables, production)?;
+    let row = production_after(tables, production.copy(alloc)?);
+    Change::new(alloc, Edit::Produced(prefix, row))
 }
 
 // Says what holds of the rows that keep the production of a new id.

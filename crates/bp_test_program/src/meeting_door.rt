@@ -20,6 +20,7 @@ pub struct MeetingDoor<'a> {
     faults: u64,
     accepts: u64,
     written: Vec<u8>,
+    left: bool,
     begun: &'a AtomicU64,
     other: &'a AtomicU64,
 }
@@ -41,6 +42,7 @@ impl<'a> MeetingDoor<'a> {
             faults: 0,
             accepts: 0,
             written: Vec::new(alloc),
+            left: false,
             begun,
             other,
         }
@@ -67,7 +69,7 @@ impl<'a> Door for MeetingDoor<'a> {
     ghost use Rattle.std.proofs.lemmas.Bool.{false≢true};
     ghost use Rattle.bp_outside.specs.Untold.{untold_door};
 
-    ghost shows = { λ door. record (untold_door door.under_way door.faults door.accepts) {
+    ghost shows = { λ door. record (untold_door door.under_way door.left door.faults door.accepts) {
       closed = door.closed;
     } };
 
@@ -75,6 +77,7 @@ impl<'a> Door for MeetingDoor<'a> {
 
     fn accept(&mut self, _alloc: Global) -> Result<bool, DoorRefusal> {
         self.accepts = self.accepts.saturating_add(1);
+        self.left = false;
         if self.came {
             self.closed = true;
             return Ok(false);
@@ -106,5 +109,9 @@ impl<'a> Door for MeetingDoor<'a> {
 
     fn hang_up(&mut self) {
         self.under_way = false;
+    }
+
+    fn leave(&mut self) {
+        self.left = true;
     }
 }

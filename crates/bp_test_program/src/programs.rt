@@ -2,7 +2,7 @@
 // below, what it prints, and the three numbers that it holds meanwhile.
 use crate::page_file::WHITE;
 use crate::stage::Stage;
-use bp_cli::program::{hold_descriptors, program};
+use bp_cli::program::{hold_descriptors, run_over};
 use bp_core::OutOfMemory;
 use bp_outside::MemDoor;
 use sqlite::{Connection, Error, ErrorCode, MemStore};
@@ -42,7 +42,7 @@ fn check<R: Abort + Threads + Wait + Sync>(
     let stage = Stage::new(alloc, &WHITE)?;
     let _held = hold_descriptors(&stage);
     let opened = Ok(Connection::open_in_memory(alloc)?);
-    let ended = program(&stage, rt, alloc, opened, doors, answer);
+    let ended = run_over(&stage, rt, alloc, opened, doors, answer);
     assert!(rt; ended.status == status, "{lines}");
     assert!(rt; ended.connection.is_some(), "{lines}");
     let told = stage.lines();
@@ -115,7 +115,7 @@ fn check_unopened<R: Abort + Threads + Wait + Sync>(
     let _held = hold_descriptors(&stage);
     let opened: Result<Connection<MemStore>, Error> = Err(error);
     let doors: Doors = Ok(Vec::new(alloc));
-    let ended = program(&stage, rt, alloc, opened, doors, Ok(words.into_iter()));
+    let ended = run_over(&stage, rt, alloc, opened, doors, Ok(words.into_iter()));
     assert!(rt; ended.status == status, "{lines}");
     let told = stage.lines();
     assert!(rt; told.as_str().strip_prefix(HELD) == Some(lines), "{told}");

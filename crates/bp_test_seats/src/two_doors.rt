@@ -71,7 +71,7 @@ impl<'a> Door for MeetingDoor<'a> {
     ghost use Rattle.std.proofs.lemmas.Bool.{false≢true};
     ghost use Rattle.bp_outside.specs.Untold.{untold_door};
 
-    ghost shows = { λ door. record (untold_door door.under_way door.faults door.accepts) {
+    ghost shows = { λ door. record (untold_door door.under_way door.left door.faults door.accepts) {
       closed = door.closed;
     } };
 
@@ -79,6 +79,7 @@ impl<'a> Door for MeetingDoor<'a> {
 
     fn accept(&mut self, _alloc: Global) -> Result<bool, DoorRefusal> {
         self.accepts = self.accepts.saturating_add(1);
+        self.left = false;
         if self.came {
             self.closed = true;
             return Ok(false);

@@ -1,7 +1,7 @@
 // A port of this machine as a door.
 ghost use Rattle.std.specs.Prelude.{◌≡◌, ◌≢◌, ◌+◌, ◌<◌, ◌≤◌, ◌↔◌, false, true, length, None, Ok, Err, IfOk, IfSome, IsErr, IsErrOf, IsSome, IsTrue, OnErr, is_some};
 ghost use Rattle.bp_outside.specs.Counts.{risen};
-ghost use Rattle.bp_outside.specs.Door.{Reads, Writes, after_accept, after_hang_up};
+ghost use Rattle.bp_outside.specs.Door.{Reads, Writes, after_accept, after_hang_up, after_leave};
 ghost use Rattle.bp_outside.specs.Reading.{TakesAtMost};
 ghost use Rattle.bp_outside.specs.Streams.{AppendsTo, ReadsFrom};
 ghost use Rattle.bp_outside.specs.SystemAnswers.{after_answer};
@@ -46,6 +46,8 @@ pub struct TcpDoor<'a, R: Net + Clock> {
     port: u16,
     listener: Option<R::Listener>,
     stream: Option<Peer<R::Stream>>,
+    // Whether it was left since its last accept.
+    left: bool,
     faults: u64,
     accepts: u64,
 }
@@ -56,11 +58,12 @@ impl<'a, R: Net + Clock> TcpDoor<'a, R> {
         requires some { 0 < desk }
         requires few { desk ≤ DESK_LIMIT }
         ensures port { result.port ≡ BASE_PORT + desk }
-        ensures shows { untold_door (is_some result.stream) result.faults result.accepts
+        ensures shows { untold_door (is_some result.stream) result.left result.faults result.accepts
             ≡ record {
               exchanges = None;
               under_way = false;
               closed = false;
+              left = false;
               faults = 0;
               accepts = 0;
               sure = false;
@@ -71,6 +74,7 @@ impl<'a, R: Net + Clock> TcpDoor<'a, R> {
             port: BASE_PORT + desk,
             listener: None,
             stream: None,
+            left: false,
             faults: 0,
             accepts: 0,
         }
@@ -82,6 +86,7 @@ impl<'a, R: Net + Clock> TcpDoor<'a, R> {
         ensures kept { IfSome self.old.listener (λ _. self.new.listener ≡ self.old.listener) }
         ensures listens { IfOk result (λ _. IsSome self.new.listener) }
         ensures stream { self.new.stream ≡ self.old.stream }
+        ensures left { self.new.left ≡ self.old.left }
         ensures faults { self.new.faults ≡ self.old.faults }
         ensures accepts { self.new.accepts ≡ self.old.accepts }
     {
@@ -95,6 +100,7 @@ impl<'a, R: Net + Clock> TcpDoor<'a, R> {
         ensures kept { IfSome self.old.listener (λ _. self.new.listener ≡ self.old.listener) }
         ensures listens { IfOk result (λ _. IsSome self.new.listener) }
         ensures stream { self.new.stream ≡ self.old.stream }
+        ensures left { self.new.left ≡ self.old.left }
         ensures faults { self.new.faults ≡ self.old.faults }
         ensures accepts { self.new.accepts ≡ self.old.accepts }
     {
@@ -130,7 +136,9 @@ impl<'a, R: Net + Clock> TcpDoor<'a, R> {
         ensures failed { OnErr answer (result ≡ Err DoorRefusal.Failed) }
         ensures counted { self.new.faults ≡ after_answer answer self.old.faults }
         ensures accepts { self.new.accepts ≡ risen self.old.accepts }
+        ensures left { self.new.left ≡ false }
     {
+        self.left = false;
         self.accepts = self.accepts.saturating_add(1);
         match answer {
             Ok(stream) => {
@@ -148,15 +156,15 @@ impl<'a, R: Net + Clock> TcpDoor<'a, R> {
 impl<'a, R: Net + Clock> Door for TcpDoor<'a, R> {
     ghost use Rattle.std.proofs.lemmas.Bool.{false≢true};
 
-    ghost shows = { λ door. untold_door (is_some door.stream) door.faults door.accepts };
+    ghost shows = { λ door. untold_door (is_some door.stream) door.left door.faults door.accepts };
 
     ghost unfailing = { λ door sure. absurd (false≢true sure) };
 
     /// Waits for a peer, with no limit of time, or fails after a rest of a quarter of a second. It is
     /// never closed, and takes no memory. Once it listens at its port, it keeps it.
     fn accept(&mut self, _alloc: Global) -> Result<bool, DoorRefusal>
-        ensures after { untold_door (is_some self.new.stream) self.new.faults self.new.accepts
-            ≡ after_accept (untold_door (is_some self.old.stream) self.old.faults
+        ensures after { untold_door (is_some self.new.stream) self.new.left self.new.faults self.new.accepts
+            ≡ after_accept (untold_door (is_some self.old.stream) self.old.left self.old.faults
             self.old.accepts) result }
         ensures there { result ≢ Ok false }
         ensures no_memory { ¬ (IsErrOf result DoorRefusal.OutOfMemory) }
@@ -173,12 +181,12 @@ impl<'a, R: Net + Clock> Door for TcpDoor<'a, R> {
 
     /// Fails where the peer is silent for 10 seconds. Takes no memory, so it never runs out of it.
     fn read(&mut self, _alloc: Global, room: &mut [u8]) -> Result<usize, DoorRefusal>
-        requires exchange { (untold_door (is_some self.old.stream) self.old.faults
+        requires exchange { (untold_door (is_some self.old.stream) self.old.left self.old.faults
             self.old.accepts).under_way ≡ true }
         requires room { 0 < length room.old }
-        ensures reads { Reads (untold_door (is_some self.old.stream) self.old.faults
+        ensures reads { Reads (untold_door (is_some self.old.stream) self.old.left self.old.faults
             self.old.accepts) room.new result
-            (untold_door (is_some self.new.stream) self.new.faults self.new.accepts) }
+            (untold_door (is_some self.new.stream) self.new.left self.new.faults self.new.accepts) }
         ensures bytes { ReadsFrom (λ peer. R.Stream.remaining peer.stream) self.old.stream
             self.new.stream result room.new }
         ensures failed { IfSome self.new.stream (λ peer. IsErr result ↔ IsTrue peer.failed) }
@@ -195,11 +203,11 @@ impl<'a, R: Net + Clock> Door for TcpDoor<'a, R> {
     /// Writes at most 65,536 bytes. Fails where the peer takes nothing for 10 seconds; for 1 second,
     /// once those passed with a piece not taken whole. Takes no memory, so it never runs out of it.
     fn write(&mut self, _alloc: Global, piece: &[u8]) -> Result<usize, DoorRefusal>
-        requires { (untold_door (is_some self.old.stream) self.old.faults
+        requires { (untold_door (is_some self.old.stream) self.old.left self.old.faults
             self.old.accepts).under_way ≡ true }
-        ensures writes { Writes (untold_door (is_some self.old.stream) self.old.faults
+        ensures writes { Writes (untold_door (is_some self.old.stream) self.old.left self.old.faults
             self.old.accepts) piece.now result
-            (untold_door (is_some self.new.stream) self.new.faults self.new.accepts) }
+            (untold_door (is_some self.new.stream) self.new.left self.new.faults self.new.accepts) }
         ensures bytes { AppendsTo (λ peer. R.Stream.contents peer.stream) self.old.stream
             self.new.stream result piece.now }
         ensures few { IfOk result (λ count. count ≤ PIECE_LIMIT) }
@@ -218,8 +226,8 @@ impl<'a, R: Net + Clock> Door for TcpDoor<'a, R> {
     /// Closes the connection. What the peer still sends is read off first, for 2 seconds and up to
     /// 2,097,152 bytes: a close with bytes unread takes the reply back.
     fn hang_up(&mut self)
-        ensures after { untold_door (is_some self.new.stream) self.new.faults self.new.accepts
-            ≡ after_hang_up (untold_door (is_some self.old.stream) self.old.faults
+        ensures after { untold_door (is_some self.new.stream) self.new.left self.new.faults self.new.accepts
+            ≡ after_hang_up (untold_door (is_some self.old.stream) self.old.left self.old.faults
             self.old.accepts) }
         ensures closed { self.new.stream ≡ None }
         ensures port { self.new.port ≡ self.old.port }
@@ -233,13 +241,15 @@ impl<'a, R: Net + Clock> Door for TcpDoor<'a, R> {
 
     /// Closes its port, until the next accept: who waits there, and who comes, is refused.
     fn leave(&mut self)
-        ensures after { untold_door (is_some self.new.stream) self.new.faults self.new.accepts
-            ≡ untold_door (is_some self.old.stream) self.old.faults self.old.accepts }
+        ensures after { untold_door (is_some self.new.stream) self.new.left self.new.faults self.new.accepts
+            ≡ after_leave (untold_door (is_some self.old.stream) self.old.left self.old.faults
+            self.old.accepts) }
         ensures gone { self.new.listener ≡ None }
         ensures port { self.new.port ≡ self.old.port }
         ensures stream { self.new.stream ≡ self.old.stream }
     {
         self.listener = None;
+        self.left = true;
     }
 }
 

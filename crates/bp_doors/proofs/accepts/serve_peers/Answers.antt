@@ -1,8 +1,8 @@
 use Rattle.std.proofs.Common.{◌≡◌, ◌+◌, arith, refl}
 use Rattle.std.specs.Prelude.{None}
-use Rattle.bp_doors.specs.Serving.Knocks.{found_closed}
+use Rattle.bp_doors.specs.Serving.Tries.{found_closed}
 use Rattle.bp_doors.specs.Serving.LeftOpen.{untried}
-use Rattle.bp_doors.proofs.KnockLemmas.{knocks_all, left_open}
+use Rattle.bp_doors.proofs.KnockLemmas.{left_open, tries_all}
 use Rattle.bp_doors.proofs.ServingLemmas.{serves_none, serves_counted, serves_shut}
 use Rattle.bp_doors.proofs.accepts.serve_peers.Goals as goal
 
@@ -31,11 +31,11 @@ returns-in-None-clause-served g c =
     serves_shut (g.H.Handler.Deals c.args.handler.now) _ _ _ _ _ _ _ _ _ _ c.serving.invariant.serves
     c.serve_next.ensures.serves c.in-None.is (omega arith) (c.serve_next.ensures.closed c.in-None.is)
 
-pub returns-in-None-clause-knocks : goal.returns-in-None-clause-knocks
-returns-in-None-clause-knocks g c =
+pub returns-in-None-clause-tries : goal.returns-in-None-clause-tries
+returns-in-None-clause-tries g c =
     found_closed _ _ (omega arith) c.serving.invariant.opens c.serve_next.ensures.serves.accepts
     (c.serve_next.ensures.closed c.in-None.is)
 
-pub returns-clause-knocks : goal.returns-clause-knocks
-returns-clause-knocks g c =
-    knocks_all g.D.Door.shows _ _ _ _ c.serving.invariant.opens (omega arith)
+pub returns-clause-tries : goal.returns-clause-tries
+returns-clause-tries g c =
+    tries_all g.D.Door.shows _ _ _ _ c.serving.invariant.opens (omega arith)

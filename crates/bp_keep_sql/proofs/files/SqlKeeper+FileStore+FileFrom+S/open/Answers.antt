@@ -8,3 +8,6 @@ returns-in-Ok-clause-told g c = rw c.over.ensures λ clean.
     let opened = c.in-Ok.ensures.opened clean in
     tells_of (image_at g.S.Start) (file_state c.in-Ok.conn) clean opened.0 opened.1
     (c.in-Ok.ensures.found clean)
+
+pub returns-in-Ok-clause-sums : goal.returns-in-Ok-clause-sums
+returns-in-Ok-clause-sums g c = rw c.over.ensures c.in-Ok.ensures.sums

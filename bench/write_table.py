@@ -1,7 +1,7 @@
 #!/usr/bin/env python3
 """Writes the table of README.md of the figures in figures.csv, between its two marks: what was measured, ours, the peer's, the
-ratio, what is wanted, the date, the machine, script by script. `write_table.py check` writes nothing and says whether the
-table is that of the figures.
+ratio, what is wanted, the date, the machine, script by script; what follows a comma behind a script's name is what its rows have in
+common. `write_table.py check` writes nothing and says whether the table is that of the figures.
 
 A ratio that doesn't stand in figures.csv is ours over the peer's.
 """
@@ -47,7 +47,8 @@ def table():
     yield line(HEAD)
     yield "|" + "---|" * len(HEAD)
     for script, figures in groupby(rows, key=lambda row: row["script"]):
-        yield line([f"**`{script}`**", *[""] * (len(HEAD) - 1)])
+        name, *when = script.split(", ", 1)
+        yield line([", ".join([f"**`{name}`**", *when]), *[""] * (len(HEAD) - 1)])
         for row in figures:
             yield line([row["what"], measured(row["ours"], row["unit"]), peer(row), ratio(row), row["wanted"], row["date"], row["machine"]])
 

@@ -41,8 +41,9 @@ const MEANINGS = {
   KeyMissing: 'No key came to the desk. Tell the one who looks after the desks.',
   NoRoute: 'The desk knows no such request. Tell the one who looks after the desks.',
   JournalFull: 'The desks have taken as many calls as they can ({a}). Have them closed and started again.',
-  KeeperFault: 'The desk couldn’t keep this, and nothing changed. Try again; if it stays, see to the disk, and have the desks ended and opened again.',
-  OutOfMemory: 'The desk has too little memory for this. Try again.',
+  KeeperFault: 'The desk’s disk refused to keep this. As a rule nothing changed: try again. If that is refused too, see to the '
+    + 'disk, have the desks ended and opened again, and look: it may stand then.',
+  OutOfMemory: 'The desk has too little memory for this, or for its answer. Look whether it stands; else try again.',
 }
 
 // What a refusal of the desk says: { name, a, .. }.

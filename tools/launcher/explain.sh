@@ -31,11 +31,11 @@ page_of() {
     ' "$statuses" | fold -s -w "$(columns)"
 }
 
-# number: what that status or rule means, by the page of statuses, where no status has the number of a rule: what stands under the
-# heading of the status, but for what is printed, a row of its table as `command: what stands`; or the row of the table of rules
+# number: what that status, rule or refusal of a desk means, by the page of statuses, where no two have one number: what stands under
+# the heading of the status, but for what is printed, a row of its table as `command: what stands`; or the row of the two tables
 meaning() {
     awk -F ' *[|] *' -v number="$1" '
-        /^## / { status = index($0, "## " number ": ") == 1; rules = $0 == "## Rules"; next }
+        /^## / { status = index($0, "## " number ": ") == 1; rules = $0 == "## Rules" || $0 == "## Refusals of a desk"; next }
         status && !/^$/ && !/^Prints / && !/^[|] *(-|Command)/ { text = text sep (/^[|]/ ? $2 ": " $4 "." : $0); sep = " " }
         rules && /^[|]/ && $2 == number { text = $4 }
         END { gsub(/`/, "", text); if (text != "") print text }
@@ -46,7 +46,11 @@ meaning() {
 explain_more() {
     case $1 in
         statuses) page_of '# Statuses and rules' '## What to do' ;;
-        rules) page_of '## Rules' '## Nothing more' ;;
+        rules)
+            page_of '## Rules' '## Nothing more'
+            echo
+            page_of '## Refusals of a desk' '## Rules'
+            ;;
         help) usage_of_one help ;;
         '' | *[!0-9]*)
             is_known "$1" || return 1

@@ -7,7 +7,9 @@ minutes: then it, and whatever it began, is ended, and it failed. Where the syst
 has a loopback alone: no port is taken there, and nothing goes out. They try the program where it is built from the sources as they
 stand, else what they can without it, or a stand-in.
 
-    all.py [PART ..]     none: all, of which none begins after 20 minutes. Ends with 1 where a part failed twice
+    all.py [--within MINUTES] [PART ..]
+                         no part named: all. With --within no part begins after so many minutes, as what runs them may end at a time
+                         of its own: .ci/run says so. Ends with 1 where a part failed twice
 """
 import os
 import shutil
@@ -25,12 +27,10 @@ import apart  # noqa: E402
 HERE = os.path.dirname(os.path.abspath(__file__))
 TOP = os.path.dirname(os.path.dirname(HERE))
 FIRST_PORT = 48201
-# in which all parts begin, since what runs them may end at a time of its own
-TOGETHER = 20 * 60
 
 
 class Part:
-    """What is run; how many minutes it has, some five times what it takes beside other work; and what it can't do without: Debian's
+    """What is run; how many minutes it has, well more than it takes beside other work; and what it can't do without: Debian's
     packages, by a program of each, the built program, and so many desks of it. What a part looks for itself isn't named here."""
 
     def __init__(self, words, minutes, packages=(), desks=0, program=False):
@@ -128,10 +128,10 @@ def run_in(room, part, left_out):
 
 
 def is_well(name, left_out, until):
-    """Whether a part did what is due, or can't be tried here, or not any more."""
+    """Whether a part did what is due, or can't be tried here, or not any more, as its time to begin is over."""
     part = PARTS[name]
     print(f"== {name}: {' '.join(part.words)}", flush=True)
-    why = part.lacks() if time.monotonic() < until else f"{TOGETHER // 60} minutes are over"
+    why = part.lacks() if time.monotonic() < until else "the minutes of --within are over"
     if why is not None:
         left_out.append(f"{name}: NOT TRIED: {why}")
         print(left_out[-1], flush=True)
@@ -147,16 +147,25 @@ def is_well(name, left_out, until):
     return status == 0
 
 
-def main(names):
-    if set(names) - set(PARTS):
-        sys.exit(f"usage: all.py [{'] ['.join(PARTS)}]")
+def asked(words):
+    """The minutes in which parts begin, and the parts that are named."""
+    minutes = float("inf")
+    if words[:1] == ["--within"] and words[1:2] and words[1].isdigit():
+        minutes, words = int(words[1]), words[2:]
+    if set(words) - set(PARTS):
+        sys.exit(f"usage: all.py [--within MINUTES] [{'] ['.join(PARTS)}]")
+    return minutes, words
+
+
+def main(words):
+    minutes, names = asked(words)
     apart.adopt()
     for ending in (signal.SIGTERM, signal.SIGHUP):
         signal.signal(ending, lambda number, _: sys.exit(128 + number))
     where = "a network of its own" if apart.in_own_network() else "this machine's network, as the system gives no other"
     print(f"all.py: in {where}", flush=True)
     left_out, failed = [], []
-    until = float("inf") if names else time.monotonic() + TOGETHER
+    until = time.monotonic() + 60 * minutes
     try:
         failed = [name for name in names or PARTS if not is_well(name, left_out, until)]
     finally:

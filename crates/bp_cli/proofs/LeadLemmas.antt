@@ -3,6 +3,7 @@
 use Rattle.std.proofs.Common.{ℕ, ◌≡◌, true, List, [], ◌∷◌, Option, Some, Result, Ok, Err, refl, sym, ap, subst, ◌∙◌}
 use Rattle.std.specs.List.{find}
 use Rattle.std.specs.Str.{bytes_eq}
+use Rattle.std.specs.Prelude.{IfOk}
 use Rattle.std.specs.Result.{IsErr, IsErrAnd}
 use Rattle.bp_core.specs.declared.refusals.Refusal.{Refusal}
 use Rattle.bp_core.specs.declared.refusals.Refusal.TheVariants as calls
@@ -34,7 +35,7 @@ use Rattle.bp_rules.specs.declared.refusals.MatterRefusal.{MatterRefusal}
 use Rattle.bp_rules.specs.declared.refusals.MatterRefusal.TheVariants as refusals
 use Rattle.bp_cli.specs.declared.stops.Stop.{Stop}
 use Rattle.bp_cli.specs.Demoing.{FreezesHere, FrozeHere}
-use Rattle.bp_cli.specs.Producing.{Freezes, Froze, IsProduced}
+use Rattle.bp_cli.specs.Producing.{Freezes, Froze, IsProduced, TellsFrozen}
 use Rattle.bp_cli.specs.Stops.{StopsForMatter}
 use Rattle.bp_cli.proofs.KeptLemmas.{told_then}
 
@@ -118,6 +119,19 @@ freeze_stops m q key keeper m' keeper' refusals.KeeperFault stop valid lead step
     subst (λ (s : Stop). Freezes m q keeper (Err s) m' keeper') (sym is) step.1
 freeze_stops m q key keeper m' keeper' refusals.OutOfMemory stop valid lead step is =
     subst (λ (s : Stop). Freezes m q keeper (Err s) m' keeper') (sym is) step
+
+-- ---- whatever it answers
+
+-- the answer to a freeze is refused, or has a production
+pub answer_produced : (m : Matter) (q : Request) (key : List ℕ) (keeper : KeeperView) (answer : Result Reply MatterRefusal) (m' : Matter) (keeper' : KeeperView) → IsValid m → key ≡ lead_digest_in m.staff → StepsCall m key (Freeze q) keeper answer m' keeper' → IfOk answer IsProduced
+answer_produced m q key keeper (Ok reply) m' keeper' valid lead made = has_production m q key keeper reply m' keeper' valid lead made
+answer_produced m q key keeper (Err refusal) m' keeper' valid lead made = tt
+
+pub freezes : (m : Matter) (q : Request) (key : List ℕ) (keeper : KeeperView) (answer : Result Reply MatterRefusal) (r : Result Production Stop) (m' : Matter) (keeper' : KeeperView) → IsValid m → key ≡ lead_digest_in m.staff → StepsCall m key (Freeze q) keeper answer m' keeper' → TellsFrozen answer r → Freezes m q keeper r m' keeper'
+freezes m q key keeper (Ok reply) (Ok f) m' keeper' valid lead made is = froze m q key keeper reply f m' keeper' valid lead made is
+freezes m q key keeper (Ok reply) (Err stop) m' keeper' valid lead made is = absurd is
+freezes m q key keeper (Err refusal) (Ok f) m' keeper' valid lead made is = absurd is
+freezes m q key keeper (Err refusal) (Err stop) m' keeper' valid lead made is = freeze_stops m q key keeper m' keeper' refusal stop valid lead made is
 
 -- ---- in tables that no keeper has the rows of
 

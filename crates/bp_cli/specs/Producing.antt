@@ -14,17 +14,26 @@ use Rattle.bp_matter.specs.declared.rows.Request.{Request}
 use Rattle.bp_freeze.specs.Freezing.{freeze_of}
 use Rattle.bp_freeze.specs.Keeping.{frozen_matter}
 use Rattle.bp_rules.specs.Steps.{AtMostOnce, KeepsRows, Stays}
+use Rattle.bp_rules.specs.declared.refusals.MatterRefusal.{MatterRefusal}
 use Rattle.bp_press.specs.Pressed.{pressed_of}
 use Rattle.bp_press.specs.Writing.{AddsPart, with_files}
 use Rattle.bp_cli.specs.declared.stops.Stop.{Stop}
 use Rattle.bp_cli.specs.declared.stops.Stop.TheVariants as stops
 use Rattle.bp_cli.specs.Endings.{Ending, failed_folder}
 use Rattle.bp_cli.specs.Produce.{volume_line}
+use Rattle.bp_cli.specs.Stops.{StopsForMatter}
 
 -- a reply that has a production
 abbrev pub IsProduced : Reply → Type 0
 IsProduced (replies.Produced f) = Unit {0}
 IsProduced _ = ⊥
+
+-- what the answer to a freeze comes to: its production, or the stop for its refusal
+abbrev pub TellsFrozen : Result Reply MatterRefusal → Result Production Stop → Type 0
+TellsFrozen (Ok reply) (Ok f) = reply ≡ replies.Produced f
+TellsFrozen (Ok reply) (Err stop) = ⊥
+TellsFrozen (Err refusal) (Ok f) = ⊥
+TellsFrozen (Err refusal) (Err stop) = StopsForMatter refusal stop
 
 -- the lead froze this production, and a keeper that kept the matter keeps the one after it; it
 -- begins to tell no rows

@@ -1,20 +1,18 @@
 // The command `demo`.
-ghost use Rattle.std.specs.Prelude.{◌≡◌, IfOk, IfSome, IsTrue, Some, map};
-ghost use Rattle.bp_matter.specs.KeptRows.{rows_of};
+ghost use Rattle.std.specs.Prelude.{◌≡◌, IfSome, IsTrue, Some};
 ghost use Rattle.bp_outside.specs.Source.{SourceView};
-ghost use Rattle.bp_rules.specs.Changes.{put_of};
 ghost use Rattle.bp_cli.specs.Commands.{demo, ReadsAndWorks};
 ghost use Rattle.bp_cli.specs.Demo.{can_be_drawn, demo_of, pages_of};
 ghost use Rattle.bp_cli.specs.Demoing.{DrawsDemo, FreezesHere, HasRows, KeepsFirst};
 ghost use Rattle.bp_cli.specs.Endings.{world};
 ghost use Rattle.bp_cli.specs.Words.{words_lent};
 
-use crate::init::puts_of_rows;
+use crate::init::puts_of_tables;
 use crate::produce::production_in;
 use crate::stops::Stop;
 use crate::volumes::put_volume;
 use crate::words::{number_in, word_at};
-use bp_core::{Bytes, OutOfMemory, PutList, Refusal, Rule, RuleKind};
+use bp_core::{Bytes, OutOfMemory, Refusal, Rule, RuleKind};
 use bp_demo::{MOST_PAGES, demo_request, demo_tables, make};
 use bp_freeze::a_freeze_keeps;
 use bp_keep::{KeepRefusal, Keeper};
@@ -149,12 +147,4 @@ fn keep_first<K: Keeper>(alloc: Global, tables: &Tables, keeper: &mut K) -> Resu
         Ok(puts) => keeper.commit(alloc, &puts),
         Err(OutOfMemory) => Err(KeepRefusal::OutOfMemory),
     }
-}
-
-// The puts that keep a matter whole.
-fn puts_of_tables(alloc: Global, tables: &Tables) -> Result<PutList, OutOfMemory>
-    ensures { IfOk result (λ puts. puts ≡ map put_of (rows_of tables.now.matter)) }
-{
-    let rows = tables.rows(alloc)?;
-    puts_of_rows(alloc, rows)
 }

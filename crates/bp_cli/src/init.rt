@@ -15,6 +15,7 @@ use crate::stops::Stop;
 use crate::words::word_at;
 use bp_core::{Bytes, OutOfMemory, Put, PutList, Row, RowList, Rule, RuleKind};
 use bp_keep::Keeper;
+use bp_matter::Tables;
 use bp_rules::begin;
 use hex::FromHex;
 use std::alloc::Global;
@@ -89,12 +90,20 @@ fn line_of_matter(alloc: Global) -> Result<Bytes, OutOfMemory>
 fn first_puts(alloc: Global, digest: [u8; DIGEST_BYTES]) -> Result<PutList, OutOfMemory>
     ensures { IfOk result (λ puts. puts ≡ map put_of (rows_of (begun digest))) }
 {
-    let rows = begin(alloc, digest)?.rows(alloc)?;
+    let tables = begin(alloc, digest)?;
+    puts_of_tables(alloc, &tables)
+}
+
+// The puts that keep a matter whole.
+pub fn puts_of_tables(alloc: Global, tables: &Tables) -> Result<PutList, OutOfMemory>
+    ensures { IfOk result (λ puts. puts ≡ map put_of (rows_of tables.now.matter)) }
+{
+    let rows = tables.rows(alloc)?;
     puts_of_rows(alloc, rows)
 }
 
 // The puts that keep these rows.
-pub fn puts_of_rows(alloc: Global, rows: RowList) -> Result<PutList, OutOfMemory>
+fn puts_of_rows(alloc: Global, rows: RowList) -> Result<PutList, OutOfMemory>
     ensures { IfOk result (λ puts. puts ≡ map put_of rows) }
 {
     let puts = rows.into_vec().into_iter().map(put_of).collect(alloc)?;

@@ -5,7 +5,7 @@ ghost use Rattle.bp_outside.specs.Source.{SourceView};
 ghost use Rattle.bp_cli.specs.Commands.{produce, ReadsAndWorks};
 ghost use Rattle.bp_cli.specs.Endings.{world};
 ghost use Rattle.bp_cli.specs.Produce.{request_of, request_with, width_of};
-ghost use Rattle.bp_cli.specs.Producing.{Freezes, IsProduced};
+ghost use Rattle.bp_cli.specs.Producing.{Freezes, IsProduced, TellsFrozen};
 ghost use Rattle.bp_cli.specs.Words.{words_lent};
 
 use crate::stops::Stop;
@@ -17,7 +17,7 @@ use bp_freeze::a_freeze_keeps;
 use bp_keep::Keeper;
 use bp_matter::{Call, Production, Reply, Request, Tables};
 use bp_outside::Folder;
-use bp_rules::{load_tables, step};
+use bp_rules::{MatterRefusal, load_tables, step};
 use std::alloc::Global;
 use std::thread::Threads;
 
@@ -131,7 +131,16 @@ fn freeze_for_lead<K: Keeper>(
     tables.know_valid();
     let lead = tables.lead_digest();
     let call = Call::Freeze { request };
-    match step(alloc, tables, keeper, &lead, &call) {
+    let answer = step(alloc, tables, keeper, &lead, &call);
+    frozen_in(answer)
+}
+
+// The production that a freeze was answered with, or why there is none.
+fn frozen_in(answer: Result<Reply, MatterRefusal>) -> Result<Production, Stop>
+    requires { IfOk answer IsProduced }
+    ensures { TellsFrozen answer result }
+{
+    match answer {
         Ok(reply) => Ok(production_in(reply)),
         Err(refusal) => Err(Stop::from(refusal)),
     }

@@ -1,8 +1,9 @@
 -- What a keeper tells over files that were opened, and what files keep that were closed.
-use Rattle.std.proofs.Common.{◌≡◌, List, Some, Result, Ok, Err, IfOk, IsTrue, false, sym, ap, subst, ◌∙◌, inl, inr}
+use Rattle.std.proofs.Common.{◌≡◌, List, [], Option, Some, None, IfSome, Result, Ok, Err, IfOk, IsTrue, false, sym, ap, subst, ◌∙◌, inl, inr}
 use Rattle.std.proofs.Math.Logic.{∥∥₁_map}
 use Rattle.sqlite_disk.specs.declared.Disk.{Ghosts}
 use Rattle.sqlite_disk.specs.declared.Files.{Files}
+use Rattle.sqlite_wal.specs.Files.{outcomes}
 use Rattle.sqlite_wal.specs.Recovery.{Image}
 use Rattle.sqlite_wal.specs.Reads.{AreClean}
 use Rattle.sqlite_trees.specs.Tree.{Trees}
@@ -10,12 +11,12 @@ use Rattle.sqlite_store.specs.declared.store.FileStore.{FileStore}
 use Rattle.sqlite_catalog.specs.Listing.{IsSound}
 use Rattle.sqlite.specs.Closing.{HoldsAlone, IsCopied}
 use Rattle.sqlite.specs.Effect.{Database}
-use Rattle.sqlite.specs.Files.{file_state}
+use Rattle.sqlite.specs.Files.{file_state, image_of}
 use Rattle.sqlite.specs.Held.{Held}
 use Rattle.sqlite.specs.Start.{FindsIn}
 use Rattle.sqlite.specs.State.{State, HasCleanDisk, IsLive, Opens}
 use Rattle.bp_core.specs.declared.kept.Row.{Row}
-use Rattle.bp_keep_sql.specs.Files.{AreOfRows, ClosedOver, Closes, FilesKeep, FilesKeepAlone, TellsOf}
+use Rattle.bp_keep_sql.specs.Files.{AreOfRows, ClosedOver, Closes, FilesKeep, FilesKeepAlone, GoesOnFrom, TellsOf}
 use Rattle.bp_keep_sql.specs.Lines.{kept_rows}
 use Rattle.bp_keep_sql.specs.Told.{rows_told}
 use Rattle.bp_keep_sql.proofs.ToldLemmas.{Tells, if_told, tells_so}
@@ -72,6 +73,39 @@ keeps_alone image db rows holds of_rows = record {
   both = ∥∥₁_map holds.both (λ held. record { db = db; held = held; of_rows = of_rows });
   alone = ∥∥₁_map holds.alone (λ held. record { db = db; held = held; of_rows = of_rows });
 }
+
+-- rows that files keep are told by the next keeper
+goes_on : (image : Image) (rows : List Row) (told : Option (List Row))
+    → ∥ FilesKeep image rows ∥₁ → TellsOf image told → ∥ told ≡ Some rows ∥₁
+goes_on image rows told keeps tells = ∥∥₁_map keeps (λ k. tells.kept rows k)
+
+if_rows : (last told : Option (List Row)) (P : List Row → Type 0) → IfSome last P
+    → ((rows : List Row) → P rows → ∥ told ≡ Some rows ∥₁) → GoesOnFrom last told
+if_rows None told P kept give = tt
+if_rows (Some rows) told P kept give = give rows kept
+
+pub next_reads : {D : Type 0} {g : Ghosts D} (c : Held (FileStore D g)) (files : Files D)
+    (told : Option (List Row)) → ClosedOver c files → TellsOf (image_of g files) told
+    → GoesOnFrom (rows_told (file_state c)) told
+next_reads {g = g} c files told closed tells =
+    if_rows (rows_told (file_state c)) told _ closed.seen
+    (λ rows keeps. goes_on (image_of g files) rows told keeps.both tells)
+
+pub next_crashed : {D : Type 0} {g : Ghosts D} (c : Held (FileStore D g)) (files : Files D)
+    (image : Image) (told : Option (List Row)) → ClosedOver c files
+    → outcomes g files.log files.db image → TellsOf image told
+    → GoesOnFrom (rows_told (file_state c)) told
+next_crashed c files image told closed left tells =
+    if_rows (rows_told (file_state c)) told _ closed.left
+    (λ rows keeps. goes_on image rows told (keeps image left).both tells)
+
+pub next_alone : {D : Type 0} {g : Ghosts D} (c : Held (FileStore D g)) (files : Files D)
+    (image : Image) (told : Option (List Row)) → ClosedOver c files
+    → outcomes g files.log files.db image → TellsOf (record image { log = [] }) told
+    → GoesOnFrom (rows_told (file_state c)) told
+next_alone c files image told closed left tells =
+    if_rows (rows_told (file_state c)) told _ closed.left
+    (λ rows keeps. goes_on (record image { log = [] }) rows told (keeps image left).alone tells)
 
 pub closed_over : {D : Type 0} {g : Ghosts D} (c : Held (FileStore D g)) (files : Files D)
     → IsLive (file_state c)

@@ -39,6 +39,10 @@ pub record TellsOf (image : Image) (told : Option (List Row)) : Type 0 where
   pub kept : (rows : List Row) → FilesKeep image rows → told ≡ Some rows
   pub no_others : IfSome told (λ rows. (db : Trees) × AreFoundIn image db × AreOfRows db rows)
 
+-- what a keeper tells that is opened later goes on from what one told before: the same rows
+abbrev pub GoesOnFrom : Option (List Row) → Option (List Row) → Type 0
+GoesOnFrom last told = IfSome last (λ rows. ∥ told ≡ Some rows ∥₁)
+
 -- the disk of this connection was clean, it was open, and the files keep the rows that a keeper over
 -- it tells, as they read and after a crash
 pub record ClosedOver {D : Type 0} {g : Ghosts D} (c : Held (FileStore D g)) (files : Files D)

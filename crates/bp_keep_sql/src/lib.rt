@@ -10,6 +10,7 @@
 mod commit;
 mod files;
 mod keeper;
+pub mod laws;
 mod lines;
 mod load;
 mod refusals;

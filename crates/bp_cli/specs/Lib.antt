@@ -5,6 +5,7 @@ pub mod Check
 pub mod Claw
 pub mod Clawing
 pub mod Commands
+pub mod Database
 pub mod Deliver
 pub mod Delivering
 pub mod Demo

@@ -4,6 +4,7 @@ mod BurnLemmas
 mod CalmLemmas
 mod CheckLemmas
 mod ClawLemmas
+mod DatabaseLemmas
 mod DeliverExamples
 mod DeliverLemmas
 mod DeliverRunLemmas

@@ -4,7 +4,7 @@
 TESTS is a crate's tests as they were built (`rt test` makes out/CRATE_tests). Each test, or each whose name holds a NAME, runs once as it is,
 which tells how many growths it has; then the Nth is refused, for each N, by growths.c. It has to pass, or to end with the error that memory ran
 out; "the desk did not start" is what the tests of bp_test_seats make of that where Desk::start answers it. An assertion that fails is another
-answer in the place of the right one, but in tests of doors, as two_doors, whose every reply has to be 200, where 507 is due here. Prints a row
+answer in the place of the right one, but in tests of doors, as four_doors, whose every reply has to be 200, where 507 is due here. Prints a row
 for each test, and ends with 1 where one ended otherwise. Needs cc.
 """
 import collections

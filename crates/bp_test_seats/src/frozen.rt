@@ -4,31 +4,15 @@ ghost use Rattle.bp_seats.specs.Seats.{IsSeatOf, SameSeat};
 
 use crate::calls::{box_of, freeze, get_production, put_box};
 use crate::matters::confirmed;
-use crate::stage::{close_pair, make, pass_note, start_pair};
+use crate::replies::{make, produced};
+use crate::stage::{close_pair, pass_note, start_pair};
 use bp_keep::MemKeeper;
-use bp_matter::{Call, Production, Reply};
+use bp_matter::Production;
 use bp_seats::{Desk, Seat};
 use std::alloc::Global;
 use std::process::Abort;
 use std::sync::Wait;
 use std::test::Fail;
-
-// The production that is answered at a seat.
-fn produced_at<R: Wait>(
-    desk: &Desk<MemKeeper>,
-    rt: &R,
-    alloc: Global,
-    seat: &mut Seat<MemKeeper>,
-    call: &Call,
-) -> Result<Production, Fail>
-    requires { IsSeatOf desk.now seat.old }
-    ensures { SameSeat seat.old seat.new }
-{
-    match make(desk, rt, alloc, seat, call)? {
-        Reply::Produced(production) => Ok(production),
-        _ => Err(Fail::from("no production")),
-    }
-}
 
 // Seat 1 freezes, and what it told seat 2 is not changed by a box that is put there.
 fn freeze_and_edit<R: Wait + Abort>(
@@ -41,12 +25,26 @@ fn freeze_and_edit<R: Wait + Abort>(
     requires { IsSeatOf desk.now one.old × IsSeatOf desk.now two.old }
     ensures { SameSeat one.old one.new × SameSeat two.old two.new }
 {
-    let frozen = produced_at(desk, rt, alloc, one, &freeze(alloc)?)?;
+    let frozen = produced(desk, rt, alloc, one, freeze(alloc)?)?;
+    edit_and_look(desk, rt, alloc, one, two, &frozen)
+}
+
+fn edit_and_look<R: Wait + Abort>(
+    desk: &Desk<MemKeeper>,
+    rt: &R,
+    alloc: Global,
+    one: &mut Seat<MemKeeper>,
+    two: &mut Seat<MemKeeper>,
+    frozen: &Production,
+) -> Result<(), Fail>
+    requires { IsSeatOf desk.now one.old × IsSeatOf desk.now two.old }
+    ensures { SameSeat one.old one.new × SameSeat two.old two.new }
+{
     pass_note(desk, alloc, one, two)?;
-    let put = make(desk, rt, alloc, two, &put_box(box_of(2)))?;
-    assert!(rt; matches!(put, Reply::Done));
-    let got = produced_at(desk, rt, alloc, two, &get_production(alloc)?)?;
-    assert!(rt; got == frozen);
+    let put = make(desk, rt, alloc, two, put_box(box_of(2)))?;
+    assert!(rt; put.is_done);
+    let got = produced(desk, rt, alloc, two, get_production(alloc)?)?;
+    assert!(rt; got == *frozen);
     assert!(rt; has_box_1_alone(&got));
     Ok(())
 }

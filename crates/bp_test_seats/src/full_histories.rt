@@ -4,7 +4,8 @@ ghost use Rattle.bp_seats.specs.Seats.{IsSeatOf, SameSeat};
 
 use crate::calls::see_doc;
 use crate::matters::called;
-use crate::stage::{close_pair, make, start_pair};
+use crate::replies::make;
+use crate::stage::{close_pair, start_pair};
 use bp_core::{Bytes, NumberList};
 use bp_desk::DeskRefusal;
 use bp_keep::MemKeeper;
@@ -25,10 +26,9 @@ fn fill<R: Wait + Abort>(
     requires { IsSeatOf desk.now seat.old }
     ensures { SameSeat seat.old seat.new }
 {
-    let call = see_doc();
-    let _first = make(desk, rt, alloc, seat, &call)?;
-    let _second = make(desk, rt, alloc, seat, &call)?;
-    let third = make(desk, rt, alloc, seat, &call).err();
+    make(desk, rt, alloc, seat, see_doc())?;
+    make(desk, rt, alloc, seat, see_doc())?;
+    let third = make(desk, rt, alloc, seat, see_doc()).err();
     assert_eq!(rt; third, Some(DeskRefusal::JournalFull { count: 2 }));
     Ok(())
 }
@@ -72,13 +72,17 @@ fn look<R: Abort>(rt: &R, door: &MemDoor) {
     assert!(rt; third.ends_with(TWO));
 }
 
+fn serve_three<R: Wait>(rt: &R, alloc: Global, door: &mut MemDoor) -> Result<Option<usize>, Fail> {
+    let mut pair = start_pair(alloc, called(alloc)?, 2)?;
+    serve_door(&pair.desk, rt, alloc, &mut pair.one, door, 3);
+    Ok(close_pair(alloc, pair))
+}
+
 #[test]
 fn a_door_tells_the_third_that_the_history_is_full(rt: HostRuntime) -> Result<(), Fail> {
     let alloc = rt.alloc();
     let mut door = three_peers(alloc)?;
-    let mut pair = start_pair(alloc, called(alloc)?, 2)?;
-    serve_door(&pair.desk, &rt, alloc, &mut pair.one, &mut door, 3);
-    let calls = close_pair(alloc, pair);
+    let calls = serve_three(&rt, alloc, &mut door)?;
     assert_eq!(rt; calls, Some(2));
     look(&rt, &door);
     Ok(())

@@ -4,6 +4,8 @@
 #[cfg(test)]
 mod calls;
 #[cfg(test)]
+mod four_doors;
+#[cfg(test)]
 mod frozen;
 #[cfg(test)]
 mod full_histories;
@@ -12,6 +14,8 @@ mod matters;
 #[cfg(test)]
 mod notes;
 #[cfg(test)]
-mod stage;
+mod replies;
 #[cfg(test)]
-mod two_doors;
+mod slow_keeper;
+#[cfg(test)]
+mod stage;

@@ -4,7 +4,7 @@ ghost use Rattle.std.specs.Prelude.{◌≡◌};
 use crate::calls::{box_of, call_redact, put_box};
 use bp_core::{Bytes, DocNo, NumberList, Role, Row, RowList, Text, ascends};
 use bp_keep::MemKeeper;
-use bp_matter::Call;
+use bp_matter::{Call, Tables};
 use bp_rules::{begin, load_tables, step};
 use sha2::{Digest, Sha256};
 use std::alloc::{AllocError, Global};
@@ -41,8 +41,12 @@ const DOCUMENT: [(u8, u32, u32, &[u8]); 4] = [
 
 /// A new matter.
 pub fn begun(alloc: Global) -> Result<MemKeeper, Fail> {
+    over(alloc, begun_rows(alloc)?)
+}
+
+fn begun_rows(alloc: Global) -> Result<RowList, Fail> {
     let tables = begin(alloc, Sha256::digest(KEY))?;
-    over(alloc, tables.rows(alloc)?)
+    Ok(tables.rows(alloc)?)
 }
 
 // A keeper of these rows.
@@ -55,34 +59,33 @@ fn over(alloc: Global, rows: RowList) -> Result<MemKeeper, Fail> {
 
 /// A matter with document 1, which the lead called Redact.
 pub fn called(alloc: Global) -> Result<MemKeeper, Fail> {
-    let mut rows = begin(alloc, Sha256::digest(KEY))?.rows(alloc)?.into_vec();
+    let mut rows = begun_rows(alloc)?.into_vec();
+    add_document(alloc, &mut rows)?;
+    let mut keeper = over(alloc, RowList::from_vec(rows))?;
+    make(alloc, &mut keeper, &Sha256::digest(KEY), call_redact(alloc))?;
+    Ok(keeper)
+}
+
+fn add_document(alloc: Global, rows: &mut Vec<Row>) -> Result<(), AllocError> {
     for (kind, k1, k2, bytes) in DOCUMENT {
         let body = Bytes::from_vec(bytes.to_vec(alloc)?);
         rows.push(Row { kind, k1, k2, body })?;
     }
-    let mut keeper = over(alloc, RowList::from_vec(rows))?;
-    make(
-        alloc,
-        &mut keeper,
-        &Sha256::digest(KEY),
-        &call_redact(alloc),
-    )?;
-    Ok(keeper)
+    Ok(())
 }
 
 /// The same, with one box, confirmed.
 pub fn confirmed(alloc: Global) -> Result<MemKeeper, Fail> {
     let mut keeper = called(alloc)?;
-    let lead = Sha256::digest(KEY);
-    make(alloc, &mut keeper, &lead, &second(alloc)?)?;
-    make(alloc, &mut keeper, &lead, &put_box(box_of(1)))?;
-    make(
-        alloc,
-        &mut keeper,
-        &SECOND,
-        &Call::Confirm { doc: DocNo(1) },
-    )?;
+    confirm_in(alloc, &mut keeper)?;
     Ok(keeper)
+}
+
+fn confirm_in(alloc: Global, keeper: &mut MemKeeper) -> Result<(), Fail> {
+    let lead = Sha256::digest(KEY);
+    make(alloc, keeper, &lead, second(alloc)?)?;
+    make(alloc, keeper, &lead, put_box(box_of(1)))?;
+    make(alloc, keeper, &SECOND, Call::Confirm { doc: DocNo(1) })
 }
 
 fn second(alloc: Global) -> Result<Call, AllocError> {
@@ -93,8 +96,28 @@ fn second(alloc: Global) -> Result<Call, AllocError> {
     })
 }
 
-fn make(alloc: Global, keeper: &mut MemKeeper, key: &[u8; 32], call: &Call) -> Result<(), Fail> {
+// The call, the tables and the reply are let go in one place each.
+fn make(alloc: Global, keeper: &mut MemKeeper, key: &[u8; 32], call: Call) -> Result<(), Fail> {
+    make_over(alloc, keeper, key, &call)
+}
+
+fn make_over(
+    alloc: Global,
+    keeper: &mut MemKeeper,
+    key: &[u8; 32],
+    call: &Call,
+) -> Result<(), Fail> {
     let mut tables = load_tables(alloc, keeper)?;
-    let _reply = step(alloc, &mut tables, keeper, key, call)?;
+    step_in(alloc, &mut tables, keeper, key, call)
+}
+
+fn step_in(
+    alloc: Global,
+    tables: &mut Tables,
+    keeper: &mut MemKeeper,
+    key: &[u8; 32],
+    call: &Call,
+) -> Result<(), Fail> {
+    let _reply = step(alloc, tables, keeper, key, call)?;
     Ok(())
 }

@@ -3,15 +3,10 @@ ghost use Rattle.std.specs.Prelude.{◌≡◌, ◌<◌, [], ◌∷◌, IfOk};
 ghost use Rattle.bp_seats.specs.Seats.{IsSeatOf, SameSeat, all_fresh};
 ghost use Rattle.bp_test_seats.specs.Pairs.{IsPair};
 
-use crate::matters::KEY;
 use bp_core::OutOfMemory;
-use bp_desk::DeskRefusal;
 use bp_keep::{Keeper, MemKeeper};
-use bp_matter::{Call, Reply};
 use bp_seats::{Desk, Seat, Started};
-use sha2::{Digest, Sha256};
 use std::alloc::{AllocError, Global};
-use std::sync::Wait;
 use std::test::Fail;
 
 /// A desk and its two seats.
@@ -49,20 +44,6 @@ fn two_of<K: Keeper>(desk: &Desk<K>, seats: Vec<Seat<K>>) -> (Seat<K>, Seat<K>)
         (Some(one), Some(two)) => (one, two),
         _ => unreachable!(),
     }
-}
-
-/// Makes a call of the lead.
-pub fn make<R: Wait>(
-    desk: &Desk<MemKeeper>,
-    rt: &R,
-    alloc: Global,
-    seat: &mut Seat<MemKeeper>,
-    call: &Call,
-) -> Result<Reply, DeskRefusal>
-    requires { IsSeatOf desk.now seat.old }
-    ensures { SameSeat seat.old seat.new }
-{
-    desk.call(rt, alloc, seat, &Sha256::digest(KEY), call)
 }
 
 /// The second seat takes a note of the first in.

@@ -66,6 +66,7 @@ SIZED = {
     ("bp_load/src/dat.rt", "read_values"): (["with_capacity(alloc, room)"], "the columns of a file that the caller gave"),
     ("bp_load/src/dat.rt", "with_newlines"):
         (["with_capacity(alloc, text.len())"], "the length of a value in a file that the caller gave"),
+    ("bp_looks/src/produced.rt", "production_ids"): (["vec![in alloc; None; count]"], "a place a document, of 500 at most"),
     ("bp_matter/src/checking/productions.rt", "stand_once"):
         (["vec![in alloc; false; docs + 1]"], "a mark a document, in rows that are checked before anything is made of them"),
     ("bp_outside/src/system/file_source.rt", "read_open"):

@@ -7,7 +7,7 @@ use Rattle.bp_looks.specs.declared.hits.Spot.{Spot}
 use Rattle.bp_looks.specs.declared.matching.TheConstants.{NUMBER_SIGN, STAR}
 use Rattle.bp_looks.specs.Hits.{hit_at, hits_of}
 use Rattle.bp_looks.specs.Matching.{core_of, matches}
-use Rattle.bp_looks.specs.Values.{pieces_of}
+use Rattle.bp_looks.specs.Pieces.{pieces_of}
 
 star : STAR ≡ 0x2A
 star = refl

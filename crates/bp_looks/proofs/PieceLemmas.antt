@@ -8,7 +8,7 @@ use Rattle.std.proofs.lemmas.Bool.{eqb-true, eq-eqb, false≢true, and_parts, an
 use Rattle.std.proofs.lemmas.List.Splits.{slice_split-cons_yes, slice_split-cons_no, length-slice_split}
 use Rattle.std.proofs.lemmas.Str.{inside_one, encode_ascii, chars-encodes, length-encode, len_utf8_bounds}
 use Rattle.bp_core.specs.Characters.{space}
-use Rattle.bp_looks.specs.Values.{is_some_text, pieces_of}
+use Rattle.bp_looks.specs.Pieces.{is_some_text, pieces_of}
 
 abbrev is_space : ℕ → Bool
 is_space c = c == space

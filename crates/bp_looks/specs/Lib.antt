@@ -5,6 +5,13 @@ pub mod Going
 pub mod Hits
 pub mod Matching
 pub mod Parts
+pub mod Pieces
+pub mod Produced
+pub mod Productions
+pub mod Refusing
+pub mod Shown
+pub mod Staff
+pub mod States
 pub mod Terms
 pub mod Values
 pub mod Walking

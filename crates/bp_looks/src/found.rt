@@ -6,7 +6,7 @@ ghost use Rattle.bp_looks.specs.Finding.{Answers, find};
 ghost use Rattle.bp_looks.specs.Found.{found_of, hits_in, spot_of};
 ghost use Rattle.bp_looks.specs.Hits.{hits_of_rows, terms_of};
 ghost use Rattle.bp_looks.specs.Parts.{document_rows, page_rows, page_words, part_at, parts_of};
-ghost use Rattle.bp_looks.specs.Values.{pieces_of};
+ghost use Rattle.bp_looks.specs.Pieces.{pieces_of};
 ghost use Rattle.bp_looks.specs.Walking.{ComesPast, StopsAt};
 
 use crate::hits::{Hit, HitList, Spot, add_value_hits, add_word_hits};

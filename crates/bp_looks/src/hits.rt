@@ -1,10 +1,10 @@
 // Where terms match texts in turn.
 ghost use Rattle.std.specs.Prelude.{◌≡◌, ◌<◌, ◌^◌, ◌++◌, OnOk, IfOk, length, map};
 ghost use Rattle.bp_looks.specs.Hits.{texts_of, terms_of, has_hit, hit_at, hits_of, word_text};
-ghost use Rattle.bp_looks.specs.Values.{pieces_of};
+ghost use Rattle.bp_looks.specs.Pieces.{pieces_of};
 
 use crate::matching::matches;
-use crate::values::pieces;
+use crate::pieces::pieces;
 use bp_core::{DocNo, ListOf, OutOfMemory, Text};
 use bp_text::Word;
 use std::alloc::Global;

@@ -6,7 +6,7 @@ use Rattle.bp_looks.specs.declared.hits.Spot.{Spot}
 use Rattle.bp_looks.specs.Found.{hits_in, spot_of}
 use Rattle.bp_looks.specs.Hits.{hits_of_rows, terms_of}
 use Rattle.bp_looks.specs.Parts.{Rows, page_rows, part_at, rows_in}
-use Rattle.bp_looks.specs.Values.{pieces_of}
+use Rattle.bp_looks.specs.Pieces.{pieces_of}
 use Rattle.bp_looks.proofs.PartLemmas.{rows-page, values-few}
 use Rattle.bp_looks.proofs.found.add_part.Goals as goal
 

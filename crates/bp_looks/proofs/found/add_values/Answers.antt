@@ -3,7 +3,7 @@ use Rattle.bp_looks.specs.declared.hits.Hit.{Hit}
 use Rattle.bp_looks.specs.declared.hits.Spot.{Spot}
 use Rattle.bp_looks.specs.Hits.{hits_of, hits_of_rows, terms_of}
 use Rattle.bp_looks.specs.Parts.{Rows}
-use Rattle.bp_looks.specs.Values.{pieces_of}
+use Rattle.bp_looks.specs.Pieces.{pieces_of}
 use Rattle.bp_looks.proofs.PartLemmas.{value-few}
 use Rattle.bp_looks.proofs.StepLemmas.{drop_map_more}
 use Rattle.bp_looks.proofs.found.add_values.Goals as goal

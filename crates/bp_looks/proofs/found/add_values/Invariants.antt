@@ -1,7 +1,7 @@
 use Rattle.std.proofs.Common.{◌≡◌, ◌+◌, ◌++◌, drop, map}
 use Rattle.bp_looks.specs.Found.{spot_of}
 use Rattle.bp_looks.specs.Hits.{hits_of_rows, terms_of}
-use Rattle.bp_looks.specs.Values.{pieces_of}
+use Rattle.bp_looks.specs.Pieces.{pieces_of}
 use Rattle.bp_looks.proofs.found.add_values.Given as goal
 
 -- the hits so far, with those of the fields that are left, are the hits of all fields

@@ -1,6 +1,6 @@
 use Rattle.std.proofs.Common.{◌≡◌, ◌++◌, ℕ, List, ap, length, subst, ◌∙◌, arith, OnOk}
 use Rattle.std.proofs.lemmas.List.{length-map}
-use Rattle.bp_looks.specs.Values.{pieces_of}
+use Rattle.bp_looks.specs.Pieces.{pieces_of}
 use Rattle.bp_looks.specs.Hits.{text_of, texts_of, terms_of, hits_of}
 use Rattle.bp_looks.proofs.PieceLemmas.{length-pieces}
 use Rattle.bp_looks.proofs.hits.add_value_hits.Goals as goal

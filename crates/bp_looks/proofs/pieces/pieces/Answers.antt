@@ -1,9 +1,9 @@
 use Rattle.std.proofs.Common.{◌∙◌, List, ℕ, ap, map}
 use Rattle.std.specs.Str.{chars}
-use Rattle.bp_looks.specs.Values.{pieces_of}
+use Rattle.bp_looks.specs.Pieces.{pieces_of}
 use Rattle.bp_looks.proofs.PieceLemmas.{pieces-chars}
 use Rattle.bp_looks.proofs.StepLemmas.{texts-now}
-use Rattle.bp_looks.proofs.values.pieces.Goals as goal
+use Rattle.bp_looks.proofs.pieces.pieces.Goals as goal
 
 pub returns : goal.returns
 returns c =

@@ -1,8 +1,8 @@
 use Rattle.std.proofs.Common.{rules, tests, lit<}
 use Rattle.std.proofs.lemmas.Iterator.Consumers.{map_from_collect, YieldsList-from_filter}
 use Rattle.std.proofs.lemmas.Iterator.Splits.{YieldsList-from_str_split}
-use Rattle.bp_looks.specs.Values.{is_some_text}
-use Rattle.bp_looks.proofs.values.cut.Goals as goal
+use Rattle.bp_looks.specs.Pieces.{is_some_text}
+use Rattle.bp_looks.proofs.pieces.cut.Goals as goal
 
 pub returns : goal.returns
 returns c =

@@ -1,23 +1,24 @@
 #!/bin/sh
-# A check of a volume of letter pages (300 dots an inch, Group 4, three a document, with texts and a manifest) beside public
+# A check by the command of a volume of letter pages (300 dots an inch, Group 4, three a document, with texts and a manifest) beside public
 # tools in the same run: `sha256sum -c` over its manifest, and `tiffinfo` over each image, which reads its fields and not its
 # pixels; and beside `tiffinfo -D` over all images at once, which reads the pixels too, and starts once. Processor time and time
 # on the clock, the least of three rounds, in which they take turns; the files stand in a file system in memory where there is
 # one. Then the growth up to ten times as many pages, where the memory is to stay. At most 1.2 times the processor time of the first two
-# is wanted. A word: how many pages, 2,000 where none is given. Needs rt on PATH, python3, sha256sum and tiffinfo (libtiff-tools).
+# is wanted. A word: how many pages, 2,000 where none is given. Needs rt on PATH where the program isn't built; python3, sha256sum
+# and tiffinfo (libtiff-tools).
 set -eu
 here=$(CDPATH='' cd -- "$(dirname -- "$0")" && pwd)
 . "$here/../trials/common.sh"
 pages=${1:-2000}
 [ -d /dev/shm ] && TMPDIR=${TMPDIR:-/dev/shm} && export TMPDIR
 make_scratch
-build_bench
+build
 
 cat > "$scratch/turns.py" << 'END'
 import os, resource, subprocess, sys, time
-bench, volume, pages = sys.argv[1], sys.argv[2], int(sys.argv[3])
+program, volume, pages = sys.argv[1], sys.argv[2], int(sys.argv[3])
 images = sorted(f"I/{name}" for name in os.listdir(f"{volume}/I"))
-check = [[bench, "check", ".", "load.dat", "load.opt", "MANIFEST.TXT", "1"]]
+check = [[program, "check", "load.dat", "load.opt", "MANIFEST.TXT"]]
 tools = {
     "check": check,
     "sha256sum": [["sha256sum", "--quiet", "-c", "MANIFEST.TXT"]],
@@ -51,10 +52,10 @@ if "tiffinfo" in least:
 END
 
 python3 "$here/make_volume.py" "$scratch/volume" "$pages" "$letter"
-python3 "$scratch/turns.py" "$bench" "$scratch/volume" "$pages"
+python3 "$scratch/turns.py" "$program" "$scratch/volume" "$pages"
 rm -rf "$scratch/volume"
 for count in $((pages * 3)) $((pages * 10)); do
     python3 "$here/make_volume.py" "$scratch/volume" "$count" "$letter"
-    python3 "$scratch/turns.py" "$bench" "$scratch/volume" "$count" alone
+    python3 "$scratch/turns.py" "$program" "$scratch/volume" "$count" alone
     rm -rf "$scratch/volume"
 done

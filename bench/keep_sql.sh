@@ -18,7 +18,7 @@ scratch=$(mktemp -d ${2:+-p "$2"})
 room=$scratch/room
 file=$room/matter.db
 
-build_crate bp_bench_rows code_page "$letter" 1
+build_crate bp_bench_rows statements open - 0
 timing=$built
 need_header sqlite3.h libsqlite3-dev
 cc -O2 -o "$scratch/keep_peer" "$here/keep_peer.c" -lsqlite3

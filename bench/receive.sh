@@ -1,48 +1,54 @@
 #!/bin/sh
-# The receiver's desk, by bp_bench, at a door in memory, one connection a request, over letter pages at 300 dots an inch, each a
-# document of its own with a box and 300 words, and over 2,000 pages of 8 by 1 pixels:
-#   a page      a request for the file of one, beside making it alone by `file_of`
-#   the lists   manifest, DAT and OPT: asked for once, and a hundred times
-# First each reply is as long as the file and its head. A time is processor time: that of a run with many requests less that of a
-# run with few, the least of all rounds. Wanted: a page in at most 1.3 times `file_of`; a hundred manifests of 2,000 pages in at
-# most twice the time of one.
-# Words: how many letter pages, 400 where none is given; how many small ones, 2,000; rounds, 3.
-# Needs rt on PATH, python3.
+# The receiver's desk, by the command `deliver` at its port, one connection a request (serve_client.c), over letter pages at 300 dots an
+# inch, each a document of its own with a box and 300 words:
+#   a page      requests for the file of one, on the clock, as the client sees it
+#   the lists   manifest, DAT and OPT: asked for once, and a hundred times. A time is that of the desk's processor and of the client's,
+#               less that of `log`, which opens the same matter
+# Each the least of all rounds. Wanted: a hundred manifests in at most twice the time of one.
+# Words: how many letter pages, 2,000 where none is given; rounds, 3.
+# Needs rt on PATH where the program isn't built; python3, gcc, and the port 48201 free.
 set -eu
 here=$(CDPATH='' cd -- "$(dirname -- "$0")" && pwd)
 . "$here/../trials/common.sh"
-letters=${1:-400} smalls=${2:-2000} rounds=${3:-3}
+pages=${1:-2000} rounds=${2:-3}
 
 make_scratch
-build_bench
+build
+cc -O2 -o "$scratch/serve_client" "$here/serve_client.c"
+room=$scratch/matter
+python3 "$here/make_matter.py" "$program" "$room" "$pages" 1 300 "$letter"
+printf '3,R-1\n' > "$room/grants.csv" # after the lead and who confirms, by make_matter.py
+cd "$room"
 
-# the path: the length of the reply is that of the file and of its head
-same_length() {
-    made=$("$bench" file_of "$image" "$pages" "$words" "$1" 1)
-    head=$(printf 'HTTP/1.1 200 OK\r\nContent-Type: application/octet-stream\r\nContent-Length: %s\r\nConnection: close\r\n\r\n' "$made" | wc -c)
-    [ "$("$bench" receive "$image" "$pages" "$words" "$1" 1)" -eq $((made + head)) ] || stop "the reply for $1 has another length than the file"
+# a path of the volume, how often: a desk that is asked for it, which ends then. What the client tells stands in `times`
+cat > "$scratch/asked.sh" << END
+#!/bin/sh
+set -eu
+printf 'GET /granted/R-1/%s HTTP/1.1\r\nDesk-Key: the key of the other side\r\n\r\n' "\$1" > "$scratch/request"
+"$program" deliver "\$2" grants.csv > "$scratch/served" 2>&1 &
+"$scratch/serve_client" "$port" \$((\$2 - 1)) "$scratch/request" 200 1 "$scratch/reply" > "$scratch/times"
+wait \$!
+END
+chmod +x "$scratch/asked.sh"
+
+# path: what comes back is the volume's file, behind a head
+same_file() {
+    "$scratch/asked.sh" "$1" 1
+    tail -c "$(wc -c < "out/$1")" "$scratch/reply" | cmp - "out/$1" || stop "another file was given than the volume has: $1"
 }
 
-# the path, requests: the seconds of so many
+# path, how often: the seconds of the processor
 seconds() {
-    python3 "$here/cost.py" "$rounds" 1 - "$bench" receive "$image" "$pages" "$words" "$1" 0 -- \
-        "$bench" receive "$image" "$pages" "$words" "$1" "$2" | cut -d ' ' -f 1
+    python3 "$here/cost.py" "$rounds" 1 - "$program" log R-1 -- "$scratch/asked.sh" "$1" "$2" | cut -d ' ' -f 1
 }
 
-# what they are called, the page file or -, pages, words of each
-over() {
-    called=$1 image=$2 pages=$3 words=$4
-    path=VOL001/IMAGES/0001/$(printf 'ABC%08d.TIF' $((pages / 2)))
-    same_length "$path"
-    set -- $(python3 "$here/turns.py" "$rounds" 1 1001 - "$bench" receive "$image" "$pages" "$words" "$path" -- \
-        "$bench" file_of "$image" "$pages" "$words" "$path" | cut -d ' ' -f 1)
-    awk -v called="$called" -v n="$pages" -v asked="$1" -v made="$2" 'BEGIN {
-        printf "one of %d %s: asked for %.3f ms, made alone %.3f ms, %.2f times (at most 1.3)\n", n, called, 1000 * asked, 1000 * made, asked / made }'
-    for path in VOL001/MANIFEST.TXT VOL001/DATA/VOL001.DAT VOL001/DATA/VOL001.OPT; do
-        same_length "$path"
-        awk -v called="$called" -v n="$pages" -v path="$path" -v once="$(seconds "$path" 1)" -v hundred="$(seconds "$path" 100)" 'BEGIN {
-            printf "%s of %d %s: once %.4f s, a hundred times %.4f s, %.2f times (at most 2)\n", path, n, called, once, hundred, hundred / once }'
-    done
-}
-over 'letter pages' "$letter" "$letters" 300
-over 'small pages' - "$smalls" 0
+page=$(find out -name '*.TIF' | sort | sed -n "$(((pages + 1) / 2))p")
+page=${page#out/}
+same_file "$page"
+for _ in $(seq "$rounds"); do "$scratch/asked.sh" "$page" 1001 && cut -d ' ' -f 1 "$scratch/times"; done | sort -n | awk -v n="$pages" 'NR == 1 {
+    printf "one of %d letter pages asked for: %.3f ms on the clock\n", n, 1000 * $1 }'
+for path in VOL001/MANIFEST.TXT VOL001/DATA/VOL001.DAT VOL001/DATA/VOL001.OPT; do
+    same_file "$path"
+    awk -v n="$pages" -v path="$path" -v once="$(seconds "$path" 1)" -v hundred="$(seconds "$path" 100)" 'BEGIN {
+        printf "%s of %d letter pages: once %.4f s, a hundred times %.4f s, %.2f times (at most 2)\n", path, n, once, hundred, hundred / once }'
+done

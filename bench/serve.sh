@@ -2,6 +2,7 @@
 # One desk over HTTP, at the port of desk 1 of this machine, by a client of one connection a request (serve_client.c):
 #   SetCall   on a matter of 10,000 documents kept in memory, by bp_bench_desk: exchanges a second, beside a bare loop in C that
 #             accepts, reads a request and writes the same reply (serve_bare.c), and beside the same calls of the book without HTTP
+#   the same  with a body of a megabyte in 66,000 members that are passed over
 #   a page    of 2,550 by 3,300 pixels (examples/letter.tif), beside a bare loop that writes the same reply
 #   database  SetCall by the program, `tivrenan serve 1 N`, over matter.db with the example batch, beside the commits alone by
 #             sqlite3's own library (keep_peer.c) in a copy of that file in the same folder
@@ -18,7 +19,7 @@ rounds=${1:-5} count=${2:-9999} pages=${3:-100} commits=${4:-200}
 docs=10000
 scratch=$(mktemp -d ${5:+-p "$5"})
 
-build_crate bp_bench_desk read "$top/crates/bp_bench_desk/data/request" 1
+build_crate bp_bench_desk calls - 1 1
 timing=$built
 build
 need_header sqlite3.h libsqlite3-dev
@@ -58,6 +59,7 @@ for _ in $(seq "$rounds"); do
     served "$scratch/calls" "$count" "$scratch/call" "$docs" - "$timing" serve - "$docs" 1 $((count + 1))
     served "$scratch/bare" "$count" "$scratch/call" "$docs" - "$scratch/serve_bare" "$port" $((count + 1)) "$scratch/call_reply"
     alone "$scratch/step" 1 $((10 * count + 1)) "$timing" calls - "$docs"
+    served "$scratch/longs" 10 "$scratch/long" "$docs" - "$timing" serve - "$docs" 1 11
     served "$scratch/pages" "$pages" "$scratch/page" 1 - "$timing" serve "$letter" 1 1 $((pages + 1))
     served "$scratch/bare_pages" "$pages" "$scratch/page" 1 - "$scratch/serve_bare" "$port" $((pages + 1)) "$scratch/page_reply"
 done
@@ -66,6 +68,7 @@ awk -v desk="$(median "$scratch/calls")" -v bare="$(median "$scratch/bare")" -v 
     printf "    an exchange with the desk %.1f us, %.0f a second (at least 10,000 are wanted)\n", 1e6 * desk, 1 / desk
     printf "    an exchange with the bare loop %.1f us, %.0f a second; the call alone %.2f us\n", 1e6 * bare, 1 / bare, 1e6 * step
     printf "    desk / (bare loop and call) %.2f (at most 1.5 is wanted)\n", desk / (bare + step) }'
+awk -v long="$(median "$scratch/longs")" 'BEGIN { printf "    an exchange with a body of a megabyte in 66,000 members %.1f ms\n", 1000 * long }'
 echo "SeePage of 2,550 by 3,300 pixels, $rounds rounds of $pages, medians:"
 awk -v desk="$(median "$scratch/pages")" -v bare="$(median "$scratch/bare_pages")" 'BEGIN {
     printf "    an exchange with the desk %.2f ms (at most 8 are wanted), with the bare loop %.2f ms\n", 1000 * desk, 1000 * bare }'

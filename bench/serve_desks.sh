@@ -16,7 +16,7 @@ rounds=${1:-5} count=${2:-16000} pages=${3:-320}
 docs=10000
 make_scratch
 
-build_crate bp_bench_desk read "$top/crates/bp_bench_desk/data/request" 1
+build_crate bp_bench_desk calls - 1 1
 timing=$built
 cc -O2 -o "$scratch/serve_client" "$here/serve_client.c"
 

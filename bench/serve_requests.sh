@@ -19,5 +19,8 @@ write_requests() {
     request 'POST /docs/@/box' '{"num":1,"page":1,"left":0,"top":0,"width":2,"height":1,"basis":"PI"}' > "$1/box"
     request 'POST /docs/@/hold' '{"field":"AUTHOR","basis":"PI"}' > "$1/hold"
     request 'POST /docs/@/entry' '{"date":"2024-01-01","author":"Ng","recipients":"Ortiz","description":"a name ~"}' > "$1/entry"
+    # a body of almost a megabyte, in members that are passed over
+    more=$(awk 'BEGIN { for (at = 0; at < 66000; at++) printf ",\"m%06d\":%d", at, at }')
+    request 'POST /docs/@/call' "{\"responsive\":true,\"treatment\":\"Redact\",\"designation\":\"CONFIDENTIAL ~\"$more}" > "$1/long"
     mix=$1/see,$1/words,$1/call,$1/box,$1/hold,$1/entry
 }

@@ -7,7 +7,10 @@
 #   a byte a second   a raw socket that sends a head so
 #   head alone        one that sends the head of a POST and ends; and one that closes there
 #   garbage           20,000 bytes that are no head
+#   half a line       one that sends no more of a head, and ends
 #   too many fields   a head with 33 fields, whose sender then waits for the reply
+#   a megabyte first  one that sends a megabyte, which is no head, before it reads: the reply comes whole
+#   nothing           one that is silent: the desk hangs up after 10 seconds, without a reply
 # Needs rt on PATH where the program isn't built; curl, python3, and Debian's sqlite3.
 set -eu
 here=$(CDPATH='' cd -- "$(dirname -- "$0")" && pwd)
@@ -20,7 +23,7 @@ enter_room "$scratch/matter"
 key='k'
 run 0 'matter made' init "$(digest "$key")"
 run 0 'batch *' import CVI_001
-open_desk serve 1 17
+open_desk serve 1 20
 
 cat > clients.py << 'END'
 """The clients that curl can't be. Words: port, key, way. Prints the status of the reply and the number of its rule, if any."""
@@ -78,6 +81,14 @@ elif way in ("ends", "closes"):
         print("closed")
         sys.exit()
     peer.shutdown(socket.SHUT_WR)
+elif way == "half":
+    peer.sendall(b"GET /docs")
+    peer.shutdown(socket.SHUT_WR)
+elif way == "megabyte":
+    peer.sendall(b"x" * 1048576)
+elif way == "nothing" and not peer.recv(1):
+    print("no reply")
+    sys.exit()
 elif way == "garbage":
     peer.sendall(bytes(range(1, 201)) * 100)
 elif way == "fields":
@@ -128,7 +139,10 @@ expect '200 ' 'http.client' raw http.client
 expect '400 102' 'head alone' raw ends
 expect 'closed' 'head alone, and closes' raw closes
 expect '400 101' 'garbage' raw garbage
+expect '400 101' 'half a line' raw half
 expect '400 101' 'too many fields' raw fields
+expect '400 101' 'a megabyte first' raw megabyte
+expect 'no reply' 'nothing' raw nothing
 expect '200 ' 'a byte a second' raw slow
 expect '200 ' 'curl, a page' status_of /docs/1/pages/1 -H "$held"
 expect '200 ' 'curl again' status_of /docs/12/call -H "$held" --data-binary "$(body 'BY CURL AGAIN')"

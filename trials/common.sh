@@ -41,7 +41,7 @@ build_crate() {
 
 # the program of library calls that the benches time, as `bench`
 build_bench() {
-    build_crate bp_bench codes white index 1
+    build_crate bp_bench dat 1 1
     bench=$built
 }
 

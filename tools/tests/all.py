@@ -77,7 +77,6 @@ PARTS = {
     "page": Part("desk_page/tests/run.sh", 20),
     "guide": Part("trials/guide.py", 15),
     "desks": Part("trials/desks.sh", 15, desks=16),
-    "doors": Part("trials/doors.sh built", 10, [("curl", "curl")], desks=1),
 }
 
 

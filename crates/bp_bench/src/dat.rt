@@ -1,4 +1,6 @@
 // Reading a DAT file: `dat ROWS TIMES`.
+ghost use Rattle.std.specs.Prelude.{◌<◌, ◌^◌, length};
+
 use crate::sums::with_text;
 use anyhow::{Result, bail};
 use bp_core::Text;
@@ -12,21 +14,30 @@ pub fn run(alloc: Global, operands: &[String]) -> Result<u64> {
     let [rows, times] = operands else {
         bail!("dat ROWS TIMES");
     };
-    let bytes = written(alloc, rows.parse::<u32>()?)?;
-    let times = times.parse::<u32>()?;
+    let (rows, times) = (rows.parse::<u32>()?, times.parse::<u32>()?);
+    let bytes = written(alloc, rows)?;
+    read_times(alloc, bytes.as_slice(), times)
+}
+
+fn read_times(alloc: Global, bytes: &[u8], times: u32) -> Result<u64> {
     if bytes.len() >= 1 << 32 {
         bail!("the file is too long");
     }
-    let mut sum = 0;
+    let mut sum = 0u64;
     for turn in 0..times {
-        let Ok(dat) = read_dat(alloc, bytes.as_slice()) else {
-            bail!("the file isn't read");
-        };
-        if turn == 0 {
-            sum = sum_of(&dat);
-        }
+        sum = sum.wrapping_add(read_once(alloc, bytes, turn == 0)?);
     }
     Ok(sum)
+}
+
+// The sum over all values where it is asked for, else 0.
+fn read_once(alloc: Global, bytes: &[u8], summed: bool) -> Result<u64>
+    requires { length bytes.now < 2 ^ 32 }
+{
+    match read_dat(alloc, bytes) {
+        Ok(dat) => Ok(if summed { sum_of(&dat) } else { 0 }),
+        Err(_) => bail!("the file isn't read"),
+    }
 }
 
 // A line of column names, and as many lines of values.

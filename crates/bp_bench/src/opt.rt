@@ -1,4 +1,6 @@
 // Reading an OPT file: `opt LINES TIMES`.
+ghost use Rattle.std.specs.Prelude.{◌<◌, ◌^◌, length};
+
 use crate::sums::with_text;
 use anyhow::{Result, bail};
 use bp_load::{OptLine, OptList, read_opt};
@@ -9,21 +11,30 @@ pub fn run(alloc: Global, operands: &[String]) -> Result<u64> {
     let [lines, times] = operands else {
         bail!("opt LINES TIMES");
     };
-    let text = written(alloc, lines.parse::<u32>()?)?;
-    let times = times.parse::<u32>()?;
-    if text.len() >= 1 << 32 {
+    let (lines, times) = (lines.parse::<u32>()?, times.parse::<u32>()?);
+    let text = written(alloc, lines)?;
+    read_times(alloc, text.as_bytes(), times)
+}
+
+fn read_times(alloc: Global, bytes: &[u8], times: u32) -> Result<u64> {
+    if bytes.len() >= 1 << 32 {
         bail!("the file is too long");
     }
-    let mut sum = 0;
+    let mut sum = 0u64;
     for turn in 0..times {
-        let Ok(lines) = read_opt(alloc, text.as_bytes()) else {
-            bail!("the file isn't read");
-        };
-        if turn == 0 {
-            sum = sum_of(&lines);
-        }
+        sum = sum.wrapping_add(read_once(alloc, bytes, turn == 0)?);
     }
     Ok(sum)
+}
+
+// The sum over all values where it is asked for, else 0.
+fn read_once(alloc: Global, bytes: &[u8], summed: bool) -> Result<u64>
+    requires { length bytes.now < 2 ^ 32 }
+{
+    match read_opt(alloc, bytes) {
+        Ok(lines) => Ok(if summed { sum_of(&lines) } else { 0 }),
+        Err(_) => bail!("the file isn't read"),
+    }
 }
 
 // So many lines; a document begins at every fourth, and a box at every thousandth.

@@ -8,7 +8,7 @@ use bp_core::{DocNo, NumberList, OutOfMemory, RowList, Text, Treatment, ascends}
 use bp_desk::{Book, MOST_CALLS};
 use bp_keep::{Keeper, MemKeeper};
 use bp_matter::Call;
-use bp_outside::{DESK_LIMIT, TcpDoor};
+use bp_outside::{DESK_LIMIT, Door, TcpDoor};
 use bp_seats::{MOST_SEATS, serve_matter};
 use std::alloc::Global;
 use std::sync::Wait;
@@ -23,15 +23,35 @@ pub fn serve<T: Threads + Wait + Sync>(
     let [file, docs, desks, connections] = operands else {
         bail!("FILE DOCS DESKS CONNECTIONS");
     };
-    let rows = rows_over(rt, file.as_str(), docs.parse::<u32>()?)?;
-    let desks = desks.parse::<u32>()?;
+    let (docs, desks) = (docs.parse::<u32>()?, desks.parse::<u32>()?);
+    let connections = connections.parse::<u32>()?;
+    let keeper = keeper_over(rt, file.as_str(), docs)?;
+    serve_over(rt, threads, keeper, desks, connections)
+}
+
+fn serve_over<T: Threads + Wait + Sync, K: Keeper + Send + Drop>(
+    rt: &HostRuntime,
+    threads: &T,
+    keeper: K,
+    desks: u32,
+    connections: u32,
+) -> Result<u64> {
     let doors = doors_of(rt, desks)?;
+    serve_at(threads, rt.alloc(), keeper, doors, desks, connections)
+}
+
+fn serve_at<T: Threads + Wait + Sync, K: Keeper + Send + Drop, D: Door + Send + Drop>(
+    threads: &T,
+    alloc: Global,
+    keeper: K,
+    doors: Vec<D>,
+    desks: u32,
+    connections: u32,
+) -> Result<u64> {
     if desks == 0 || desks > MOST_SEATS || doors.len() != desks as usize {
         bail!("there are 1 to {MOST_SEATS} desks");
     }
-    let keeper = keeper_of(rt.alloc(), rows)?;
-    let connections = connections.parse::<u32>()?;
-    match serve_matter(threads, rt.alloc(), keeper, doors, desks, connections) {
+    match serve_matter(threads, alloc, keeper, doors, desks, connections) {
         Ok(served) => Ok(served.closed.history.len() as u64),
         Err(_) => bail!("the rows aren't read"),
     }
@@ -53,21 +73,24 @@ pub fn calls(rt: &HostRuntime, operands: &[String]) -> Result<u64> {
     let [file, docs, count] = operands else {
         bail!("FILE DOCS COUNT");
     };
-    let count = count.parse::<u32>()?;
-    let docs = docs.parse::<u32>()?;
-    count_calls(rt.alloc(), book_of(rt, file.as_str(), docs)?, docs, count)
+    let (docs, count) = (docs.parse::<u32>()?, count.parse::<u32>()?);
+    let keeper = keeper_over(rt, file.as_str(), docs)?;
+    count_calls(rt.alloc(), book_of(rt.alloc(), keeper)?, docs, count)
 }
 
-fn book_of(rt: &HostRuntime, file: &str, docs: u32) -> Result<Book<MemKeeper>> {
-    let keeper = keeper_of(rt.alloc(), rows_over(rt, file, docs)?)?;
-    match Book::start(rt.alloc(), keeper, MOST_CALLS) {
+fn book_of<K: Keeper + Drop>(alloc: Global, keeper: K) -> Result<Book<K>> {
+    match Book::start(alloc, keeper, MOST_CALLS) {
         Ok(book) => Ok(book),
         Err(_) => bail!("the rows aren't read"),
     }
 }
 
+fn keeper_over(rt: &HostRuntime, file: &str, docs: u32) -> Result<MemKeeper> {
+    keeper_of(rt.alloc(), rows_over(rt, file, docs)?)
+}
+
 fn rows_over(rt: &HostRuntime, file: &str, docs: u32) -> Result<RowList> {
-    let image = page_of(rt, rt.alloc(), file)?;
+    let image = page_of(rt, file)?;
     Ok(rows_of(rt.alloc(), &image, docs)?)
 }
 
@@ -78,12 +101,17 @@ fn keeper_of(alloc: Global, rows: RowList) -> Result<MemKeeper> {
     Ok(MemKeeper::over(rows, NumberList::new(alloc)))
 }
 
-fn count_of(book: Book<MemKeeper>) -> u64 {
+fn count_of<K: Keeper + Drop>(book: Book<K>) -> u64 {
     book.end().history.len() as u64
 }
 
 // How many calls the book has after these.
-fn count_calls(alloc: Global, book: Book<MemKeeper>, docs: u32, count: u32) -> Result<u64> {
+fn count_calls<K: Keeper + Drop>(
+    alloc: Global,
+    book: Book<K>,
+    docs: u32,
+    count: u32,
+) -> Result<u64> {
     let mut book = book;
     let made = call_times(alloc, &mut book, docs, count);
     let count = count_of(book);
@@ -94,10 +122,22 @@ fn count_calls(alloc: Global, book: Book<MemKeeper>, docs: u32, count: u32) -> R
 fn call_times<K: Keeper>(alloc: Global, book: &mut Book<K>, docs: u32, count: u32) -> Result<()> {
     let key = reviewer();
     for turn in 0..count {
-        let call = call_of(alloc, turn, docs.max(1))?;
-        call_once(alloc, book, &key, &call)?;
+        call_in_turn(alloc, book, &key, turn, docs.max(1))?;
     }
     Ok(())
+}
+
+fn call_in_turn<K: Keeper>(
+    alloc: Global,
+    book: &mut Book<K>,
+    key: &[u8; 32],
+    turn: u32,
+    docs: u32,
+) -> Result<()>
+    requires { 0 < docs }
+{
+    let call = call_of(alloc, turn, docs)?;
+    call_once(alloc, book, key, &call)
 }
 
 fn call_once<K: Keeper>(

@@ -1,4 +1,5 @@
 // The jobs of a keeper over a database.
+use crate::database::Work;
 use crate::puts::puts_of;
 use anyhow::{Result, bail};
 use bp_core::PutList;
@@ -7,23 +8,25 @@ use bp_keep_sql::SqlKeeper;
 use sqlite::{Alter, Connection};
 use std::alloc::Global;
 
-/// Makes so many commits, and gives the connection back.
-pub fn commits<S: Alter + Drop>(
+/// Does the work, and gives the connection back; the sum is how many rows came, or commits were
+/// made.
+pub fn worked<S: Alter + Drop>(
     alloc: Global,
     connection: Connection<S>,
-    mix: &str,
-    puts: u32,
-    times: u32,
+    work: Work<'_>,
+    sum: &mut u64,
 ) -> Result<Connection<S>> {
     let mut keeper = SqlKeeper::over(connection);
-    commit_times(alloc, &mut keeper, mix, puts, times)?;
+    *sum = work_by(alloc, &mut keeper, work)?;
     Ok(keeper.into_connection())
 }
 
-/// Loads all rows so many times; how many came.
-pub fn loads<S: Alter + Drop>(alloc: Global, connection: Connection<S>, times: u32) -> Result<u64> {
-    let mut keeper = SqlKeeper::over(connection);
-    load_times(alloc, &mut keeper, times)
+fn work_by<K: Keeper>(alloc: Global, keeper: &mut K, work: Work<'_>) -> Result<u64> {
+    match work {
+        Work::Open => Ok(0),
+        Work::Load(times) => load_times(alloc, keeper, times),
+        Work::Commit(mix, puts, times) => commit_times(alloc, keeper, mix, puts, times),
+    }
 }
 
 fn commit_times<K: Keeper>(
@@ -32,12 +35,12 @@ fn commit_times<K: Keeper>(
     mix: &str,
     puts: u32,
     times: u32,
-) -> Result<()> {
+) -> Result<u64> {
     load_once(alloc, keeper)?;
     for time in 0..times {
         commit_once(alloc, keeper, &puts_of(alloc, mix, time, puts)?)?;
     }
-    Ok(())
+    Ok(u64::from(times))
 }
 
 fn load_times<K: Keeper>(alloc: Global, keeper: &mut K, times: u32) -> Result<u64> {

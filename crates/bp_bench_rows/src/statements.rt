@@ -1,4 +1,5 @@
 // The jobs of the keeper's statements alone: the same texts, each through the library as it is.
+use crate::database::Work;
 use crate::puts::puts_of;
 use anyhow::{Result, bail};
 use bp_core::Put;
@@ -15,21 +16,24 @@ const ROWIDS: &str = "SELECT rowid FROM kept ORDER BY rowid";
 
 const ROWS: &str = "SELECT kind, k1, k2, body FROM kept ORDER BY kind, k1, k2";
 
-/// Makes so many commits, and gives the connection back.
-pub fn commits<S: Alter + Drop>(
+/// Does the work, and gives the connection back; the sum is how many rows came, or commits were
+/// made.
+pub fn worked<S: Alter + Drop>(
     alloc: Global,
     mut connection: Connection<S>,
-    mix: &str,
-    puts: u32,
-    times: u32,
+    work: Work<'_>,
+    sum: &mut u64,
 ) -> Result<Connection<S>> {
-    commit_times(alloc, &mut connection, mix, puts, times)?;
+    *sum = work_by(alloc, &mut connection, work)?;
     Ok(connection)
 }
 
-/// Asks for all rows so many times; how many came.
-pub fn loads<S: Alter + Drop>(mut connection: Connection<S>, times: u32) -> Result<u64> {
-    load_times(&mut connection, times)
+fn work_by<S: Alter>(alloc: Global, connection: &mut Connection<S>, work: Work<'_>) -> Result<u64> {
+    match work {
+        Work::Open => Ok(0),
+        Work::Load(times) => load_times(connection, times),
+        Work::Commit(mix, puts, times) => commit_times(alloc, connection, mix, puts, times),
+    }
 }
 
 fn commit_times<S: Alter>(
@@ -38,13 +42,13 @@ fn commit_times<S: Alter>(
     mix: &str,
     puts: u32,
     times: u32,
-) -> Result<()> {
+) -> Result<u64> {
     begin(connection)?;
     count_of(connection, ROWS)?;
     for time in 0..times {
         commit_once(connection, puts_of(alloc, mix, time, puts)?.as_slice())?;
     }
-    Ok(())
+    Ok(u64::from(times))
 }
 
 fn load_times<S: Alter>(connection: &mut Connection<S>, times: u32) -> Result<u64> {

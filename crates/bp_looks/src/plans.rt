@@ -9,8 +9,8 @@ use bp_freeze::freeze;
 use bp_matter::{Production, Request, Tables};
 use std::alloc::Global;
 
-/// The production that a freeze of this request would give, or the rule that it would break: what `freeze`
-/// answers, and nothing is kept.
+/// The production that a freeze of this request would give, or the rule that it would break: what
+/// `freeze` answers, and nothing is kept.
 pub fn plan(alloc: Global, tables: &Tables, request: &Request) -> Result<Production, Refusal>
     ensures answer { Answers (λ f. f) result (freeze_of tables.now.matter request.now) }
     ensures alike { (other : Matter) →

@@ -8,7 +8,8 @@ use bp_core::{DocNo, ListOf, OutOfMemory, Text};
 use bp_matter::{Production, Tables};
 use std::alloc::Global;
 
-/// What is told of a kept production. `from` and `to` are the first and the last document of its request.
+/// What is told of a kept production. `from` and `to` are the first and the last document of its
+/// request.
 #[derive(Debug, Drop)]
 pub struct ProductionView {
     pub id: Text,

@@ -441,7 +441,7 @@ def write_strips(room, matter, total):
     matter.batches.append((DIGEST, 1, len(made), "B"))
     rows = matters.rows_of(matter) | {(12, 1, k): b"\1" + matters.listed([], None) for k in range(1, len(made) + 1)}
     room.fresh()
-    days.write_rows(room.folder, rows)
+    days.write_rows(room.folder, rows, has_sums=False)
     database = sqlite3.connect(os.path.join(room.folder, "matter.db"))
     database.execute("PRAGMA synchronous = OFF")
     for k, (width, height, size) in enumerate(made, 1):

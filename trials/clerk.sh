@@ -1,11 +1,11 @@
 #!/bin/sh
 # What a clerk meets who has a matter.db that can't be used: tries `press R-1` over each, and compares status and line, and that
-# the file is as it was. Needs rt on PATH where the program isn't built; sqlite3. Where it runs as root, nobody runs the program
-# in the two cases of permissions (Debian's setpriv).
+# the file is as it was. Needs rt on PATH where the program isn't built; sqlite3 and python3. Where it runs as root, nobody runs the
+# program in the two cases of permissions (Debian's setpriv).
 set -eu
 here=$(CDPATH='' cd -- "$(dirname -- "$0")" && pwd)
 . "$here/common.sh"
-need sqlite3 sqlite3
+need 'sqlite3, python3' sqlite3 python3
 "$tivrenan" build
 
 make_scratch
@@ -66,9 +66,18 @@ head -c $(($(wc -c < matter.db) / 2)) matter.db > half
 rm -f matter.db*
 mv half matter.db
 check 'a file that is cut in half' 5 'keeper fault'
+change="UPDATE kept SET body = zeroblob(3) WHERE kind = 1"
 furnish
-sqlite3 matter.db 'UPDATE kept SET body = zeroblob(3) WHERE kind = 1'
-check 'a row that was changed' 2 'refused 90 KeptRowBad 0 1 4294967296'
+sqlite3 matter.db "$change"
+check 'a row that sqlite3 changed, and so no sum with it' 5 'keeper fault'
+furnish
+sqlite3 matter.db "$change"
+seal
+check 'a row that was changed with its sum' 2 'refused 90 KeptRowBad 0 1 4294967296'
+furnish
+drop_sums
+sqlite3 matter.db "$change"
+check 'a row that was changed in a file without sums' 2 'refused 90 KeptRowBad 0 1 4294967296'
 furnish
 (
     printf 'BEGIN EXCLUSIVE;\n'

@@ -85,6 +85,10 @@ digest() { printf %s "$1" | sha256sum | cut -c1-64; }
 # the digest of all rows that matter.db keeps
 rows() { sqlite3 matter.db 'SELECT kind, k1, k2, hex(body) FROM kept ORDER BY kind, k1, k2' | sha256sum; }
 
+# What sqlite3 writes into matter.db has no sums: makes it a file without any that has the same rows; or writes the right sums
+drop_sums() { python3 "$top/tools/tests/page_sums.py" drop matter.db; }
+seal() { python3 "$top/tools/tests/page_sums.py" seal matter.db; }
+
 # how a broken rule is told over HTTP: number, name
 broken() { printf '{"a":0,"b":0,"line":0,"name":"%s","rule":%s}' "$2" "$1"; }
 

@@ -5,16 +5,21 @@ Each case is a command over a folder, or a desk that is asked some requests, of 
 writes, cuts and syncs of `matter.db`, of its log and of their folder) and what is right. Then the Nth is refused, for each N, by faults.c, which
 is compiled and preloaded: it alone; it and each after it, as where the disk is gone; and of a write its second half, as where the disk is full.
 The program has to give the right answer, or to end with 5 and `keeper fault` and no file of what isn't kept. What stands has to be the rows from
-before, or those of the whole command, and a whole database for sqlite3; then the command is given again, with a disk: it has to give the right
-answer over that. A desk has to reply what is right, or 503 to a call, and each call that it answered stands in the rows. Where a refused call
-is kept all the same is counted apart.
+before, or those of the whole command, and a whole database for sqlite3, with the right sum on each page; then the command is given again, with a
+disk: it has to give the right answer over that. A desk has to reply what is right, or 503 to a call, and each call that it answered stands in the
+rows. Where a refused call is kept all the same is counted apart. The files have sums, as the program makes them.
 
-Then BITS bits (3,000 if not said, 0 for none) of the database of a drawn matter are turned, one at a time, and its volume is pressed: how often it
-was refused, was the same, or was another with status 0, and which rows those bits are of. KEEP has each case that ended otherwise, with its
-folder. Prints a table, and ends with 1 where a case ended otherwise. Takes the port 48201, in a network of its own where that can be. Needs cc.
+Then BITS bits (3,000 if not said, 0 for none) of a drawn matter are turned, one at a time, at least one of each page, and its volume is pressed:
+of a file with sums, as the program makes it, each has to be refused with 5, the file as it was, or to change nothing; of a file without sums it is
+counted how often it was refused, was the same, or was another with status 0, and which rows those bits are of; of a log with the calls of a desk
+that was killed, how many of the last calls were gone (which nothing tells, as in SQLite), but never others; and of the file below that log.
+
+KEEP has each case that ended otherwise, with its folder. Prints a table, and ends with 1 where a case ended otherwise. Takes the port 48201, in a
+network of its own where that can be. Needs cc.
 """
 import collections
 import copy
+import itertools
 import os
 import random
 import shutil
@@ -31,7 +36,9 @@ sys.path.insert(0, os.path.join(HERE, "..", "tools", "tests"))
 import apart  # noqa: E402
 import fuzz_days as days  # noqa: E402
 import fuzz_matter as matters  # noqa: E402
-from growth_cases import CASES, get  # noqa: E402
+import page_sums  # noqa: E402
+from keep.pages import size_of_pages  # noqa: E402
+from growth_cases import CASES, get, post  # noqa: E402
 from growths import Otherwise, Told, exchanged, files_in, is_beginning  # noqa: E402
 
 LIMIT = 120
@@ -42,7 +49,7 @@ DATABASE = ("matter.db", "matter.db-wal")
 NAMES = "init import import_again import_more produce produce_again press log claw demo serve deliver".split()
 FAULT = (5, b"keeper fault\n")
 NOT_KEPT = days.refusal(503, 107, "KeeperFault")
-DRAWN = ["demo", "7", "20"]
+DRAWN, CALLS = ["demo", "7", "20"], 8
 KINDS_OF_ROWS = dict(enumerate(
     "member of the staff,field,document,page,call,box,held field,log entry,prefix,production,batch,words of a page".split(","), 1))
 
@@ -61,16 +68,35 @@ def rows_in(folder, is_new=False):
             told = database.execute("PRAGMA integrity_check").fetchall()
             database.close()
             rows = days.kept_rows(room)
+            wrong = list(page_sums.wrong_pages(os.path.join(room, DATABASE[0])))
         except sqlite3.Error as why:
             if is_new:
                 return None
             raise Otherwise(f"sqlite3 says of matter.db: {why}") from None
     if told != [("ok",)]:
         raise Otherwise(f"sqlite3 says of matter.db: {told[:3]}")
+    if wrong:
+        raise Otherwise(f"the sums are wrong of the pages {wrong[:9]}")
     return rows
 
 
 # ---- runs
+
+
+def asked(process, data):
+    """What the desk of a process replies; None where it ended before."""
+    began = time.monotonic()
+    while process.poll() is None:
+        with socket.socket() as peer:
+            peer.settimeout(LIMIT)
+            try:
+                peer.connect(("127.0.0.1", PORT))
+                return exchanged(peer, data)
+            except ConnectionRefusedError:
+                if time.monotonic() - began > LIMIT:
+                    raise Otherwise("no desk is opened") from None
+                time.sleep(0.001)
+    return None
 
 
 class Command:
@@ -155,25 +181,11 @@ class Desk(Command):
         """The replies, each None where nobody was there to give one; status and what was printed."""
         process = self.start(self.words(len(requests)), at, way)
         try:
-            return [self.reply(process, data) for data in requests], *self.ended(process)
+            return [asked(process, data) for data in requests], *self.ended(process)
         finally:
             if process.poll() is None:
                 process.kill()
                 process.communicate()
-
-    def reply(self, process, data):
-        began = time.monotonic()
-        while process.poll() is None:
-            with socket.socket() as peer:
-                peer.settimeout(LIMIT)
-                try:
-                    peer.connect(("127.0.0.1", PORT))
-                    return exchanged(peer, data)
-                except ConnectionRefusedError:
-                    if time.monotonic() - began > LIMIT:
-                        raise Otherwise("no desk is opened") from None
-                    time.sleep(0.001)
-        return None
 
     def begin(self):
         self.requests = self.case.requests()
@@ -267,56 +279,173 @@ def listed(counter):
 # ---- bits
 
 
-def turn(path, place, bit):
-    with open(path, "r+b") as file:
-        file.seek(place)
-        was = file.read(1)[0]
-        file.seek(place)
-        file.write(bytes([was ^ 1 << bit]))
+LOG_HEAD, FRAME_HEAD = 32, 24  # bytes, of SQLite's log
 
 
-def pressed(program, folder, name):
-    done = subprocess.run([program, "press", name], cwd=folder, stdin=subprocess.DEVNULL, capture_output=True, timeout=LIMIT, check=False)
-    return done.returncode, done.stdout, files_in(folder)
+class Turned:
+    """Bits of a file of a drawn matter, turned one at a time, and what `press DEMO` then does. Below them stand: the matter with its sums, as the
+    program makes it; without sums, as it was made before; and with calls that a desk answered before it was killed, which stand in the log alone."""
+
+    def __init__(self, program, kept, room, prepare, name):
+        self.program, self.kept, self.name = program, kept, name
+        self.template, self.folder = os.path.join(room, "template"), os.path.join(room, "folder")
+        os.makedirs(self.template)
+        subprocess.run([program, *DRAWN], cwd=self.template, check=True, stdout=subprocess.DEVNULL)
+        shutil.rmtree(os.path.join(self.template, "out"))
+        # what the rows may be, the last what is due
+        self.states = prepare(program, self.template)
+        self.path, self.found = os.path.join(self.folder, name), collections.Counter()
+        self.fresh()
+        self.size, self.pages = os.path.getsize(self.path), size_of_pages(self.bytes_of(DATABASE[0]))
+        self.right = self.pressed()
+        if self.right[0] != 0 or self.rows() != self.states[-1]:
+            raise Otherwise(f"without a turned bit `press` gives {self.right[:2]}, rows as due: {self.rows() == self.states[-1]}")
+
+    def fresh(self):
+        shutil.rmtree(self.folder, ignore_errors=True)
+        shutil.copytree(self.template, self.folder)
+
+    def bytes_of(self, name):
+        with open(os.path.join(self.folder, name), "rb") as file:
+            return file.read()
+
+    def rows(self):
+        try:
+            return days.kept_rows(self.folder)
+        except sqlite3.Error as why:
+            return f"none, by sqlite3: {why}"
+
+    def pressed(self):
+        done = subprocess.run([self.program, "press", "DEMO"], cwd=self.folder, stdin=subprocess.DEVNULL, capture_output=True, timeout=LIMIT,
+                              check=False)
+        return done.returncode, done.stdout, files_in(self.folder)
+
+    def turn(self, place, bit):
+        with open(self.path, "r+b") as file:
+            file.seek(place)
+            was = file.read(1)[0]
+            file.seek(place)
+            file.write(bytes([was ^ 1 << bit]))
+
+    def places(self, count):
+        """Each bit of the head, one in each page or in head and page of each frame, and so many more."""
+        draw, is_log = random.Random(1), self.name == DATABASE[1]
+        first, step, starts = (LOG_HEAD, FRAME_HEAD + self.pages, (0, FRAME_HEAD)) if is_log else (0, self.pages, (0,))
+        found = {(place, bit) for place in range(first or 100) for bit in range(8)}
+        for page in range(first, self.size, step):
+            for start, end in zip(starts, (*starts[1:], step)):
+                found.add((min(page + draw.randrange(start, end), self.size - 1), draw.randrange(8)))
+        while len(found) < min(count, 8 * self.size):
+            found.add((draw.randrange(self.size), draw.randrange(8)))
+        return sorted(found)
+
+    def with_one(self, place, bit):
+        self.fresh()
+        self.turn(place, bit)
+        before = self.bytes_of(DATABASE[0])
+        told = self.pressed()
+        verdict = self.verdict(told, self.rows() if told[0] == 0 else None, self.bytes_of(DATABASE[0]) == before)
+        self.found[verdict] += 1
+        if verdict.startswith("otherwise"):
+            keep(os.path.join(self.kept, f"bit-{self.name}-{place}-{bit}"), self.folder,
+                 f"{self.what}: bit {bit} of byte {place}: {verdict}: status {told[0]}, {told[1]!r}, {len(told[2])} files")
+
+    def go(self, count):
+        """Whether nothing came that isn't allowed; prints what came."""
+        places = self.places(count)
+        for place, bit in places:
+            self.with_one(place, bit)
+        print(f"{self.what}: {len(places):,} bits of {8 * self.size:,}: {listed(self.found)}", flush=True)
+        return not any(verdict.startswith("otherwise") for verdict in self.found)
 
 
-def kinds_of_change(folder, rows):
-    """Which kinds of rows sqlite3 finds to be others, or that it finds no such file."""
+class Summed(Turned):
+    """A bit is found, or it is as if it hadn't turned."""
+
+    what = "matter.db with sums"
+
+    def verdict(self, told, rows, is_as_it_was):
+        if told == (*FAULT, {}):
+            return "5" if is_as_it_was else "otherwise, 5 and the file was changed"
+        return "as due" if told == self.right and rows == self.states[-1] else "otherwise"
+
+
+class Below(Summed):
+    what = "matter.db with sums, below a log"
+
+
+class Plain(Turned):
+    """Nothing finds a bit of a row that is as good with it."""
+
+    what = "matter.db without sums"
+
+    def verdict(self, told, rows, _):
+        status, out, files = told
+        if status == 2 and not files:
+            return f"refused {out.split()[1].decode()}"
+        if status in (5, 6) and not files:
+            return f"status {status}"
+        if status:
+            return "otherwise"
+        if told == self.right and rows == self.states[-1]:
+            return "as due"
+        return f"another {'matter' if told == self.right else 'volume'}, by rows of: {changed(rows, self.states[-1])}"
+
+
+def changed(rows, due):
+    """Of which kinds the rows are that sqlite3 finds to be others."""
+    if isinstance(rows, str):
+        return "none, by sqlite3"
+    return " and ".join(sorted({KINDS_OF_ROWS.get(key[0], "another") for key in rows.keys() | due.keys() if rows.get(key) != due.get(key)})) or "none"
+
+
+class Log(Turned):
+    """A bit ends the log there, as SQLite reads it: the calls from that commit on are gone, and nothing tells that they were."""
+
+    what = "matter.db-wal"
+
+    def verdict(self, told, rows, _):
+        if told != self.right or rows not in self.states:
+            return "otherwise"
+        gone = len(self.states) - 1 - self.states.index(rows)
+        return f"the last {gone} of {len(self.states) - 1} calls gone" if gone else "as due"
+
+
+def as_made(_, folder):
+    if not page_sums.has_sums(os.path.join(folder, DATABASE[0])) or any(page_sums.wrong_pages(os.path.join(folder, DATABASE[0]))):
+        raise Otherwise("the program made a file without sums, or with wrong ones")
+    return [days.kept_rows(folder)]
+
+
+def without_sums(_, folder):
+    rows = days.kept_rows(folder)
+    days.write_rows(folder, rows, has_sums=False)
+    return [rows]
+
+
+def with_calls(program, folder):
+    states = [rows_in(folder)]
+    process = subprocess.Popen([program, "serve", "1", "1000"], cwd=folder, stdin=subprocess.DEVNULL, stdout=subprocess.DEVNULL)
     try:
-        now = days.kept_rows(folder)
-    except sqlite3.Error:
-        return ["none, by sqlite3"]
-    return sorted({KINDS_OF_ROWS.get(key[0], "another") for key in rows.keys() | now.keys() if rows.get(key) != now.get(key)}) or ["none"]
+        for number in range(CALLS):
+            data = post("lead", f"/docs/{number + 1}/call", {"responsive": False, "treatment": "Produce", "designation": f"C{number}"})
+            if not asked(process, data).endswith(b'{"done":true}'):
+                raise Otherwise(f"call {number + 1} isn't answered as due")
+            states.append(rows_in(folder))
+    finally:
+        process.kill()
+        process.communicate()
+    if any(one == other for one, other in itertools.combinations(states, 2)):
+        raise Otherwise("a call changed no row")
+    return states
 
 
 def bits_turned(program, count, kept):
-    """Prints what became of the volume, a bit at a time. Whether nothing else came but a refusal or a volume."""
-    found, others, is_well = collections.Counter(), collections.Counter(), True
-    with tempfile.TemporaryDirectory(dir="/dev/shm" if os.path.isdir("/dev/shm") else None) as room:
-        template, folder = os.path.join(room, "template"), os.path.join(room, "folder")
-        os.makedirs(template)
-        subprocess.run([program, *DRAWN], cwd=template, check=True, stdout=subprocess.DEVNULL)
-        shutil.rmtree(os.path.join(template, "out"))
-        rows, path = days.kept_rows(template), os.path.join(folder, DATABASE[0])
-        shutil.copytree(template, folder)
-        size, right = os.path.getsize(path), pressed(program, folder, "DEMO")
-        draw = random.Random(1)
-        for place, bit in sorted((draw.randrange(size), draw.randrange(8)) for _ in range(count)):
-            shutil.rmtree(folder)
-            shutil.copytree(template, folder)
-            turn(path, place, bit)
-            status, out, files = pressed(program, folder, "DEMO")
-            if status in (2, 5, 6) and not files:
-                found[f"status {status}, `{out.decode().split(' LINE')[0].strip()}`" if status != 2 else f"refused {out.split()[1].decode()}"] += 1
-            elif status == 0:
-                found["the same volume" if (out, files) == right[1:] else "another volume"] += 1
-                if (out, files) != right[1:]:
-                    others[", ".join(kinds_of_change(folder, rows))] += 1
-            else:
-                is_well = False
-                found["otherwise"] += 1
-                keep(os.path.join(kept, f"bit-{place}-{bit}"), folder, f"bit {bit} of byte {place}: status {status}, {out!r}, {len(files)} files")
-    print(f"\n{count} bits of {8 * size:,}, of {len(rows)} rows: {listed(found)}\nanother volume by rows of: {listed(others)}", flush=True)
+    is_well = True
+    for kind, prepare, name in ((Summed, as_made, DATABASE[0]), (Plain, without_sums, DATABASE[0]),
+                                (Log, with_calls, DATABASE[1]), (Below, with_calls, DATABASE[0])):
+        with tempfile.TemporaryDirectory(dir="/dev/shm" if os.path.isdir("/dev/shm") else None) as room:
+            is_well = kind(program, kept, room, prepare, name).go(count) and is_well
     return is_well
 
 

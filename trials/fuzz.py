@@ -13,7 +13,8 @@ Jobs over the program, COUNT command lines or requests each:
     check    volumes as those of `volumes`, also with folders in place of files and files at the limit
     batch    imports of whole and damaged batches, one after another into one matter
     matter   damaged rows in matter.db
-    file     damaged bytes of matter.db: the answer is that of the rows that Python's sqlite3 reads, or a keeper fault
+    file     damaged bytes of matter.db, every second one without sums: the answer is that of the rows that Python's sqlite3 reads, or a
+             keeper fault
     day      imports, raw requests at desks, productions, presses and logs in turn; takes the ports 48201 to 48203
 """
 import collections
@@ -278,7 +279,7 @@ class Run:
     def file(self, day):
         draw = self.draw
         rows = self.a_matter(day)
-        days.write_rows(self.room, rows)
+        days.write_rows(self.room, rows, has_sums=draw.random() < 0.5)
         place = os.path.join(self.room, "matter.db")
         with open(place, "rb") as file:
             whole = file.read()

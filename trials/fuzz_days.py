@@ -9,13 +9,16 @@ import shutil
 import socket
 import sqlite3
 import subprocess
+import sys
 import time
 
+sys.path.insert(0, os.path.join(os.path.dirname(os.path.abspath(__file__)), "..", "tools", "tests"))
 import check_model
 import fuzz_batch as batches
 import fuzz_loads as loads
 import fuzz_matter as matters
 import fuzz_pages as pages
+import page_sums
 import web_model
 from fuzz_tools import Rule
 
@@ -44,16 +47,21 @@ def kept_rows(folder):
         database.close()
 
 
-def write_rows(folder, rows):
-    for name in ("matter.db", "matter.db-wal", "matter.db-shm"):
-        if os.path.exists(os.path.join(folder, name)):
-            os.remove(os.path.join(folder, name))
-    database = sqlite3.connect(os.path.join(folder, "matter.db"))
+def write_rows(folder, rows, has_sums=True):
+    """A new matter.db with these rows; with sums as the program makes one, or without, as it was made before."""
+    path = os.path.join(folder, "matter.db")
+    for ending in ("", "-wal", "-shm"):
+        if os.path.exists(path + ending):
+            os.remove(path + ending)
+    if has_sums:
+        page_sums.blank(path)
+    database = sqlite3.connect(path)
     database.execute("PRAGMA synchronous = OFF")
     database.execute(TABLE)
     database.executemany("INSERT INTO kept VALUES (?, ?, ?, ?)", [(*key, body) for key, body in rows.items()])
     database.commit()
     database.close()
+    page_sums.seal(path)
 
 
 # ---- the program

@@ -1,7 +1,7 @@
 #!/bin/sh
 # Kills the program at random moments of `import` and of `produce`, and opens matter.db again: the program has to find the rows
 # from before the command or those after it, and sqlite3 a whole database with the same rows. Says how often it found which.
-# For `produce` each document of the example batch is called Produce by rows that python3 writes, without a desk.
+# For `produce` each document of the example batch is called Produce by rows that python3 writes, with their sums, without a desk.
 # Words: how often each, 100 where there is none. Needs rt on PATH where the program isn't built; sqlite3 and python3.
 set -eu
 here=$(CDPATH='' cd -- "$(dirname -- "$0")" && pwd)
@@ -29,6 +29,7 @@ matter.executemany("INSERT INTO kept VALUES (5, ?, 0, ?)", [(document, body) for
 matter.commit()
 matter.close()
 END
+seal
 cp matter.db* decided
 
 # folder of the rows before, words of the command: kills it so often
@@ -47,9 +48,10 @@ kill_often() {
         turn=$((turn + 1))
         rm -rf matter.db* out
         cp "$from"/matter.db* .
+        # drawn first, as the program may be over before python3 has begun
+        moment=$(python3 -c "import random; print(random.random() * 1.1 * $took / 1e9)")
         "$program" "$@" > /dev/null 2>&1 &
         process=$!
-        moment=$(python3 -c "import random; print(random.random() * 1.1 * $took / 1e9)")
         sleep "$moment"
         kill -9 "$process" 2> /dev/null || :
         wait "$process" 2> /dev/null || :

@@ -8,6 +8,7 @@ import subprocess
 import sys
 from dataclasses import dataclass
 
+from keep.pages import fault_of
 from report.files import NoMatter, has_log
 from report.rows import read_matter
 
@@ -41,14 +42,22 @@ def program():
     raise Refused("the program isn't there: install tivrenan, or build it")
 
 
+def damage(path):
+    """What is wrong with a file that the program doesn't take."""
+    found = None if has_log(path) else fault_of(path)
+    return f"it is damaged: {found}" if found else "it is damaged, cut off, or no database"
+
+
 def tried(folder, name):
     """Opens the matter in a folder, by the program, which tests the whole file and folds its log, and by sqlite; then what it is.
     `name` is how a refusal calls it."""
     told = subprocess.run([program(), "log", "NONE"], cwd=folder, stdin=subprocess.DEVNULL, stdout=subprocess.PIPE, text=True, check=False)
     line = told.stdout.strip()
     if (told.returncode, line) != (2, "refused 33 NoProduction 0 0 0") and told.returncode:
-        why = {"keeper fault": "it is damaged, cut off, or no database", "refused 43 NoMatter 0 0 0": "no matter was begun in it"}
-        raise Refused(f"{name}: {why.get(line, f'the program says {line}, status {told.returncode}')}")
+        if line == "keeper fault":
+            raise Refused(f"{name}: {damage(os.path.join(folder, FILE))}")
+        why = "no matter was begun in it" if line == "refused 43 NoMatter 0 0 0" else f"the program says {line}, status {told.returncode}"
+        raise Refused(f"{name}: {why}")
     if has_log(os.path.join(folder, FILE)):
         raise Refused(f"{name}: its log couldn't be folded in")
     try:

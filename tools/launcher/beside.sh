@@ -12,6 +12,18 @@ with_interrupt() {
 # process: how much it has read, in megabytes
 read_by() { awk '/^rchar:/ { printf "%d", $2 / 1000000 }' "/proc/$1/io" 2> /dev/null || :; }
 
+# How long a megabyte of matter.db takes until the doors are open, in ms, where it is letter pages (bench/README.md): most goes into
+# reading each page.
+opening=55
+
+# Before doors are opened all of matter.db is tested: of a large one how long that takes
+tell_opening() {
+    megabytes=$(stat -L -c %s matter.db 2> /dev/null) || return 0
+    megabytes=$((megabytes / 1000000))
+    [ "$megabytes" -lt 50 ] ||
+        say "all $megabytes MB of matter.db are tested first: about $((megabytes * opening / 1000 + 1)) s, more on a full machine, less where few are pages"
+}
+
 # process, command: how far it is, as far as can be seen from outside
 how_far() {
     case $(lines_of "$2" writes) in
@@ -92,6 +104,7 @@ await_child() {
 # for its line.
 run_beside() {
     told_in=$(mktemp 2> /dev/null) || return 1
+    case $1 in serve | deliver) tell_opening ;; esac
     exec 8> "$told_in" 9< "$told_in"
     rm -f "$told_in"
     # shellcheck disable=SC2046 # a list of words

@@ -117,12 +117,36 @@ holders() {
     done
 }
 
+# Whether somebody whom this user may not see has a lock of the matter: one of SQLite's bytes, which begin at 2^30
+is_locked() { grep -q ":$(stat -L -c %i matter.db) 107374182" /proc/locks; } 2> /dev/null
+
+# A file that nobody is seen to hold, and that looks like a matter's: whether it is damaged, as far as its own pages tell. Where a log has
+# something, a page of the file may be one that the log has anew.
+tell_damage() {
+    megabytes=$(($(wc -c < matter.db) / 1000000))
+    [ "$megabytes" -lt 100 ] || say "looking whether matter.db is damaged, for about $((megabytes / 20)) s; Ctrl-C leaves that out"
+    if has_log || ! found=$(python3 "$tools/keep/pages.py" matter.db 2> /dev/null); then
+        say "$unseen"
+        say "where nobody does, it may be damaged: a page isn't as it was written, or the file was cut off"
+    elif [ -n "$found" ]; then
+        say "matter.db is damaged: $found. The disk failed, or another program wrote into the file"
+    else
+        say "$unseen"
+        say "each of its pages is as it was written: see whether the disk refuses something, and give the command again"
+        return
+    fi
+    say "a damaged file gives way to its last copy: tivrenan-restore COPY $(pwd) (GUIDE.md, 10. Backup)"
+}
+
 explain_keeper() {
+    unseen="nobody is seen who holds matter.db; root sees more by: fuser -v $(pwd)/matter.db"
     found=$(holders)
     if [ -n "$found" ]; then
         say "matter.db is held by"
         printf '%s\n' "$found" | sed 's/^/    /' >&2
         say "end it: a desk by Ctrl-C or systemctl, a viewer of databases by closing it"
+    elif is_locked; then
+        say "somebody holds matter.db who isn't seen from here; root sees more by: fuser -v $(pwd)/matter.db"
     elif [ ! -w . ]; then
         say "the folder $(pwd) can't be written by $(id -un)"
     elif [ -e matter.db ] && { [ ! -r matter.db ] || [ ! -w matter.db ]; }; then
@@ -131,8 +155,10 @@ explain_keeper() {
         say "$(pwd)/matter.db is no database"
     elif [ "$(df -P . | awk 'NR == 2 { print $4 }')" = 0 ]; then
         say "the disk of $(pwd) is full"
+    elif [ -s matter.db ]; then
+        tell_damage
     else
-        say "nobody is seen who holds matter.db; root sees more by: fuser -v $(pwd)/matter.db"
+        say "$unseen"
     fi
 }
 

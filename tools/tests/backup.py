@@ -147,8 +147,8 @@ def text(_):
 def restored(copy):
     for change in (cut, altered, overwritten, text):
         refused(f"one that is {change.__name__}", spoiled(copy, change, "old"), "roof", "isn't the file that was copied then")
-    for change in (cut, overwritten, text):
-        refused(f"one that is {change.__name__}, with a digest of that", spoiled(copy, change, "new"), "roof", "damaged")
+    for change, why in ((cut, "it is damaged: it is cut off"), (altered, "it is damaged: page "), (overwritten, "damaged"), (text, "damaged")):
+        refused(f"one that is {change.__name__}, with a digest of that", spoiled(copy, change, "new"), "roof", why)
     refused("one without a digest", spoiled(copy, altered, None) if os.remove("copies/spoiled-altered.db.sha256") is None else "", "roof", "sha256 isn't there")
     refused("one of another matter", copy, "wall", "of another matter: its lead has another key")
     refused("one of a folder that isn't there", "copies/none.db", "roof", "none.db")

@@ -9,6 +9,7 @@ import subprocess
 import sys
 
 sys.dont_write_bytecode = True
+import page_sums  # noqa: E402
 import rooms  # noqa: E402
 from counted import Counted  # noqa: E402
 
@@ -36,6 +37,7 @@ def spoil(path):
     with sqlite3.connect(path) as matter:
         matter.execute("UPDATE kept SET body = CAST(x'09' || substr(body, 2) AS BLOB) WHERE kind = 1")
     matter.close()
+    page_sums.seal(path)
 
 
 def live(run, root, first, second):

@@ -1,7 +1,7 @@
 #!/usr/bin/env python3
 """Tries what the launcher does beside the program, over the built program: a volume's folder that has files of an earlier run, a
 matter.db that a command made and left empty, the log of a desk that a signal ended, who holds a matter, what is said when doors are
-open, and that a signal to the launcher reaches the program.
+open, that a signal to the launcher reaches the program, and what is said of a damaged file.
 
 Runs in a network of its own where the system gives one. Ends with 1 where something isn't as it is due. Needs the built program and
 Debian's sqlite3 for one part, which is left out and said where it isn't there.
@@ -23,6 +23,7 @@ import urllib.request
 
 sys.dont_write_bytecode = True
 import apart  # noqa: E402
+import page_sums  # noqa: E402
 from counted import Counted  # noqa: E402
 
 TOP = os.path.dirname(os.path.dirname(os.path.dirname(os.path.abspath(__file__))))
@@ -237,6 +238,56 @@ def held():
         check("a file that is none is told", status == 5 and "is no database" in said, (status, said))
 
 
+def put_away(*names):
+    for name in os.listdir("."):
+        if name.startswith("matter.db") and name not in names:
+            os.remove(name)
+
+
+def told_of_damage(what, why):
+    with open("matter.db", "rb") as file:
+        before = file.read()
+    status, line, said = run("press", "R-1")
+    check(f"{what} is refused", (status, line) == (5, "keeper fault\n"), (status, line))
+    check(f"{what} is told", why in said, said)
+    check(f"{what}: what to do is said", f"tivrenan-restore COPY {os.getcwd()}" in said, said)
+    with open("matter.db", "rb") as file:
+        check(f"{what}: the file is as it was", file.read() == before)
+
+
+def damaged():
+    """Each page of the file has a sum, so that one which isn't as it was written is found."""
+    with folder("damaged"):
+        begin_matter()
+        with open("matter.db", "rb") as file:
+            whole = file.read()
+        count = len(whole) // 4096
+
+        def put(data):
+            put_away()
+            with open("matter.db", "wb") as file:
+                file.write(data)
+            return data
+
+        at = 4096 * (count // 2) + 77
+        put(whole[:at] + bytes([whole[at] ^ 4]) + whole[at + 1 :])
+        told_of_damage("a bit that turned", f"matter.db is damaged: page {count // 2 + 1} of its {count} isn't as it was written")
+        put(whole[: 4096 * (count // 2)])
+        told_of_damage("a file that was cut off", f"matter.db is damaged: it is cut off: {count // 2} of its {count} pages are there")
+        put(whole)
+        with contextlib.closing(sqlite3.connect("matter.db", isolation_level=None)) as other:
+            other.execute("UPDATE kept SET body = zeroblob(3) WHERE kind = 1")
+        told_of_damage("a file that sqlite3 wrote into", "isn't as it was written. The disk failed, or another program wrote into the file")
+        put(whole)
+        page_sums.drop("matter.db")
+        with open("matter.db", "rb") as file:
+            plain = file.read()
+        put(plain[:8192] + b"x" * 4096 + plain[12288:])
+        told_of_damage("a damaged file without sums", "where nobody does, it may be damaged")
+        put(whole)
+        check("the whole one is taken", run("press", "R-1")[1] == "refused 33 NoProduction 0 0 0\n")
+
+
 def at_a_terminal():
     """What a person sees: at a terminal of its own."""
     with folder("terminal"):
@@ -262,7 +313,7 @@ def main():
     room = tempfile.mkdtemp(prefix="folder-")
     os.chdir(room)
     try:
-        for part in (volumes, empty_matters, signals, held, at_a_terminal):
+        for part in (volumes, empty_matters, signals, held, damaged, at_a_terminal):
             print(part.__name__, flush=True)
             part()
     finally:

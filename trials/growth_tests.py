@@ -3,9 +3,10 @@
 
 TESTS is a crate's tests as they were built (`rt test` makes out/CRATE_tests). Each test, or each whose name holds a NAME, runs once as it is,
 which tells how many growths it has; then the Nth is refused, for each N, by growths.c. It has to pass, or to end with the error that memory ran
-out; "the desk did not start" is what the tests of bp_test_seats make of that where Desk::start answers it. An assertion that fails is another
-answer in the place of the right one, but in tests of doors, as four_doors, whose every reply has to be 200, where 507 is due here. Prints a row
-for each test, and ends with 1 where one ended otherwise. Needs cc.
+out; "the desk did not start" is what the tests of bp_test_seats make of that where Desk::start answers it, and None in the place of a count of
+calls where Desk::close does. An assertion that fails is another answer in the place of the right one, but in tests of doors, as four_doors, by
+their names: there each reply has to be 200, and 507 is due here, which growths.py looks at. Prints a row for each test, and ends with 1 where
+one ended otherwise. Needs cc.
 """
 import collections
 import os
@@ -15,17 +16,24 @@ import sys
 import tempfile
 
 HERE = os.path.dirname(os.path.abspath(__file__))
-LACKS = re.compile(rb'error: (OutOfMemory|AllocError|AllocFailed \{ \.\. \}|"the desk did not (start|close)")\n')
+LACKS = re.compile(rb'error: (OutOfMemory|AllocError|AllocFailed \{ \.\. \}|"the desk did not start")\n|failed\n  left: (None)\n right: Some\(')
 LIMIT = 60
 
 
 def run(tests, library, tell, name, at):
     environ = {"LD_PRELOAD": library, "GROWTH_TELL": tell, "GROWTH_REFUSE": str(at)}
-    done = subprocess.run([tests, name], env=environ, stdin=subprocess.DEVNULL, stdout=subprocess.PIPE, stderr=subprocess.STDOUT, timeout=LIMIT)
+    try:
+        done = subprocess.run([tests, name], env=environ, stdin=subprocess.DEVNULL, stdout=subprocess.PIPE, stderr=subprocess.STDOUT, timeout=LIMIT)
+    except subprocess.TimeoutExpired:
+        return f"otherwise, no end within {LIMIT} seconds"
     if done.returncode == 0:
         return "passed"
     found = LACKS.search(done.stdout)
-    return found[1].decode() if found else f"otherwise, {done.returncode}: {done.stdout[:300]!r}"
+    if found:
+        return (found[1] or found[2]).decode()
+    if "door" in name and done.stdout.startswith(b"assertion "):
+        return "another reply"
+    return f"otherwise, {done.returncode}: {done.stdout[:300]!r}"
 
 
 def row(tests, library, room, name):

@@ -517,8 +517,10 @@ def left_by(before, prepare):
 
 class Lines(Trial):
     """The runs of bp_test_codecs over files of lines. Where memory runs out a line is told so, and what follows it in its file may be told
-    otherwise as well; where it runs out for the words of a line, which bp_test_words reads, that is told as not read; or the program ends with 1,
-    and says on standard error why."""
+    otherwise as well; where it runs out for the words of a line, which bp_test_words reads, that is told as not read; where it does for one of
+    two readers whose answers the program compares, that they differ; or the program ends with 1, and says on standard error why."""
+
+    TOLD = {"out of memory": "told", "not read": "not read", "the two readers differ": "one reader"}
 
     def __init__(self, program, library, case, mode, room):
         beside = [os.path.join(os.path.dirname(program), "bp_test_codecs"), os.path.join(HERE, "..", "crates", "bp_test_codecs", "out", "bp_test_codecs")]
@@ -548,8 +550,8 @@ class Lines(Trial):
         for k, line in enumerate(lines):
             name, _, rest = line.partition(":")
             text = rest.partition(": ")[2]
-            if name in lacking or name in self.words and text in ("out of memory", "not read"):
-                verdict = verdict if name in lacking else "told" if text == "out of memory" else "not read"
+            if name in lacking or name in self.words and text in self.TOLD:
+                verdict = verdict if name in lacking else self.TOLD[text]
                 lacking.add(name)
                 others += 1
             elif line and line != self.right.out.decode().replace(" 0 of", f" {others} of").rstrip("\n") and k + 1 < len(lines):

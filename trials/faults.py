@@ -296,7 +296,8 @@ class Turned:
         self.states = prepare(program, self.template)
         self.path, self.found = os.path.join(self.folder, name), collections.Counter()
         self.fresh()
-        self.size, self.pages = os.path.getsize(self.path), size_of_pages(self.bytes_of(DATABASE[0]))
+        # a log is made longer in advance, by zeros
+        self.size, self.pages = len(self.bytes_of(name).rstrip(b"\0")), size_of_pages(self.bytes_of(DATABASE[0]))
         self.right = self.pressed()
         if self.right[0] != 0 or self.rows() != self.states[-1]:
             raise Otherwise(f"without a turned bit `press` gives {self.right[:2]}, rows as due: {self.rows() == self.states[-1]}")

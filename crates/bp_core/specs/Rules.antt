@@ -91,6 +91,7 @@ rule_entry kinds.NotProduced = entry 122 (codes "NotProduced")
 rule_entry kinds.NoticeTwice = entry 123 (codes "NoticeTwice")
 rule_entry kinds.NotReceiver = entry 130 (codes "NotReceiver")
 rule_entry kinds.GrantShape = entry 131 (codes "GrantShape")
+rule_entry kinds.TermRefused = entry 140 (codes "TermRefused")
 
 -- the number of a rule
 abbrev pub rule_number : RuleKind → ℕ

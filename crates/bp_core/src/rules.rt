@@ -157,6 +157,8 @@ pub enum RuleKind {
     NotReceiver,
     /// Record `line` of the grants is not of its form.
     GrantShape,
+    /// A search has no term or more than 8, or one that is empty, too long, or has a control character.
+    TermRefused,
 }
 
 /// A broken rule: which one, the line of a file where there is one, and two values that the rule
@@ -373,5 +375,6 @@ fn number_and_name(kind: RuleKind) -> (u16, &'static str)
         RuleKind::NoticeTwice => (123, "NoticeTwice"),
         RuleKind::NotReceiver => (130, "NotReceiver"),
         RuleKind::GrantShape => (131, "GrantShape"),
+        RuleKind::TermRefused => (140, "TermRefused"),
     }
 }

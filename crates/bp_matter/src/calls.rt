@@ -1,7 +1,8 @@
 // What members of the staff ask for, and what is replied.
 use crate::kept_page::KeptPage;
+use crate::looks::{Found, PersonList, ProductionViewList, StateList, ValueList};
 use crate::rows::{BoxList, Entry, HeldList, Production, Request, State};
-use bp_core::{Basis, DocNo, PageNo, Rect, Role, StaffNo, Text, Treatment};
+use bp_core::{Basis, DocNo, PageNo, Rect, Role, StaffNo, Text, TextList, Treatment};
 use bp_text::WordList;
 
 /// A call of a member of the staff.
@@ -82,6 +83,28 @@ pub enum Call {
     GetProduction {
         id: Text,
     },
+    /// Asks for the states of documents, from this one on.
+    SeeStates {
+        from: DocNo,
+    },
+    /// Asks for the values of a document.
+    SeeValues {
+        doc: DocNo,
+    },
+    /// Asks who is of the staff.
+    SeeStaff,
+    /// Asks for the kept productions.
+    SeeProductions,
+    /// Searches for terms, from a part of a document on: a page of it, or 0 for its values.
+    Find {
+        terms: TextList,
+        from: DocNo,
+        page: u32,
+    },
+    /// Asks what a freeze would answer.
+    Plan {
+        request: Request,
+    },
 }
 
 /// What is known of a document. Of an uncalled one `responsive` is false, the treatment Produce and
@@ -111,4 +134,9 @@ pub enum Reply {
     Words(WordList),
     Done,
     Produced(Production),
+    States(StateList),
+    Values(ValueList),
+    People(PersonList),
+    Productions(ProductionViewList),
+    Found(Found),
 }

@@ -92,6 +92,12 @@ impl Call {
             Call::SendBack { doc } => Ok(Call::SendBack { doc: *doc }),
             Call::Freeze { request } => copy_freeze(alloc, request),
             Call::GetProduction { id } => copy_get_production(id),
+            Call::SeeStates { from } => Ok(Call::SeeStates { from: *from }),
+            Call::SeeValues { doc } => Ok(Call::SeeValues { doc: *doc }),
+            Call::SeeStaff => Ok(Call::SeeStaff),
+            Call::SeeProductions => Ok(Call::SeeProductions),
+            Call::Find { terms, from, page } => copy_find(alloc, terms, *from, *page),
+            Call::Plan { request } => copy_plan(alloc, request),
         }
     }
 }
@@ -201,6 +207,29 @@ fn copy_get_production(id: &Text) -> Result<Call, OutOfMemory>
     ensures { IfOk result (λ call. call ≡ Call.GetProduction id.now) }
 {
     Ok(Call::GetProduction { id: copy_text(id)? })
+}
+
+fn copy_find(
+    alloc: Global,
+    terms: &TextList,
+    from: DocNo,
+    page: u32,
+) -> Result<Call, OutOfMemory>
+    ensures { IfOk result (λ call. call ≡ Call.Find terms.now from page) }
+{
+    Ok(Call::Find {
+        terms: copy_texts(alloc, terms)?,
+        from,
+        page,
+    })
+}
+
+fn copy_plan(alloc: Global, request: &Request) -> Result<Call, OutOfMemory>
+    ensures { IfOk result (λ call. call ≡ Call.Plan request.now) }
+{
+    Ok(Call::Plan {
+        request: request.copy(alloc)?,
+    })
 }
 
 fn copy_text(text: &Text) -> Result<Text, OutOfMemory>

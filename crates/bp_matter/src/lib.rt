@@ -19,6 +19,7 @@ pub mod laws;
 mod limits;
 mod list_parts;
 mod lists;
+mod looks;
 mod lookups;
 mod marks;
 mod parts;
@@ -43,6 +44,10 @@ pub use limits::{
     MAX_BATCHES, MAX_BOX, MAX_DESCRIPTION, MAX_DESIGNATION, MAX_DOCUMENTS, MAX_FIELDS,
     MAX_FREE_PIXELS, MAX_ID, MAX_NAME, MAX_PAGES, MAX_PIXELS, MAX_PRODUCTIONS, MAX_STAFF,
     MAX_STRIP_BYTES,
+};
+pub use looks::{
+    Found, Hit, HitList, PersonList, PersonRow, ProductionView, ProductionViewList, StateList, StateRow,
+    ValueList, ValueRow,
 };
 pub use rows::{
     BatchList, BatchRow, BoxList, BoxRow, CallRow, CallShelves, DocBox, DocBoxShelves, DocEntry,

@@ -7,7 +7,7 @@ use Rattle.std.proofs.lemmas.List.Elements.{All-nil, All-cons}
 use Rattle.bp_core.specs.declared.rectangle.Rect.{Rect}
 use Rattle.bp_text.specs.Kept.{is_touched, kept_of}
 use Rattle.bp_text.specs.declared.words.Word.{Word}
-use Rattle.bp_looks.specs.declared.hits.Hit.{Hit}
+use Rattle.bp_matter.specs.declared.looks.Hit.{Hit}
 use Rattle.bp_looks.specs.declared.hits.Spot.{Spot}
 use Rattle.bp_looks.specs.Covered.{IsCovered, is_covered}
 use Rattle.bp_looks.specs.Hits.{has_hit, hit_at, hits_after, hits_of, word_text}

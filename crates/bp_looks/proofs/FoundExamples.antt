@@ -10,11 +10,13 @@ use Rattle.ucd_case.proofs.Computing.{ucd_case}
 use Rattle.ucd_category.proofs.Computing.{ucd_category}
 use Rattle.bp_looks.specs.Covered.{is_covered}
 use Rattle.bp_looks.specs.Finding.{find}
+use Rattle.bp_core.specs.Rules.{bare_rule}
+use Rattle.bp_core.specs.declared.rules.RuleKind.TheVariants.{TermRefused}
 use Rattle.bp_looks.specs.Found.{Walk, doc_no, next_of, next_page_of, walk_within}
 use Rattle.bp_looks.specs.Parts.{Rows, parts_from}
+use Rattle.bp_looks.specs.Refusing.{no_document, no_page}
 use Rattle.bp_looks.specs.Terms.{are_terms, is_term}
 use Rattle.bp_looks.specs.declared.found.TheConstants.{ENOUGH_HITS, MAX_PARTS}
-use Rattle.bp_looks.specs.declared.refusals.FindRefusal.TheVariants as refusals
 use Rattle.bp_looks.specs.declared.terms.TheConstants.{MAX_TERM, MAX_TERMS}
 
 most_parts : MAX_PARTS ≡ 1000
@@ -113,18 +115,18 @@ unfolding ucd_case ucd_category lib.Utf8.encode
 from_there = refl
 
 -- no term; from document 0, and beyond the last; from a page beyond the last. The first reason counts
-none_asked : find matter [] 0 0 ≡ Err refusals.TermRefused
+none_asked : find matter [] 0 0 ≡ Err (bare_rule TermRefused)
 none_asked = refl
 
-from_zero : find matter counsel 0 0 ≡ Err refusals.NoDocument
+from_zero : find matter counsel 0 0 ≡ Err (no_document 0)
 unfolding lib.Utf8.encode
 from_zero = refl
 
-past_documents : find matter counsel 3 9 ≡ Err refusals.NoDocument
+past_documents : find matter counsel 3 9 ≡ Err (no_document 3)
 unfolding lib.Utf8.encode
 past_documents = refl
 
-past_pages : find matter counsel 2 2 ≡ Err refusals.NoPage
+past_pages : find matter counsel 2 2 ≡ Err (no_page 2)
 unfolding lib.Utf8.encode
 past_pages = refl
 

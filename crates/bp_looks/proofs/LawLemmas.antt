@@ -3,7 +3,7 @@ use Rattle.std.proofs.Common.{◌≡◌, ◌≤◌, ◌<◌, ◌+◌, ◌-◌, �
 use Rattle.std.specs.Prelude.{◌&&◌, ◌==◌, if◌then◌else◌, nat_lt}
 use Rattle.std.proofs.Math.Dec.{eqb-suc-zero}
 use Rattle.std.proofs.lemmas.List.{drop-drop, nil_from_length}
-use Rattle.bp_looks.specs.declared.hits.Hit.{Hit}
+use Rattle.bp_matter.specs.declared.looks.Hit.{Hit}
 use Rattle.bp_looks.specs.declared.found.TheConstants.{MAX_PARTS, ENOUGH_HITS}
 use Rattle.bp_looks.specs.Found.{hits_in, walk, next_of, next_page_of}
 use Rattle.bp_looks.specs.Going.{all_hits, going_on}

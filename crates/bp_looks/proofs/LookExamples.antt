@@ -29,9 +29,9 @@ use Rattle.bp_looks.specs.Refusing.{no_document}
 use Rattle.bp_looks.specs.Staff.{people_of}
 use Rattle.bp_looks.specs.States.{docs_from, see_states, state_row}
 use Rattle.bp_looks.specs.Values.{see_values}
-use Rattle.bp_looks.specs.declared.states.StateRow.{StateRow}
+use Rattle.bp_matter.specs.declared.looks.StateRow.{StateRow}
 use Rattle.bp_looks.specs.declared.states.TheConstants.{MAX_STATES}
-use Rattle.bp_looks.specs.declared.values.ValueRow.{ValueRow}
+use Rattle.bp_matter.specs.declared.looks.ValueRow.{ValueRow}
 
 most_states : MAX_STATES ≡ 500
 most_states = refl

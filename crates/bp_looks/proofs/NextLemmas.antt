@@ -4,14 +4,16 @@ use Rattle.std.specs.Prelude.{if◌then◌else◌, nat_lt, not}
 use Rattle.std.proofs.lemmas.Bool.{cases_lt, le-ltb}
 use Rattle.std.proofs.lemmas.List.{get_or-drop, get_or_past, length-drop}
 use Rattle.std.proofs.lemmas.List.FromFn.{get_or-map-range_with_len, length-map-range_with_len}
+use Rattle.bp_core.specs.Rules.{bare_rule}
+use Rattle.bp_core.specs.declared.rules.RuleKind.TheVariants.{TermRefused}
 use Rattle.bp_matter.specs.LookUps.{doc_with, of_row}
 use Rattle.bp_matter.specs.Matter.{Matter}
 use Rattle.bp_matter.specs.declared.rows.DocRow.{DocRow}
 use Rattle.bp_looks.specs.Finding.{find, find_from, pages_of}
 use Rattle.bp_looks.specs.Found.{found_of, next_of, next_page_of, walk}
 use Rattle.bp_looks.specs.Parts.{Part, Rows, document_rows, documents_of, parts_from, parts_in, parts_of, rows_in}
+use Rattle.bp_looks.specs.Refusing.{no_page}
 use Rattle.bp_looks.specs.Terms.{are_terms}
-use Rattle.bp_looks.specs.declared.refusals.FindRefusal.TheVariants as refusals
 use Rattle.bp_looks.proofs.LawLemmas.{IsPlaced, placed-start, placed-walk}
 use Rattle.bp_looks.proofs.PartLemmas.{length-rows}
 
@@ -78,7 +80,7 @@ found_there m terms doc page (Some row) is lt =
     let test : nat_lt row.pages page ≡ false =
     le-ltb row.pages page (omega (arith, length-rows m row doc)) in
     ap (λ (o : Option ℕ). find_from m terms doc page o) pages
-    ∙ ap (λ (b : Bool). if b then Err refusals.NoPage else Ok (found_of m terms doc page)) test
+    ∙ ap (λ (b : Bool). if b then Err (no_page page) else Ok (found_of m terms doc page)) test
 
 asked_there : (m : Matter) (terms : List (List ℕ)) (from page : ℕ) (rest : List Part)
     → 1 ≤ from
@@ -113,6 +115,6 @@ next-found m terms from page good above some =
     let placed : IsPlaced from docs rest =
     placed-walk docs from terms [] 0 parts (placed-start docs from page) in
     let lt = asked_there m terms from page rest above some placed in
-    ap (λ (b : Bool). if not b then Err refusals.TermRefused
+    ap (λ (b : Bool). if not b then Err (bare_rule TermRefused)
     else find_from m terms (next_of rest) (next_page_of rest) (pages_of m (next_of rest))) good
     ∙ found_there m terms (next_of rest) (next_page_of rest) (doc_with (next_of rest) m) refl lt

@@ -2,7 +2,7 @@
 use Rattle.std.proofs.Common.{◌≡◌, ◌≤◌, ◌<◌, ◌+◌, ℕ, Bool, true, false, inl, inr, List, [], ◌∷◌, ◌++◌, length, drop, refl, ap, ◌∙◌, arith}
 use Rattle.std.specs.Prelude.{◌&&◌, ◌||◌, if◌then◌else◌, nat_le, nat_lt}
 use Rattle.std.proofs.lemmas.Bool.{and_right, le-ltb, leb-false, leb-true, lt-ltb, or_cases, or_parts}
-use Rattle.bp_looks.specs.declared.hits.Hit.{Hit}
+use Rattle.bp_matter.specs.declared.looks.Hit.{Hit}
 use Rattle.bp_looks.specs.declared.found.TheConstants.{ENOUGH_HITS, MAX_PARTS}
 use Rattle.bp_looks.specs.Found.{hits_in, told, walk}
 use Rattle.bp_looks.specs.Parts.{Part, Rows, parts_of, parts_in}

@@ -3,7 +3,7 @@ use Rattle.std.specs.Prelude.{◌≡◌, ◌<◌, ◌+◌, ◌-◌, ℕ, zero, s
 use Rattle.bp_core.specs.declared.rectangle.Rect.{Rect}
 use Rattle.bp_text.specs.Kept.{is_touched}
 use Rattle.bp_text.specs.declared.words.Word.{Word}
-use Rattle.bp_looks.specs.declared.hits.Hit.{Hit}
+use Rattle.bp_matter.specs.declared.looks.Hit.{Hit}
 
 -- some box touches the word of this number, counted from 0
 abbrev pub is_covered : List Rect → List Word → ℕ → Bool

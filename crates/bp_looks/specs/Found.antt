@@ -4,9 +4,9 @@ use Rattle.bp_core.specs.declared.numbers.DocNo.{DocNo}
 use Rattle.bp_matter.specs.Matter.{Matter}
 use Rattle.bp_looks.specs.Hits.{hits_of_rows}
 use Rattle.bp_looks.specs.Parts.{Part, Rows, documents_of, parts_from}
-use Rattle.bp_looks.specs.declared.found.Found.{Found}
+use Rattle.bp_matter.specs.declared.looks.Found.{Found}
 use Rattle.bp_looks.specs.declared.found.TheConstants.{ENOUGH_HITS, MAX_PARTS}
-use Rattle.bp_looks.specs.declared.hits.Hit.{Hit}
+use Rattle.bp_matter.specs.declared.looks.Hit.{Hit}
 use Rattle.bp_looks.specs.declared.hits.Spot.{Spot}
 
 -- a number as that of a document

@@ -2,7 +2,7 @@
 use Rattle.std.specs.Prelude.{ℕ, zero, suc, ◌==◌, if◌then◌else◌, List, [], ◌∷◌, ◌++◌}
 use Rattle.bp_looks.specs.Found.{found_from, hits_in}
 use Rattle.bp_looks.specs.Parts.{Part, Rows}
-use Rattle.bp_looks.specs.declared.hits.Hit.{Hit}
+use Rattle.bp_matter.specs.declared.looks.Hit.{Hit}
 
 -- the hits of each of these parts, in order
 abbrev pub all_hits : List (List ℕ) → List Part → List Hit

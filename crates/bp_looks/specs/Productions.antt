@@ -3,7 +3,7 @@ use Rattle.std.specs.Prelude.{List, length, map}
 use Rattle.bp_matter.specs.Matter.{Matter}
 use Rattle.bp_matter.specs.declared.rows.Production.{Production}
 use Rattle.bp_matter.specs.declared.rows.ProductionRow.{ProductionRow}
-use Rattle.bp_looks.specs.declared.productions.ProductionView.{ProductionView}
+use Rattle.bp_matter.specs.declared.looks.ProductionView.{ProductionView}
 
 -- a production: the words of its request, its span and the number of its items
 abbrev pub production_view : Production → ProductionView

@@ -2,7 +2,7 @@
 use Rattle.std.specs.Prelude.{List, map}
 use Rattle.bp_matter.specs.Matter.{Matter}
 use Rattle.bp_matter.specs.declared.rows.StaffRow.{StaffRow}
-use Rattle.bp_looks.specs.declared.staff.PersonRow.{PersonRow}
+use Rattle.bp_matter.specs.declared.looks.PersonRow.{PersonRow}
 
 -- a member of the staff, without the digest of their key
 abbrev pub person_of : StaffRow → PersonRow

@@ -9,7 +9,7 @@ use Rattle.bp_matter.specs.declared.rows.DocRow.{DocRow}
 use Rattle.bp_looks.specs.Produced.{production_of}
 use Rattle.bp_looks.specs.Refusing.{no_document}
 use Rattle.bp_looks.specs.Shown.{shown_designation, shown_responsive, shown_treatment}
-use Rattle.bp_looks.specs.declared.states.StateRow.{StateRow}
+use Rattle.bp_matter.specs.declared.looks.StateRow.{StateRow}
 use Rattle.bp_looks.specs.declared.states.TheConstants.{MAX_STATES}
 
 -- how far the document in this row has come: its call, and how much else there is of it

@@ -8,7 +8,7 @@ use Rattle.bp_matter.specs.Matter.{Matter, held_key}
 use Rattle.bp_matter.specs.declared.rows.DocRow.{DocRow}
 use Rattle.bp_matter.specs.declared.rows.FieldRow.{FieldRow}
 use Rattle.bp_looks.specs.Refusing.{no_document}
-use Rattle.bp_looks.specs.declared.values.ValueRow.{ValueRow}
+use Rattle.bp_matter.specs.declared.looks.ValueRow.{ValueRow}
 
 -- the document's value of a field, whose number counts from 1, or the empty text: its values are
 -- those of the first fields

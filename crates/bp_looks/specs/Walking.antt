@@ -2,7 +2,7 @@
 use Rattle.std.specs.Prelude.{ℕ, ◌≡◌, List, ◌++◌}
 use Rattle.bp_looks.specs.Found.{walk}
 use Rattle.bp_looks.specs.Parts.{Part}
-use Rattle.bp_looks.specs.declared.hits.Hit.{Hit}
+use Rattle.bp_matter.specs.declared.looks.Hit.{Hit}
 
 -- a search comes past these parts, to other hits and more parts taken
 abbrev pub ComesPast : List (List ℕ) → List Hit → ℕ → List Part → List Hit → ℕ → Type 0

@@ -2,18 +2,19 @@
 ghost use Rattle.std.specs.Prelude.{◌≡◌, ◌<◌, ◌≤◌, ◌^◌, ◌++◌, ◌||◌, IfOk, IfSome, IfNone, IsTrue, OnOk, Some, drop, length, map, nat_le};
 ghost use Rattle.bp_matter.specs.LookUps.{doc_with};
 ghost use Rattle.bp_matter.specs.Written.{are_few, is_short};
-ghost use Rattle.bp_looks.specs.Finding.{Answers, find};
+ghost use Rattle.bp_core.specs.Answers.{Answers};
+ghost use Rattle.bp_looks.specs.Finding.{find};
 ghost use Rattle.bp_looks.specs.Found.{found_of, hits_in, spot_of};
 ghost use Rattle.bp_looks.specs.Hits.{hits_of_rows, terms_of};
 ghost use Rattle.bp_looks.specs.Parts.{document_rows, page_rows, page_words, part_at, parts_of};
 ghost use Rattle.bp_looks.specs.Pieces.{pieces_of};
 ghost use Rattle.bp_looks.specs.Walking.{ComesPast, StopsAt};
 
-use crate::hits::{Hit, HitList, Spot, add_value_hits, add_word_hits};
-use crate::refusals::FindRefusal;
+use crate::hits::{Spot, add_value_hits, add_word_hits};
+use crate::no_such::{no_document, no_page};
 use crate::terms::{are_terms, letters_of};
-use bp_core::{DocNo, ListOf, OutOfMemory, PageNo, Text, TextList};
-use bp_matter::{DocRow, Tables};
+use bp_core::{DocNo, ListOf, OutOfMemory, PageNo, Refusal, RuleKind, Text, TextList};
+use bp_matter::{DocRow, Found, Hit, Tables};
 use bp_text::Word;
 use std::alloc::Global;
 
@@ -23,35 +24,27 @@ pub const MAX_PARTS: usize = 1_000;
 /// At so many hits a search takes no further part.
 pub const ENOUGH_HITS: usize = 1_000;
 
-/// What one search found. `next` and `next_page` name the first part that it didn't take: a document and
-/// a page of it, or 0 for the document's values. Where none is left both are 0.
-#[derive(Debug, Drop)]
-pub struct Found {
-    pub hits: HitList,
-    pub next: u32,
-    pub next_page: u32,
-}
-
 /// Searches the parts of the documents in order, from the part `page` of the document `from` on: part 0
 /// of a document is its values, and each other part the page of that number. It takes at most MAX_PARTS
-/// parts, and none after ENOUGH_HITS hits; the last part is taken whole.
+/// parts, and none after ENOUGH_HITS hits; the last part is taken whole. TermRefused where these are no
+/// terms of a search; NoDocument or NoPage with the number that was asked for.
 pub fn find(
     alloc: Global,
     tables: &Tables,
     terms: &TextList,
     from: DocNo,
     page: u32,
-) -> Result<Found, FindRefusal>
-    ensures { Answers result (find tables.now.matter terms.now from.0 page) }
+) -> Result<Found, Refusal>
+    ensures { Answers (λ found. found) result (find tables.now.matter terms.now from.0 page) }
 {
     if !are_terms(terms) {
-        return Err(FindRefusal::TermRefused);
+        return Err(Refusal::bare(RuleKind::TermRefused));
     }
     let Some(pages) = tables.doc_pages(from) else {
-        return Err(FindRefusal::NoDocument);
+        return Err(Refusal::Rule(no_document(from)));
     };
     if pages < page {
-        return Err(FindRefusal::NoPage);
+        return Err(Refusal::Rule(no_page(page)));
     }
     tables.know_valid();
     let letters = letters_of(alloc, terms)?;

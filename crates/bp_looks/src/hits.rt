@@ -5,25 +5,10 @@ ghost use Rattle.bp_looks.specs.Pieces.{pieces_of};
 
 use crate::matching::matches;
 use crate::pieces::pieces;
-use bp_core::{DocNo, ListOf, OutOfMemory, Text};
+use bp_core::{DocNo, OutOfMemory, Text};
+use bp_matter::Hit;
 use bp_text::Word;
 use std::alloc::Global;
-
-/// Where terms match: on a page, with field 0, or in a field of the matter, with page 0.
-#[derive(Clone, Copy, Debug, PartialEq, Eq)]
-pub struct Hit {
-    pub doc: DocNo,
-    /// The number of the page in its document, from 1, or 0.
-    pub page: u32,
-    /// The number of the field, from 1, or 0.
-    pub field: u32,
-    /// Which word of the page or of the field's value the first term matches, from 1.
-    pub place: u32,
-    /// How many words are matched: one a term.
-    pub count: u32,
-}
-
-pub type HitList = ListOf<Hit>;
 
 // Where a row of texts stands: on a page, with field 0, or in a field, with page 0.
 #[derive(Clone, Copy)]

@@ -3,28 +3,9 @@ ghost use Rattle.std.specs.Prelude.{◌≡◌, ◌<◌, ◌^◌, IfOk, length};
 ghost use Rattle.bp_looks.specs.Productions.{production_view, productions_of};
 
 use crate::copies::copy_text;
-use bp_bates::Span;
-use bp_core::{DocNo, ListOf, OutOfMemory, Text};
-use bp_matter::{Production, Tables};
+use bp_core::{ListOf, OutOfMemory};
+use bp_matter::{Production, ProductionView, ProductionViewList, Tables};
 use std::alloc::Global;
-
-/// What is told of a kept production. `from` and `to` are the first and the last document of its
-/// request.
-#[derive(Debug, Drop)]
-pub struct ProductionView {
-    pub id: Text,
-    pub volume: Text,
-    pub prefix: Text,
-    /// How many digits its labels have.
-    pub width: u8,
-    pub span: Span,
-    /// How many items it has: one a document.
-    pub items: u32,
-    pub from: DocNo,
-    pub to: DocNo,
-}
-
-pub type ProductionViewList = ListOf<ProductionView>;
 
 /// Each kept production, in order.
 pub fn see_productions(alloc: Global, tables: &Tables) -> Result<ProductionViewList, OutOfMemory>

@@ -3,19 +3,9 @@ ghost use Rattle.std.specs.Prelude.{◌≡◌, IfOk};
 ghost use Rattle.bp_looks.specs.Staff.{people_of, person_of};
 
 use crate::copies::copy_text;
-use bp_core::{ListOf, OutOfMemory, Role, StaffNo, Text};
-use bp_matter::{StaffRow, Tables};
+use bp_core::{ListOf, OutOfMemory};
+use bp_matter::{PersonList, PersonRow, StaffRow, Tables};
 use std::alloc::Global;
-
-/// What is told of a member of the staff: nothing of their key.
-#[derive(Debug, Drop)]
-pub struct PersonRow {
-    pub staff: StaffNo,
-    pub name: Text,
-    pub role: Role,
-}
-
-pub type PersonList = ListOf<PersonRow>;
 
 /// Each member of the staff, in order.
 pub fn see_staff(alloc: Global, tables: &Tables) -> Result<PersonList, OutOfMemory>

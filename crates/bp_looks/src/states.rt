@@ -12,36 +12,12 @@ use crate::shown::{
     box_count, called_state, held_count, is_entered, shown_designation, shown_responsive,
     shown_treatment,
 };
-use bp_core::{DocNo, ListOf, OutOfMemory, Refusal, Text, Treatment};
-use bp_matter::{DocRow, State, Tables};
+use bp_core::{DocNo, ListOf, OutOfMemory, Refusal, Text};
+use bp_matter::{DocRow, StateList, StateRow, Tables};
 use std::alloc::Global;
 
 /// The most documents that one answer tells of.
 pub const MAX_STATES: usize = 500;
-
-/// How far the review of a document has come. Of an uncalled one `responsive` is false, the treatment
-/// Produce and the designation empty.
-#[derive(Debug, Drop)]
-pub struct StateRow {
-    pub doc: DocNo,
-    pub parent: DocNo,
-    /// How many pages it has.
-    pub pages: u32,
-    pub state: State,
-    pub responsive: bool,
-    pub treatment: Treatment,
-    pub designation: Text,
-    /// How many boxes it has.
-    pub boxes: u32,
-    /// How many of its fields are held back.
-    pub held: u32,
-    /// Whether the privilege log has an entry of it.
-    pub entry: bool,
-    /// The id of the production in which it stands.
-    pub production: Option<Text>,
-}
-
-pub type StateList = ListOf<StateRow>;
 
 /// The documents in order, from this one to the last, but at most MAX_STATES. NoDocument with its number
 /// where the matter has no such document.

@@ -6,22 +6,8 @@ ghost use Rattle.bp_looks.specs.Values.{held_for, see_values, value_in, value_ro
 use crate::copies::{copy_text, empty};
 use crate::no_such::no_document;
 use bp_core::{Basis, DocNo, ListOf, OutOfMemory, Refusal, Text, two_keys};
-use bp_matter::{DocRow, FieldRow, Tables};
+use bp_matter::{DocRow, FieldRow, Tables, ValueList, ValueRow};
 use std::alloc::Global;
-
-/// A field of the matter, and what a document has in it.
-#[derive(Debug, Drop)]
-pub struct ValueRow {
-    /// The number of the field, from 1.
-    pub field: u32,
-    pub name: Text,
-    /// Empty where the document has none.
-    pub value: Text,
-    /// The ground on which it is held back, where it is.
-    pub held: Option<Basis>,
-}
-
-pub type ValueList = ListOf<ValueRow>;
 
 /// Each field of the matter in order, with the document's value. NoDocument with its number where the
 /// matter has no such document.

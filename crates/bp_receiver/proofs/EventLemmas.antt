@@ -14,7 +14,7 @@ use Rattle.bp_matter.specs.Matter.{Matter, staff_key}
 use Rattle.bp_matter.specs.ValidFields.{field_name}
 use Rattle.bp_matter.specs.ValidStaff.{is_lead}
 use Rattle.bp_matter.specs.declared.calls.Call.{Call}
-use Rattle.bp_matter.specs.declared.calls.Call.TheVariants.{AddStaff, Confirm, DropBox, FreeField, Freeze, GetProduction, HoldField, PutBox, PutEntry, SeeDoc, SeePage, SeeWords, SendBack, SetCall}
+use Rattle.bp_matter.specs.declared.calls.Call.TheVariants.{AddStaff, Confirm, DropBox, Find, FreeField, Freeze, GetProduction, HoldField, Plan, PutBox, PutEntry, SeeDoc, SeePage, SeeProductions, SeeStaff, SeeStates, SeeValues, SeeWords, SendBack, SetCall}
 use Rattle.bp_matter.specs.declared.rows.Production.{Production}
 use Rattle.bp_matter.specs.declared.rows.StaffRow.{StaffRow}
 use Rattle.bp_freeze.specs.Freezing.{kept_production}
@@ -231,6 +231,12 @@ receiver-may Receiver (Confirm _) is = refl
 receiver-may Receiver (SendBack _) is = refl
 receiver-may Receiver (Freeze _) is = refl
 receiver-may Receiver (GetProduction _) is = refl
+receiver-may Receiver (SeeStates _) is = refl
+receiver-may Receiver (SeeValues _) is = refl
+receiver-may Receiver SeeStaff is = refl
+receiver-may Receiver SeeProductions is = refl
+receiver-may Receiver (Find _ _ _) is = refl
+receiver-may Receiver (Plan _) is = refl
 receiver-may Clerk call is = absurd cc
 receiver-may Lead call is = absurd cc
 receiver-may Reviewer call is = absurd cc

@@ -21,7 +21,8 @@ use Rattle.bp_matter.specs.Treatments.{is_ground, is_redact}
 use Rattle.bp_matter.specs.ValidEntries.{entry_fits}
 use Rattle.bp_matter.specs.ValidPages.{inside_page}
 use Rattle.bp_matter.specs.declared.calls.Call.{Call}
-use Rattle.bp_matter.specs.declared.calls.Call.TheVariants.{AddStaff, Confirm, DropBox, FreeField, Freeze, GetProduction, HoldField, PutBox, PutEntry, SeeDoc, SeePage, SeeWords, SendBack, SetCall}
+use Rattle.bp_matter.specs.declared.calls.Call.TheVariants.{AddStaff, Confirm, DropBox, Find, FreeField, Freeze, GetProduction, HoldField, Plan, PutBox, PutEntry, SeeDoc, SeePage, SeeProductions, SeeStaff, SeeStates, SeeValues, SeeWords, SendBack, SetCall}
+use Rattle.bp_matter.specs.declared.calls.Reply.{Reply}
 use Rattle.bp_matter.specs.declared.calls.Reply.TheVariants as replies
 use Rattle.bp_matter.specs.declared.limits.TheConstants.{MAX_STAFF}
 use Rattle.bp_matter.specs.declared.rows.CallRow.{CallRow}
@@ -37,12 +38,15 @@ use Rattle.bp_matter.specs.declared.rows.StaffRow.{StaffRow}
 use Rattle.bp_matter.specs.declared.rows.State.TheVariants.{First}
 use Rattle.bp_freeze.specs.Freezing.{freeze_of, kept_production}
 use Rattle.bp_freeze.specs.Keeping.{GrowsTo, after_freeze}
+use Rattle.bp_looks.specs.Finding.{find as find_terms}
+use Rattle.bp_looks.specs.States.{see_states}
+use Rattle.bp_looks.specs.Values.{see_values}
 use Rattle.bp_rules.specs.Calling.{box_with, confirmed_by, edited, held_with, next_staff, with_box, with_call, with_entry, with_held, with_staff, without_box, without_call, without_held}
 use Rattle.bp_rules.specs.Changes.{after, with_produced}
 use Rattle.bp_rules.specs.Keeping.{StepKeeps}
 use Rattle.bp_rules.specs.Refusing.{has_marks, is_box, is_called_redact, is_staff_name, on_doc, on_page, refused, staff_full, staff_there}
 use Rattle.bp_rules.specs.Roles.{may}
-use Rattle.bp_rules.specs.Stepping.{Stepped, add_staff, confirm, confirm_unless, done, drop_box, free_field, freeze, get_production, hold_field, is_member, put_box, put_entry, set_call, staff_by, step_by, step_for, step_of}
+use Rattle.bp_rules.specs.Stepping.{Stepped, add_staff, answered, confirm, confirm_unless, done, drop_box, free_field, freeze, get_production, hold_field, is_member, put_box, put_entry, set_call, staff_by, step_by, step_for, step_of}
 use Rattle.bp_rules.specs.declared.changes.Edit.{Edit}
 use Rattle.bp_rules.specs.declared.changes.Edit.TheVariants.{Import, Nothing, Produced, Review, Staff}
 
@@ -166,7 +170,11 @@ page-keeps m page (Some row) next h = h row
 edited-keeps : (m : Matter) (caller : StaffNo) (doc : ℕ) → StepKeeps m (edited caller doc m)
 edited-keeps m caller doc = keeps-others m (edited caller doc m) refl refl refl refl refl
 
-staff-by-keeps : (m : Matter) (new : StaffRow) (found : Option StaffRow) → Keeping m (staff_by m new found)
+staff-answered-keeps : {A : Type 0} (m : Matter) (reply : A → Reply) (answer : Result A Rule) → Keeping m (answered m reply answer)
+answered-keeps m reply (Ok value) = keeps-itself m
+answered-keeps m reply (Err rule) = tt
+
+by-keeps : (m : Matter) (new : StaffRow) (found : Option StaffRow) → Keeping m (staff_by m new found)
 staff-by-keeps m new None = if-keeps m (nat_le MAX_STAFF (length m.staff)) (Err (staff_full (length m.staff))) (Ok (record { reply = replies.Staff new.staff; matter = with_staff new m })) tt (edit-keeps m (Staff new))
 staff-by-keeps m new (Some row) = if-keeps m (not (is_member new.name new.role row)) (Err (staff_there row.staff.0)) (Ok (record { reply = replies.Staff row.staff; matter = m })) tt (keeps-itself m)
 
@@ -254,6 +262,12 @@ by-keeps m caller (Confirm doc) = doc-keeps m doc.0 (doc_with doc.0 m) _ (λ row
 by-keeps m caller (SendBack doc) = doc-keeps m doc.0 (doc_with doc.0 m) _ (λ row. keeps-others m (without_call doc.0 m) refl refl refl refl refl)
 by-keeps m caller (Freeze request) = freeze-keeps m (freeze_of m request)
 by-keeps m caller (GetProduction id) = get-production-keeps m (kept_production m.productions id)
+by-keeps m caller (SeeStates from) = answered-keeps m replies.States (see_states m from.0)
+by-keeps m caller (SeeValues doc) = answered-keeps m replies.Values (see_values m doc.0)
+by-keeps m caller SeeStaff = keeps-itself m
+by-keeps m caller SeeProductions = keeps-itself m
+by-keeps m caller (Find terms from page) = answered-keeps m replies.Found (find_terms m terms from.0 page)
+by-keeps m caller (Plan request) = answered-keeps m replies.Produced (freeze_of m request)
 
 for-keeps : (m : Matter) (caller : Option StaffRow) (call : Call) → Keeping m (step_for m caller call)
 for-keeps m None call = tt

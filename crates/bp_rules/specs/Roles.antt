@@ -4,7 +4,7 @@ use Rattle.bp_core.specs.declared.review.Role.{Role}
 use Rattle.bp_core.specs.declared.review.Role.TheVariants.{Clerk, Lead, Receiver, Reviewer, Second}
 use Rattle.bp_matter.specs.ValidStaff.{is_checker, is_lead}
 use Rattle.bp_matter.specs.declared.calls.Call.{Call}
-use Rattle.bp_matter.specs.declared.calls.Call.TheVariants.{AddStaff, Confirm, DropBox, FreeField, Freeze, GetProduction, HoldField, PutBox, PutEntry, SeeDoc, SeePage, SeeWords, SendBack, SetCall}
+use Rattle.bp_matter.specs.declared.calls.Call.TheVariants.{AddStaff, Confirm, DropBox, Find, FreeField, Freeze, GetProduction, HoldField, Plan, PutBox, PutEntry, SeeDoc, SeePage, SeeProductions, SeeStaff, SeeStates, SeeValues, SeeWords, SendBack, SetCall}
 
 -- all but a receiver see what the matter has
 abbrev pub is_insider : Role → Bool
@@ -40,3 +40,9 @@ may role (Confirm _) = is_checker role
 may role (SendBack _) = is_checker role
 may role (Freeze _) = is_clerk role
 may role (GetProduction _) = is_insider role
+may role (SeeStates _) = is_insider role
+may role (SeeValues _) = is_insider role
+may role SeeStaff = is_insider role
+may role SeeProductions = is_insider role
+may role (Find _ _ _) = is_insider role
+may role (Plan _) = is_insider role

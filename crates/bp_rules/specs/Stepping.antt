@@ -18,7 +18,7 @@ use Rattle.bp_matter.specs.Treatments.{is_ground, is_redact}
 use Rattle.bp_matter.specs.ValidEntries.{entry_fits}
 use Rattle.bp_matter.specs.ValidPages.{inside_page}
 use Rattle.bp_matter.specs.declared.calls.Call.{Call}
-use Rattle.bp_matter.specs.declared.calls.Call.TheVariants.{AddStaff, Confirm, DropBox, FreeField, Freeze, GetProduction, HoldField, PutBox, PutEntry, SeeDoc, SeePage, SeeWords, SendBack, SetCall}
+use Rattle.bp_matter.specs.declared.calls.Call.TheVariants.{AddStaff, Confirm, DropBox, Find, FreeField, Freeze, GetProduction, HoldField, Plan, PutBox, PutEntry, SeeDoc, SeePage, SeeProductions, SeeStaff, SeeStates, SeeValues, SeeWords, SendBack, SetCall}
 use Rattle.bp_matter.specs.declared.calls.Reply.{Reply}
 use Rattle.bp_matter.specs.declared.calls.Reply.TheVariants as replies
 use Rattle.bp_matter.specs.declared.limits.TheConstants.{MAX_STAFF}
@@ -32,6 +32,11 @@ use Rattle.bp_matter.specs.declared.rows.StaffRow.{StaffRow}
 use Rattle.bp_matter.specs.declared.rows.State.TheVariants.{First}
 use Rattle.bp_freeze.specs.Freezing.{freeze_of, kept_production}
 use Rattle.bp_freeze.specs.Keeping.{frozen_matter}
+use Rattle.bp_looks.specs.Finding.{find}
+use Rattle.bp_looks.specs.Productions.{productions_of}
+use Rattle.bp_looks.specs.Staff.{people_of}
+use Rattle.bp_looks.specs.States.{see_states}
+use Rattle.bp_looks.specs.Values.{see_values}
 use Rattle.bp_rules.specs.Calling.{box_with, confirmed_by, edited, held_with, next_staff, view_of, with_box, with_call, with_entry, with_held, with_staff, without_box, without_call, without_held, words_in}
 use Rattle.bp_rules.specs.Refusing.{has_marks, is_box, is_called_redact, is_staff_name, on_doc, on_page, refused, staff_full, staff_there}
 use Rattle.bp_rules.specs.Roles.{may}
@@ -44,6 +49,11 @@ pub record Stepped : Type 0 where
 -- a reply that changes nothing
 abbrev pub told : Matter → Reply → Result Stepped Rule
 told m reply = Ok (record { reply = reply; matter = m })
+
+-- an answer that changes nothing, or the rule that the call breaks
+abbrev pub answered : {A : Type 0} → Matter → (A → Reply) → Result A Rule → Result Stepped Rule
+answered m reply (Ok value) = told m (reply value)
+answered m reply (Err rule) = Err rule
 
 -- done, and the matter after it
 abbrev pub done : Matter → Result Stepped Rule
@@ -185,6 +195,12 @@ step_by m caller (SendBack doc) =
     on_doc doc.0 (doc_with doc.0 m) (λ _. done (without_call doc.0 m))
 step_by m caller (Freeze request) = freeze m (freeze_of m request)
 step_by m caller (GetProduction id) = get_production m (kept_production m.productions id)
+step_by m caller (SeeStates from) = answered m replies.States (see_states m from.0)
+step_by m caller (SeeValues doc) = answered m replies.Values (see_values m doc.0)
+step_by m caller SeeStaff = told m (replies.People (people_of m))
+step_by m caller SeeProductions = told m (replies.Productions (productions_of m))
+step_by m caller (Find terms from page) = answered m replies.Found (find m terms from.0 page)
+step_by m caller (Plan request) = answered m replies.Produced (freeze_of m request)
 
 -- a call of who has the key
 abbrev pub step_for : Matter → Option StaffRow → Call → Result Stepped Rule

@@ -9,6 +9,7 @@ use crate::decided::Decided;
 use crate::document_calls::set_call;
 use crate::held_fields::{free_field, hold_field};
 use crate::log_entries::put_entry;
+use crate::looks::{find, plan, see_productions, see_staff, see_states, see_values};
 use crate::productions::{freeze_call, get_production};
 use crate::roles::may;
 use crate::second_review::{confirm, send_back};
@@ -111,5 +112,11 @@ fn decide_by(
         Call::SendBack { doc } => send_back(alloc, tables, by, *doc),
         Call::Freeze { request } => freeze_call(alloc, tables, request),
         Call::GetProduction { id } => get_production(alloc, tables, id),
+        Call::SeeStates { from } => see_states(alloc, tables, *from),
+        Call::SeeValues { doc } => see_values(alloc, tables, *doc),
+        Call::SeeStaff => see_staff(alloc, tables),
+        Call::SeeProductions => see_productions(alloc, tables),
+        Call::Find { terms, from, page } => find(alloc, tables, terms, *from, *page),
+        Call::Plan { request } => plan(alloc, tables, request),
     }
 }

@@ -22,6 +22,7 @@ mod import_rows;
 mod limits;
 mod loaded_tables;
 mod log_entries;
+mod looks;
 mod new_matter;
 mod no_such;
 mod productions;

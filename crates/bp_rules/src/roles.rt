@@ -19,6 +19,9 @@ pub fn may(role: Role, call: &Call) -> bool
         Call::Confirm { .. } | Call::SendBack { .. } => is_checker(role),
         Call::Freeze { .. } => is_clerk(role),
         Call::GetProduction { .. } => is_insider(role),
+        Call::SeeStates { .. } | Call::SeeValues { .. } => is_insider(role),
+        Call::SeeStaff | Call::SeeProductions => is_insider(role),
+        Call::Find { .. } | Call::Plan { .. } => is_insider(role),
     }
 }
 

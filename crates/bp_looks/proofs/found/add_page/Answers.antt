@@ -1,5 +1,5 @@
 use Rattle.std.proofs.Common.{◌≡◌, ◌++◌, List, OnOk, ap, subst, sym, ◌∙◌, map, append-nil}
-use Rattle.bp_looks.specs.declared.hits.Hit.{Hit}
+use Rattle.bp_matter.specs.declared.looks.Hit.{Hit}
 use Rattle.bp_looks.specs.Hits.{hits_of, hits_of_rows, terms_of, word_text}
 use Rattle.bp_looks.specs.Parts.{page_rows, page_texts}
 use Rattle.bp_looks.proofs.found.add_page.Goals as goal

@@ -1,7 +1,7 @@
 use Rattle.std.proofs.Common.{◌≡◌, ◌<◌, ◌++◌, ℕ, List, [], OnOk, Option, Some, true, get_or, map, sym, ap, subst, ◌∙◌, arith}
 use Rattle.bp_matter.specs.declared.rows.DocRow.{DocRow}
 use Rattle.bp_matter.specs.Written.{are_few, is_short}
-use Rattle.bp_looks.specs.declared.hits.Hit.{Hit}
+use Rattle.bp_matter.specs.declared.looks.Hit.{Hit}
 use Rattle.bp_looks.specs.declared.hits.Spot.{Spot}
 use Rattle.bp_looks.specs.Found.{hits_in, spot_of}
 use Rattle.bp_looks.specs.Hits.{hits_of_rows, terms_of}

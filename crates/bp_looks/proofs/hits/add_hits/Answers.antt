@@ -2,7 +2,7 @@ use Rattle.std.proofs.Common.{◌≡◌, ◌<◌, ◌+◌, ℕ, Bool, true, fals
 use Rattle.std.specs.Prelude.{if◌then◌else◌}
 use Rattle.std.proofs.lemmas.Grind.{common_steps}
 use Rattle.std.proofs.lemmas.List.{length-drop, length-map, drop-drop, drop-map, take_rest}
-use Rattle.bp_looks.specs.declared.hits.Hit.{Hit}
+use Rattle.bp_matter.specs.declared.looks.Hit.{Hit}
 use Rattle.bp_looks.specs.Hits.{text_of, term_of, texts_of, terms_of, has_hit, hit_at, hits_after}
 use Rattle.bp_looks.proofs.StepLemmas.{hits_after-step}
 use Rattle.bp_looks.proofs.hits.add_hits.Goals as goal

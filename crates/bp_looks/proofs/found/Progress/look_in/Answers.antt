@@ -3,7 +3,7 @@ use Rattle.std.specs.Option.{option_copied}
 use Rattle.std.proofs.lemmas.List.{drop_all, drop_more}
 use Rattle.bp_matter.specs.LookUps.{doc_with}
 use Rattle.bp_matter.specs.declared.rows.DocRow.{DocRow}
-use Rattle.bp_looks.specs.declared.hits.Hit.{Hit}
+use Rattle.bp_matter.specs.declared.looks.Hit.{Hit}
 use Rattle.bp_looks.specs.declared.hits.Spot.{Spot}
 use Rattle.bp_looks.specs.Found.{hits_in, walk}
 use Rattle.bp_looks.specs.Hits.{terms_of}

@@ -15,6 +15,11 @@ pub fn call_of(words: &mut Words) -> Call {
         "PutEntry" => put_entry(words),
         "Freeze" => freeze(words),
         "GetProduction" => Call::GetProduction { id: words.text() },
+        "SeeStates" => Call::SeeStates { from: words.doc() },
+        "SeeStaff" => Call::SeeStaff,
+        "SeeProductions" => Call::SeeProductions,
+        "Find" => find(words),
+        "Plan" => plan(words),
         name => of_document(name, words),
     }
 }
@@ -24,6 +29,7 @@ fn of_document(name: &str, words: &mut Words) -> Call {
     let doc = words.doc();
     match name {
         "SeeDoc" => Call::SeeDoc { doc },
+        "SeeValues" => Call::SeeValues { doc },
         "Confirm" => Call::Confirm { doc },
         "SendBack" => Call::SendBack { doc },
         "SeePage" => see_page(doc, words),
@@ -114,7 +120,25 @@ fn put_entry(words: &mut Words) -> Call {
     }
 }
 
+// The document and the page from which it is searched, and the terms.
+fn find(words: &mut Words) -> Call {
+    let from = words.doc();
+    let page = words.number();
+    let terms = words.texts();
+    Call::Find { terms, from, page }
+}
+
 fn freeze(words: &mut Words) -> Call {
+    let request = request(words);
+    Call::Freeze { request }
+}
+
+fn plan(words: &mut Words) -> Call {
+    let request = request(words);
+    Call::Plan { request }
+}
+
+fn request(words: &mut Words) -> Request {
     let id = words.text();
     let volume = words.text();
     let text = words.text();
@@ -123,13 +147,12 @@ fn freeze(words: &mut Words) -> Call {
     let to = words.doc();
     let fields = words.texts();
     let prefix = Prefix { text, width };
-    let request = Request {
+    Request {
         id,
         volume,
         prefix,
         from,
         to,
         fields,
-    };
-    Call::Freeze { request }
+    }
 }

@@ -18,6 +18,7 @@ mod given;
 mod keeping;
 mod lines;
 mod looked_up;
+mod looks;
 mod presses;
 mod seen;
 mod strips;

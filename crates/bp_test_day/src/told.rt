@@ -1,4 +1,5 @@
 // What is told of calls, batches and tables.
+use crate::looks::{found, people, productions, states, values};
 use crate::seen::{document, page, production, words};
 use anyhow::Result;
 use bp_core::{Refusal, Rule};
@@ -88,5 +89,10 @@ pub fn of_reply(alloc: Global, reply: &Reply) -> Result<String> {
         Reply::Image(image) => page(alloc, image),
         Reply::Words(list) => words(alloc, list),
         Reply::Produced(produced) => production(alloc, produced),
+        Reply::States(rows) => states(alloc, rows),
+        Reply::Values(rows) => values(alloc, rows),
+        Reply::People(rows) => people(alloc, rows),
+        Reply::Productions(rows) => productions(alloc, rows),
+        Reply::Found(told) => found(alloc, told),
     }
 }

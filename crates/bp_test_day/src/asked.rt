@@ -1,6 +1,6 @@
 // Calls, one by one and in one run.
 //
-//     call KEY NAME OPERAND..      one of the fourteen calls, by the one who has this key
+//     call KEY NAME OPERAND..      one of the twenty calls, by the one who has this key
 //     refused KEY NAME OPERAND..   the same: what is told, where it changes no row
 //     may ROLE NAME OPERAND..      whether that role may make the call
 //     decided KEY NAME OPERAND..   what would be told, and what would be put

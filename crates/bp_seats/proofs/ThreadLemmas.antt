@@ -128,7 +128,7 @@ pub tables_send : IsSend tables.the_row
 tables_send = search (rows, small, sendable, crosses) depth 40 fits 20000
 
 pub made_send : IsSend made.the_row
-made_send = search (sendable, crosses) depth 40 fits 20000
+made_send = search (call_send, sendable, crosses) depth 40 fits 20000
 
 pub book_send : (K : RattleType) (g : keeper.Ghosts K.Denot) → IsSend K → IsSend (book.the_row K g)
 book_send K g k = search (tables_send, made_send, sendable, crosses) depth 40 fits 20000

@@ -10,9 +10,9 @@ stops, another goes on from there until none does, and all of them together have
 from plain models in Python (find_model.py, fuzz_matter.py, and below), written from the papers.
 
 PROGRAM is bp_test_days as built (`rt run` in its crate): it does the lines of the files that it is given. `-` writes them to the folder
-KEEP and tries none. FINDS (20,000 where it isn't said) are drawn in parts of 2,000, at as many processors as there are; the same SEED draws
-the same. Prints how many finds, hits, stops and refusals were due, and each line that was told otherwise, whose matter stands in KEEP
-(`found`); ends with 1 where there is one.
+KEEP and tries none (then `rt try --cases KEEP -- case` does). FINDS (20,000 where it isn't said) are drawn in parts of 2,000, at as many
+processors as there are; the same SEED draws the same. Prints how many finds, hits, stops and refusals were due, and each line that was told
+otherwise, whose matter stands in KEEP (`found`); ends with 1 where there is one.
 
 Unicode is Python's, 14.0 in 3.11, and 18.0 in the kit: the characters drawn are Python's. Of these both say the same (read off the kit's
 tables once): which fold alike, and which are letters or digits. 500 parts have each of them at both ends of a word, and as a term beside
@@ -567,31 +567,39 @@ def part_of(words):
         room = keep if program == "-" else scratch
         files = [f"{seed}-{number}-{k}.txt" for k in range(len(days))]
         for file, lines in zip(files, days):
-            with open(os.path.join(room, file), "w", encoding="utf-8", newline="") as out:
-                out.writelines(f"{line}\n" for line in lines)
+            write(room, file, lines)
         told = [] if program == "-" else otherwise(program, room, dict(zip(files, days)), keep)
     return count, told
 
 
 def otherwise(program, room, days, keep):
-    """What the program tells otherwise over these files; they are kept."""
+    """What the program tells otherwise over these files; those are kept."""
     try:
         done = subprocess.run([program, *days], cwd=room, capture_output=True, timeout=SECONDS)
         status, out = done.returncode, done.stdout.decode("utf-8", "replace").rstrip("\n").split("\n")
     except subprocess.TimeoutExpired:
         status, out = "no end", [""]
-    told = []
-    for line in out[:-1]:
-        file, number, what = line.split(":", 2)
-        told.append((file, f"{keep}/{file}:{number}: {days[file][int(number) - 1]}\n    told: {what.lstrip()}"))
+    told, kept = [], set()
+    for file, number, what in (line.split(":", 2) for line in out[:-1]):
+        told.append(f"{keep}/{file}:{number}: {shortened(days[file][int(number) - 1])}\n    told: {shortened(what.lstrip())}")
+        kept.add(file)
     lines = sum(map(len, days.values()))
-    if not told and (status, out[-1]) != (0, f"{lines} lines, 0 of them told otherwise"):
-        told = [(file, f"{keep}/{file}: ended with {status}: {out[-1]}") for file in days]
-    for file in {file for file, _ in told}:
+    if (status, out[-1]) != (0, f"{lines} lines, {len(told)} of them told otherwise"):
+        told.append(f"{keep}/{min(days)} and the {len(days) - 1} other files: ended with {status}: {shortened(out[-1])}")
+        kept.update(days)
+    for file in kept:
         os.makedirs(keep, exist_ok=True)
-        with open(os.path.join(keep, file), "w", encoding="utf-8", newline="") as kept:
-            kept.writelines(f"{line}\n" for line in days[file])
-    return [what for _, what in told]
+        write(keep, file, days[file])
+    return told
+
+
+def write(room, file, lines):
+    with open(os.path.join(room, file), "w", encoding="utf-8", newline="") as out:
+        out.writelines(f"{line}\n" for line in lines)
+
+
+def shortened(text):
+    return text if len(text) <= 400 else text[:400] + " .."
 
 
 def main(program, finds="20000", seed="1", keep="found"):

@@ -4,6 +4,7 @@ are given as lists. Nothing here is taken from the crates.
 A document is (values, pages): a list of texts, and a list of lists of words. `find(docs, terms, doc, page)`
 answers a reason ('TermRefused', 'NoDocument', 'NoPage') or (hits, next, next_page), a hit being (doc, page,
 field, place, count)."""
+import functools
 import unicodedata
 
 MOST_PARTS = 1000
@@ -16,6 +17,7 @@ LONGEST_TERM = 200
 SIMPLE = {'\u1e9e': '\u00df', '\ufb05': '\ufb06', '\u1fd3': '\u0390', '\u1fe3': '\u03b0'}
 
 
+@functools.lru_cache(None)
 def fold(character):
     """Simple case folding (Unicode, section 3.13)."""
     if character in SIMPLE:
@@ -53,11 +55,13 @@ def is_letter_or_digit(character):
     return category[0] == 'L' or category == 'Nd'
 
 
+@functools.lru_cache(1 << 16)
 def core(word):
     kept = [i for i, c in enumerate(word) if is_letter_or_digit(c)]
     return word[kept[0]:kept[-1] + 1] if kept else ''
 
 
+@functools.lru_cache(1 << 16)
 def matches(term, word):
     return stands(term, word) or stands(term, core(word))
 
@@ -65,7 +69,16 @@ def matches(term, word):
 def row_hits(terms, texts, doc, page, field):
     count = len(terms)
     return [(doc, page, field, i + 1, count) for i in range(len(texts) - count + 1)
-            if all(matches(t, w) for t, w in zip(terms, texts[i:i + count]))]
+            if all(map(matches, terms, texts[i:i + count]))]
+
+
+def parts_from(docs, doc, page):
+    return [(n, p) for n in range(doc, len(docs) + 1) for p in range(page if n == doc else 0, len(docs[n - 1][1]) + 1)]
+
+
+def all_hits(docs, terms, doc, page):
+    """Those of each part from this one on, wherever a search stops."""
+    return [hit for n, p in parts_from(docs, doc, page) for hit in part_hits(terms, docs[n - 1], n, p)]
 
 
 def part_hits(terms, document, doc, page):
@@ -88,10 +101,8 @@ def find(docs, terms, doc, page):
         return 'NoDocument'
     if page > len(docs[doc - 1][1]):
         return 'NoPage'
-    parts = [(n, p) for n in range(doc, len(docs) + 1)
-             for p in range(page if n == doc else 0, len(docs[n - 1][1]) + 1)]
     hits = []
-    for taken, (n, p) in enumerate(parts):
+    for taken, (n, p) in enumerate(parts_from(docs, doc, page)):
         if taken == MOST_PARTS or len(hits) >= ENOUGH_HITS:
             return hits, n, p
         hits += part_hits(terms, docs[n - 1], n, p)

@@ -11,8 +11,8 @@ moment (the program's limit for the size of a file is lowered: prlimit), so that
 have the keeper keep nothing more until the desks are opened anew; so they are, three times.
   - `served N` has each time as many calls as were answered by one (all but 503 and 507);
   - the calls are put in order by a plain model of a matter (review_model.py): a call that began after another had its answer comes
-    after it; the model gives each call the very answer that its client had; a list of the states of more than ten documents may
-    tell each of them as at another moment of the call;
+    after it; the model gives each call the very answer that its client had; a list of the states of more than ten documents is
+    replayed as a look at each of them, and each of these looks leaves a moment for all;
   - a desk that is opened anew takes a change, also where the disk failed so that the keeper took none until the end;
   - the kept rows are those of the model's matter, and the database is sound.
 Takes ten minutes at most: clients stop asking after seven, and then the desks are ended as by Ctrl-C and print nothing. Needs Linux'
@@ -457,7 +457,7 @@ def ends_of(matter, calls, rows, begin):
 
 def spread(matter, asked):
     """The calls, with a look at each document in place of a look at the states of many."""
-    for one in asked:
+    for at, one in enumerate(asked):
         if one.call["call"] != "SeeStates" or one.status != 200 or len(matter.told_from(one.call)) <= FEW:
             yield one
             continue
@@ -465,14 +465,25 @@ def spread(matter, asked):
         if review_model.compact(rows) != one.body or [row["doc"] for row in rows] != list(due):
             stop(f"{one[:6]} tells of {[row['doc'] for row in rows]}, or isn't compact: {one.body[:300]}")
         for row in rows:
-            yield one._replace(call={"call": "SeeState", "doc": row["doc"]}, body=review_model.compact(row))
+            yield one._replace(call={"call": "SeeState", "doc": row["doc"], "of": at}, body=review_model.compact(row))
+
+
+def moments_of(matter, calls, look, rows, states):
+    """From when to when a look may have been made, as these calls tell."""
+    times = sorted({time for one in calls for time in (one.began, one.ended) if look.began <= time <= look.ended})
+    fit = []
+    for begin, end in zip(times, times[1:]):
+        now = look._replace(began=(begin + end) / 2, ended=(begin + end) / 2)
+        if any(ends_of(matter, [now if one is look else one for one in calls], rows, state) for state in states):
+            fit += begin, end
+    return (fit[0], fit[-1]) if fit else (look.began, look.ended)
 
 
 def replayed(matter, asked):
     """Replays the calls, and leaves the matter after them. Returns how many parts had more than one call, the largest, and the rows
     that may have ended in several states."""
     asked = sorted(spread(matter, answered(asked)), key=lambda one: one.began)
-    rows, several, largest = Rows(matter), 0, 0
+    rows, several, largest, moments = Rows(matter), 0, 0, {}
     for calls in parts_of(matter, asked):
         named = sorted({row for one in calls for row in matter.touched(one.call, one.status)}, key=str)
         reached, states = rows.states(named)
@@ -481,6 +492,13 @@ def replayed(matter, asked):
             for one in calls[:40]:
                 print(*one[:6], one.body[:300], file=sys.stderr)
             stop(f"no order of {len(calls)} calls gives the answers that were told ({named[:8]})")
+        for look in calls if len(calls) > 1 else ():
+            if "of" in look.call:
+                begin, end = moments_of(matter, calls, look, reached, states)
+                least, most = moments.get(look.call["of"], (begin, end))
+                moments[look.call["of"]] = least, most = max(least, begin), min(most, end)
+                if least >= most:
+                    stop(f"at no moment the states were as they were told ({look[:6]})")
         rows.put(reached, ends)
         several, largest = several + (len(calls) > 1), max(largest, len(calls))
     return several, largest, rows.all_states()

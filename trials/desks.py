@@ -12,7 +12,7 @@ have the keeper keep nothing more until the desks are opened anew; so they are, 
   - `served N` has each time as many calls as were answered by one (all but 503 and 507);
   - the calls are put in order by a plain model of a matter (review_model.py): a call that began after another had its answer comes
     after it; the model gives each call the very answer that its client had; a list of the states of more than ten documents is
-    replayed as a look at each of them, and each of these looks leaves a moment for all;
+    replayed as a look at each of them, and one moment is right for all of these looks;
   - a desk that is opened anew takes a change, also where the disk failed so that the keeper took none until the end;
   - the kept rows are those of the model's matter, and the database is sound.
 Takes ten minutes at most: clients stop asking after seven, and then the desks are ended as by Ctrl-C and print nothing. Needs Linux'

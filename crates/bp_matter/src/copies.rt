@@ -209,12 +209,7 @@ fn copy_get_production(id: &Text) -> Result<Call, OutOfMemory>
     Ok(Call::GetProduction { id: copy_text(id)? })
 }
 
-fn copy_find(
-    alloc: Global,
-    terms: &TextList,
-    from: DocNo,
-    page: u32,
-) -> Result<Call, OutOfMemory>
+fn copy_find(alloc: Global, terms: &TextList, from: DocNo, page: u32) -> Result<Call, OutOfMemory>
     ensures { IfOk result (λ call. call ≡ Call.Find terms.now from page) }
 {
     Ok(Call::Find {

@@ -46,8 +46,8 @@ pub use limits::{
     MAX_STRIP_BYTES,
 };
 pub use looks::{
-    Found, Hit, HitList, PersonList, PersonRow, ProductionView, ProductionViewList, StateList, StateRow,
-    ValueList, ValueRow,
+    Found, Hit, HitList, PersonList, PersonRow, ProductionView, ProductionViewList, StateList,
+    StateRow, ValueList, ValueRow,
 };
 pub use rows::{
     BatchList, BatchRow, BoxList, BoxRow, CallRow, CallShelves, DocBox, DocBoxShelves, DocEntry,

@@ -170,11 +170,7 @@ page-keeps m page (Some row) next h = h row
 edited-keeps : (m : Matter) (caller : StaffNo) (doc : ℕ) → StepKeeps m (edited caller doc m)
 edited-keeps m caller doc = keeps-others m (edited caller doc m) refl refl refl refl refl
 
-staff-answered-keeps : {A : Type 0} (m : Matter) (reply : A → Reply) (answer : Result A Rule) → Keeping m (answered m reply answer)
-answered-keeps m reply (Ok value) = keeps-itself m
-answered-keeps m reply (Err rule) = tt
-
-by-keeps : (m : Matter) (new : StaffRow) (found : Option StaffRow) → Keeping m (staff_by m new found)
+staff-by-keeps : (m : Matter) (new : StaffRow) (found : Option StaffRow) → Keeping m (staff_by m new found)
 staff-by-keeps m new None = if-keeps m (nat_le MAX_STAFF (length m.staff)) (Err (staff_full (length m.staff))) (Ok (record { reply = replies.Staff new.staff; matter = with_staff new m })) tt (edit-keeps m (Staff new))
 staff-by-keeps m new (Some row) = if-keeps m (not (is_member new.name new.role row)) (Err (staff_there row.staff.0)) (Ok (record { reply = replies.Staff row.staff; matter = m })) tt (keeps-itself m)
 
@@ -243,6 +239,10 @@ freeze-keeps m (Err rule) = tt
 get-production-keeps : (m : Matter) (kept : Option Production) → Keeping m (get_production m kept)
 get-production-keeps m None = tt
 get-production-keeps m (Some f) = keeps-itself m
+
+answered-keeps : {A : Type 0} (m : Matter) (reply : A → Reply) (answer : Result A Rule) → Keeping m (answered m reply answer)
+answered-keeps m reply (Ok value) = keeps-itself m
+answered-keeps m reply (Err rule) = tt
 
 by-keeps : (m : Matter) (caller : StaffNo) (call : Call) → Keeping m (step_by m caller call)
 by-keeps m caller (AddStaff name role digest) = add-staff-keeps m (record { staff = next_staff m; role = role; digest = digest; name = name })

@@ -119,16 +119,26 @@ batch_send = search (small, sendable, crosses) depth 40 fits 20000
 page_words_send : IsSend page_words.the_row
 page_words_send = search (small, sendable, crosses) depth 40 fits 20000
 
-call_send : IsSend call.the_row
-call_send = search (small, sendable, crosses) depth 40 fits 20000
-
 ruleset rows = (staff_send, field_send, doc_send, page_row_send, call_row_send, doc_box_send, doc_held_send, doc_entry_send, prefix_row_send, production_row_send, batch_send, page_words_send)
 
 pub tables_send : IsSend tables.the_row
 tables_send = search (rows, small, sendable, crosses) depth 40 fits 20000
 
+-- the parts of a call, as fields of what holds them
+text_field : IsSend (text.the_field).row
+text_field = search (sendable, crosses) depth 40 fits 20000
+
+texts_field : IsSend (list.the_field text.the_row).row
+texts_field = search (text_send, sendable, crosses) depth 40 fits 20000
+
+request_field : IsSend (request.the_field).row
+request_field = search (text_field, texts_field, sendable, crosses) depth 40 fits 20000
+
+call_field : IsSend (call.the_field).row
+call_field = search (request_field, text_field, texts_field, sendable, crosses) depth 40 fits 20000
+
 pub made_send : IsSend made.the_row
-made_send = search (sendable, crosses) depth 40 fits 20000
+made_send = search (call_field, sendable, crosses) depth 40 fits 20000
 
 pub book_send : (K : RattleType) (g : keeper.Ghosts K.Denot) → IsSend K → IsSend (book.the_row K g)
 book_send K g k = search (tables_send, made_send, sendable, crosses) depth 40 fits 20000

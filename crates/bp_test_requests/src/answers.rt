@@ -1,4 +1,5 @@
 // An answer, as a line gives it.
+use crate::looks;
 use crate::values::{document, page, production, words_of};
 use bp_core::{Rule, RuleKind, StaffNo};
 use bp_matter::{KeptPage, Reply};
@@ -6,8 +7,8 @@ use bp_test_words::Words;
 use bp_web::{Answer, WebRefusal};
 use std::alloc::Global;
 
-/// `done`, `staff NUMBER`, `doc ..`, `words ..`, `produced ..`, `page ..`, `rule NAME LINE A B`, `web
-/// NAME`, `fault`, `full COUNT` or `memory`.
+/// `done`, `staff NUMBER`, `doc ..`, `words ..`, `produced ..`, `page ..`, a look, `rule NAME LINE A B`,
+/// `web NAME`, `fault`, `full COUNT` or `memory`.
 pub fn answer_of(alloc: Global, words: &mut Words) -> Answer {
     match words.word() {
         "done" => Answer::Reply(Reply::Done),
@@ -21,6 +22,18 @@ pub fn answer_of(alloc: Global, words: &mut Words) -> Answer {
         "fault" => Answer::KeeperFault,
         "full" => Answer::JournalFull(words.long_number()),
         "memory" => Answer::OutOfMemory,
+        look => look_answer(alloc, words, look),
+    }
+}
+
+// `states ..`, `values ..`, `people ..`, `productions ..` or `found ..`.
+fn look_answer(alloc: Global, words: &mut Words, name: &str) -> Answer {
+    match name {
+        "states" => Answer::Reply(Reply::States(looks::states(alloc, words))),
+        "values" => Answer::Reply(Reply::Values(looks::values(alloc, words))),
+        "people" => Answer::Reply(Reply::People(looks::people(alloc, words))),
+        "productions" => Answer::Reply(Reply::Productions(looks::productions(alloc, words))),
+        "found" => Answer::Reply(Reply::Found(looks::found(alloc, words))),
         _ => {
             words.refuse();
             Answer::KeeperFault
@@ -62,6 +75,7 @@ fn rule_kind(words: &mut Words) -> RuleKind {
         "WordsPage" => RuleKind::WordsPage,
         "PageLimit" => RuleKind::PageLimit,
         "KeptRowBad" => RuleKind::KeptRowBad,
+        "TermRefused" => RuleKind::TermRefused,
         _ => {
             words.refuse();
             RuleKind::KeyUnknown

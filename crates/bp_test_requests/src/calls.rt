@@ -16,7 +16,13 @@ pub fn add_call(alloc: Global, text: &mut String, call: &Call) -> Result<()> {
         Call::Confirm { doc } => add_numbers(text, " Confirm", &[doc.0]),
         Call::SendBack { doc } => add_numbers(text, " SendBack", &[doc.0]),
         Call::GetProduction { id } => add_texts(alloc, text, " GetProduction", &[id]),
-        Call::Freeze { request } => add_request(alloc, text, request),
+        Call::SeeStates { from } => add_numbers(text, " SeeStates", &[from.0]),
+        Call::SeeValues { doc } => add_numbers(text, " SeeValues", &[doc.0]),
+        Call::SeeStaff => add_word(text, "SeeStaff"),
+        Call::SeeProductions => add_word(text, "SeeProductions"),
+        Call::Find { terms, from, page } => add_search(alloc, text, terms, &[from.0, *page]),
+        Call::Freeze { request } => add_request(alloc, text, " Freeze", request),
+        Call::Plan { request } => add_request(alloc, text, " Plan", request),
         other => add_other(alloc, text, other),
     }
 }
@@ -73,11 +79,17 @@ fn add_other(alloc: Global, text: &mut String, call: &Call) -> Result<()> {
     }
 }
 
-fn add_request(alloc: Global, text: &mut String, request: &Request) -> Result<()> {
+fn add_search(alloc: Global, text: &mut String, terms: &TextList, part: &[u32]) -> Result<()> {
+    add_word(text, "Find")?;
+    add_list(alloc, text, terms)?;
+    add_numbers(text, "", part)
+}
+
+fn add_request(alloc: Global, text: &mut String, name: &str, request: &Request) -> Result<()> {
     add_texts(
         alloc,
         text,
-        " Freeze",
+        name,
         &[&request.id, &request.volume, &request.prefix.text],
     )?;
     let width = u32::from(request.prefix.width);

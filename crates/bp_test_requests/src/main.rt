@@ -7,6 +7,7 @@
 mod answers;
 mod calls;
 mod lines;
+mod looks;
 mod raw;
 mod reading;
 mod reviews;

@@ -37,7 +37,8 @@ pub fn document(alloc: Global, words: &mut Words) -> DocView {
     }
 }
 
-fn state(words: &mut Words) -> State {
+/// `EDITOR CONFIRMER`, 0 for none.
+pub fn state(words: &mut Words) -> State {
     let editor = words.number();
     let confirmer = words.number();
     if editor == 0 {
@@ -49,8 +50,8 @@ fn state(words: &mut Words) -> State {
     }
 }
 
-// How many of something follow: few, so that a line can hold them.
-fn count(words: &mut Words) -> u32 {
+/// How many of something follow: few, so that a line can hold them.
+pub fn count(words: &mut Words) -> u32 {
     words.number().min(100)
 }
 
@@ -150,7 +151,8 @@ fn no_texts(alloc: Global) -> TextList {
     ListOf::new(alloc)
 }
 
-fn span(words: &mut Words) -> Span {
+/// `FIRST LAST`.
+pub fn span(words: &mut Words) -> Span {
     let first = words.long_number();
     let last = words.long_number();
     Span { first, last }

@@ -15,7 +15,8 @@ use Rattle.sha2.specs.Sha256.{sha256}
 use Rattle.bp_core.specs.declared.review.Basis.TheVariants.{Wp}
 use Rattle.bp_core.specs.declared.review.Role.TheVariants.{Receiver}
 use Rattle.bp_core.specs.declared.review.Treatment.TheVariants.{Produce, Withhold}
-use Rattle.bp_matter.specs.declared.calls.Call.TheVariants.{Confirm, SeeDoc, SetCall}
+use Rattle.bp_matter.specs.declared.calls.Call.{Call}
+use Rattle.bp_matter.specs.declared.calls.Call.TheVariants.{Confirm, Find, Plan, SeeDoc, SeeProductions, SeeStaff, SeeStates, SeeValues, SetCall}
 use Rattle.bp_web.specs.Calls.{call_of, doc_no, number, prefix_of}
 use Rattle.bp_web.specs.Heads.{BeginsWith, start_of, value_of}
 use Rattle.bp_web.specs.Members.{basis_named, digest_named, object_of, role_named, treatment_named}
@@ -55,8 +56,8 @@ most_width = refl
 digest_bytes : DIGEST_BYTES ≡ 32
 digest_bytes = refl
 
-fourteen_routes : length ROUTES ≡ 14
-fourteen_routes = refl
+twenty_routes : length ROUTES ≡ 20
+twenty_routes = refl
 
 -- ---- routes
 
@@ -116,9 +117,47 @@ get_production : route_of get (codes "/productions/R%2D1") ≡ Some routes.GetPr
 unfolding route_of fits next_of
 get_production = refl
 
+see_states : route_of get (codes "/states/11") ≡ Some routes.SeeStates
+unfolding route_of fits next_of
+see_states = refl
+
+see_values : route_of get (codes "/docs/12/values") ≡ Some routes.SeeValues
+unfolding route_of fits next_of
+see_values = refl
+
+-- the target of `add_staff`, by the other method
+see_staff : route_of get (codes "/staff") ≡ Some routes.SeeStaff
+unfolding route_of fits next_of
+see_staff = refl
+
+-- that of `freeze`
+see_productions : route_of get (codes "/productions") ≡ Some routes.SeeProductions
+unfolding route_of fits next_of
+see_productions = refl
+
+find_terms : route_of post (codes "/find") ≡ Some routes.Find
+unfolding route_of fits next_of
+find_terms = refl
+
+plan : route_of post (codes "/plan") ≡ Some routes.Plan
+unfolding route_of fits next_of
+plan = refl
+
 other_method : route_of post (codes "/docs/1") ≡ None
 unfolding route_of fits next_of
 other_method = refl
+
+find_by_get : route_of get (codes "/find") ≡ None
+unfolding route_of fits next_of
+find_by_get = refl
+
+states_by_post : route_of post (codes "/states/11") ≡ None
+unfolding route_of fits next_of
+states_by_post = refl
+
+states_from_nowhere : route_of get (codes "/states") ≡ None
+unfolding route_of fits next_of
+states_from_nowhere = refl
 
 longer_target : route_of get (codes "/docs/1/") ≡ None
 unfolding route_of fits next_of
@@ -224,6 +263,64 @@ cut_body = refl
 rest_unread : asked_of (record { route = routes.Confirm; key = []; length = 2 }) (codes "/docs/1/confirm") (codes "{}GET") ≡ Ok (record { key = []; call = Confirm (doc_no 1) })
 unfolding asked_of serde_json_on_literals is_utf8 chars
 rest_unread = refl
+
+-- ---- looks
+
+states_asked : asked_of (record { route = routes.SeeStates; key = []; length = 0 }) (codes "/states/11") [] ≡ Ok (record { key = []; call = SeeStates (doc_no 11) })
+unfolding asked_of
+states_asked = refl
+
+values_asked : asked_of (record { route = routes.SeeValues; key = []; length = 0 }) (codes "/docs/12/values") [] ≡ Ok (record { key = []; call = SeeValues (doc_no 12) })
+unfolding asked_of
+values_asked = refl
+
+staff_asked : asked_of (record { route = routes.SeeStaff; key = []; length = 0 }) (codes "/staff") [] ≡ Ok (record { key = []; call = SeeStaff })
+unfolding asked_of
+staff_asked = refl
+
+productions_asked : asked_of (record { route = routes.SeeProductions; key = []; length = 0 }) (codes "/productions") [] ≡ Ok (record { key = []; call = SeeProductions })
+unfolding asked_of
+productions_asked = refl
+
+-- the terms in their order, from the values of document 1 on
+terms_asked : asked_of (record { route = routes.Find; key = []; length = 45 }) (codes "/find") (codes "{\"terms\":[\"ask\",\"counsel\"],\"from\":1,\"page\":0}")
+    ≡ Ok (record { key = []; call = Find (codes "ask" ∷ codes "counsel" ∷ []) (doc_no 1) 0 })
+unfolding asked_of serde_json_on_literals is_utf8 chars
+terms_asked = refl
+
+-- what a search is of, by its text
+search_in : List ℕ → Option Call
+search_in body = option_and_then (call_of routes.Find (codes "/find")) (object_of body)
+
+-- which terms and which document may be is said by the call
+no_term : search_in (codes "{\"terms\":[],\"from\":0,\"page\":4294967295}") ≡ Some (Find [] (doc_no 0) 4294967295)
+unfolding search_in serde_json_on_literals is_utf8 chars
+no_term = refl
+
+no_page : search_in (codes "{\"terms\":[\"ask\"],\"from\":1}") ≡ None
+unfolding search_in serde_json_on_literals is_utf8 chars
+no_page = refl
+
+number_as_term : search_in (codes "{\"terms\":[\"ask\",555],\"from\":1,\"page\":0}") ≡ None
+unfolding search_in serde_json_on_literals is_utf8 chars
+number_as_term = refl
+
+one_text_as_terms : search_in (codes "{\"terms\":\"ask\",\"from\":1,\"page\":0}") ≡ None
+unfolding search_in serde_json_on_literals is_utf8 chars
+one_text_as_terms = refl
+
+-- the members of a freeze
+plan_asked : option_and_then (call_of routes.Plan (codes "/plan")) (object_of (codes "{\"id\":\"R-1\",\"volume\":\"VOL001\",\"prefix\":\"ABC\",\"width\":8,\"from\":1,\"to\":12,\"fields\":[\"AUTHOR\"]}"))
+    ≡ Some (Plan (record {
+      id = codes "R-1";
+      volume = codes "VOL001";
+      prefix = record { text = codes "ABC"; width = 8 };
+      from = doc_no 1;
+      to = doc_no 12;
+      fields = codes "AUTHOR" ∷ [];
+    }))
+unfolding serde_json_on_literals is_utf8 chars
+plan_asked = refl
 
 -- ---- a whole request
 

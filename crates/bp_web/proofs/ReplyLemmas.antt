@@ -6,10 +6,16 @@ use Rattle.serde_json.specs.Data.{Data}
 use Rattle.serde_json.specs.View.{items_of}
 use Rattle.serde_json.specs.Written.{compact_text, has_float, items_have_float}
 use Rattle.bp_matter.specs.declared.calls.DocView.{DocView}
+use Rattle.bp_matter.specs.declared.looks.Found.{Found}
+use Rattle.bp_matter.specs.declared.looks.PersonRow.{PersonRow}
+use Rattle.bp_matter.specs.declared.looks.ProductionView.{ProductionView}
+use Rattle.bp_matter.specs.declared.looks.StateRow.{StateRow}
+use Rattle.bp_matter.specs.declared.looks.ValueRow.{ValueRow}
 use Rattle.bp_matter.specs.declared.rows.Entry.{Entry}
 use Rattle.bp_matter.specs.declared.rows.Production.{Production}
 use Rattle.bp_text.specs.declared.words.Word.{Word}
 use Rattle.bp_core.specs.declared.numbers.StaffNo.{StaffNo}
+use Rattle.bp_core.specs.declared.review.Basis.{Basis}
 use Rattle.bp_matter.specs.declared.calls.Reply.{Reply}
 use Rattle.bp_matter.specs.declared.calls.Reply.TheVariants as replies
 use Rattle.bp_rows.specs.Image.{Image}
@@ -17,7 +23,7 @@ use Rattle.bp_tiff.specs.Tiff.{tiff_of}
 use Rattle.bp_tiff.specs.declared.form.Form.TheVariants.{G4}
 use Rattle.bp_web.specs.Messages.{field, fields_text, json_message, line_text, message_text, phrase}
 use Rattle.bp_web.specs.Replies.{reply_message}
-use Rattle.bp_web.specs.Values.{box_data, doc_data, done_data, entry_data, held_data, item_data, production_data, refusal_data, staff_data, word_data, words_data}
+use Rattle.bp_web.specs.Values.{box_data, doc_data, done_data, entry_data, field_data, fields_data, found_data, ground_or_null, held_data, hit_data, item_data, people_data, person_data, production_data, production_view_data, productions_data, refusal_data, staff_data, state_data, states_data, text_or_null, word_data, words_data}
 
 pub json_sent : (status : ℕ) (kind body : List ℕ) (d : Data)
     → kind ≡ codes "application/json"
@@ -51,6 +57,45 @@ doc_whole v = rw (no_floats box_data (λ b. refl) v.boxes, entry_whole v.entry, 
 pub production_whole : (p : Production) → has_float (production_data p) ≡ false
 unfolding production_data
 production_whole p = rw (no_floats item_data (λ i. refl) p.items) refl
+
+text_or_null_whole : (o : Option (List ℕ)) → has_float (text_or_null o) ≡ false
+text_or_null_whole None = refl
+text_or_null_whole (Some t) = refl
+
+ground_or_null_whole : (o : Option Basis) → has_float (ground_or_null o) ≡ false
+ground_or_null_whole None = refl
+ground_or_null_whole (Some basis) = refl
+
+state_whole : (s : StateRow) → has_float (state_data s) ≡ false
+unfolding state_data
+state_whole s = rw (text_or_null_whole s.production) refl
+
+pub states_whole : (rows : List StateRow) → has_float (states_data rows) ≡ false
+unfolding states_data
+states_whole rows = no_floats state_data state_whole rows
+
+field_whole : (v : ValueRow) → has_float (field_data v) ≡ false
+field_whole v = rw (ground_or_null_whole v.held) refl
+
+pub fields_whole : (rows : List ValueRow) → has_float (fields_data rows) ≡ false
+unfolding fields_data
+fields_whole rows = no_floats field_data field_whole rows
+
+pub people_whole : (rows : List PersonRow) → has_float (people_data rows) ≡ false
+unfolding people_data
+people_whole rows = no_floats person_data (λ p. refl) rows
+
+production_view_whole : (p : ProductionView) → has_float (production_view_data p) ≡ false
+unfolding production_view_data
+production_view_whole p = refl
+
+pub productions_whole : (rows : List ProductionView) → has_float (productions_data rows) ≡ false
+unfolding productions_data
+productions_whole rows = no_floats production_view_data production_view_whole rows
+
+pub found_whole : (f : Found) → has_float (found_data f) ≡ false
+unfolding found_data
+found_whole f = rw (no_floats hit_data (λ h. refl) f.hits) refl
 
 pub staff_whole : (staff : StaffNo) → has_float (staff_data staff) ≡ false
 unfolding staff_data

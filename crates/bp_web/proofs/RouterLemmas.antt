@@ -99,7 +99,7 @@ some_more is old new n d within some adds =
           ];
     }
 
-pub some_all : (is : Bool) (rows : Rows) (n : ℕ) → 14 ≤ n → HasSome is rows n → HasRoutes is rows
+pub some_all : (is : Bool) (rows : Rows) (n : ℕ) → 20 ≤ n → HasSome is rows n → HasRoutes is rows
 some_all is rows n all some = record { only = some.only; each = each_of }
   where
     each_of : (route : Route) → is_get route ≡ is → IsRow route rows
@@ -117,6 +117,12 @@ some_all is rows n all some = record { only = some.only; each = each_of }
     each_of routes.SendBack e = some.each 11 (omega (arith, all)) e
     each_of routes.Freeze e = some.each 12 (omega (arith, all)) e
     each_of routes.GetProduction e = some.each 13 (omega (arith, all)) e
+    each_of routes.SeeStates e = some.each 14 (omega (arith, all)) e
+    each_of routes.SeeValues e = some.each 15 (omega (arith, all)) e
+    each_of routes.SeeStaff e = some.each 16 (omega (arith, all)) e
+    each_of routes.SeeProductions e = some.each 17 (omega (arith, all)) e
+    each_of routes.Find e = some.each 18 (omega (arith, all)) e
+    each_of routes.Plan e = some.each 19 (omega (arith, all)) e
 
 -- ---- what is found
 
@@ -147,6 +153,12 @@ method_chosen routes.Confirm = refl
 method_chosen routes.SendBack = refl
 method_chosen routes.Freeze = refl
 method_chosen routes.GetProduction = refl
+method_chosen routes.SeeStates = refl
+method_chosen routes.SeeValues = refl
+method_chosen routes.SeeStaff = refl
+method_chosen routes.SeeProductions = refl
+method_chosen routes.Find = refl
+method_chosen routes.Plan = refl
 
 methods : (r q : Route) → is_get r ≡ is_get q → method_of r ≡ method_of q
 methods r q e = sym (method_chosen r) ∙ ap chosen e ∙ method_chosen q

@@ -36,6 +36,12 @@ parsed routes.Confirm = (_, refl, refl)
 parsed routes.SendBack = (_, refl, refl)
 parsed routes.Freeze = (_, refl, refl)
 parsed routes.GetProduction = (_, refl, refl)
+parsed routes.SeeStates = (_, refl, refl)
+parsed routes.SeeValues = (_, refl, refl)
+parsed routes.SeeStaff = (_, refl, refl)
+parsed routes.SeeProductions = (_, refl, refl)
+parsed routes.Find = (_, refl, refl)
+parsed routes.Plan = (_, refl, refl)
 
 pub tame : (route : Route) → is_tame (tokens_of route) ≡ true
 unfolding is_tame
@@ -53,6 +59,12 @@ tame routes.Confirm = refl
 tame routes.SendBack = refl
 tame routes.Freeze = refl
 tame routes.GetProduction = refl
+tame routes.SeeStates = refl
+tame routes.SeeValues = refl
+tame routes.SeeStaff = refl
+tame routes.SeeProductions = refl
+tame routes.Find = refl
+tame routes.Plan = refl
 
 -- ---- one route alone
 
@@ -71,6 +83,12 @@ number routes.Confirm = 10
 number routes.SendBack = 11
 number routes.Freeze = 12
 number routes.GetProduction = 13
+number routes.SeeStates = 14
+number routes.SeeValues = 15
+number routes.SeeStaff = 16
+number routes.SeeProductions = 17
+number routes.Find = 18
+number routes.Plan = 19
 
 numbered : ℕ → Route
 numbered n = by n ROUTES
@@ -95,6 +113,12 @@ numbered-number routes.Confirm = refl
 numbered-number routes.SendBack = refl
 numbered-number routes.Freeze = refl
 numbered-number routes.GetProduction = refl
+numbered-number routes.SeeStates = refl
+numbered-number routes.SeeValues = refl
+numbered-number routes.SeeStaff = refl
+numbered-number routes.SeeProductions = refl
+numbered-number routes.Find = refl
+numbered-number routes.Plan = refl
 
 -- they are one, or of two methods, or apart
 differ : Route → Route → Bool
@@ -128,6 +152,12 @@ at_each test all routes.Confirm = all_at test ROUTES 10 routes.AddStaff all (ome
 at_each test all routes.SendBack = all_at test ROUTES 11 routes.AddStaff all (omega arith)
 at_each test all routes.Freeze = all_at test ROUTES 12 routes.AddStaff all (omega arith)
 at_each test all routes.GetProduction = all_at test ROUTES 13 routes.AddStaff all (omega arith)
+at_each test all routes.SeeStates = all_at test ROUTES 14 routes.AddStaff all (omega arith)
+at_each test all routes.SeeValues = all_at test ROUTES 15 routes.AddStaff all (omega arith)
+at_each test all routes.SeeStaff = all_at test ROUTES 16 routes.AddStaff all (omega arith)
+at_each test all routes.SeeProductions = all_at test ROUTES 17 routes.AddStaff all (omega arith)
+at_each test all routes.Find = all_at test ROUTES 18 routes.AddStaff all (omega arith)
+at_each test all routes.Plan = all_at test ROUTES 19 routes.AddStaff all (omega arith)
 
 pub one_taken : (r q : Route) (target : List ℕ)
     → method_of r ≡ method_of q

@@ -145,3 +145,13 @@ call_of routes.Confirm target body = option_map calls.Confirm (doc_in target)
 call_of routes.SendBack target body = option_map calls.SendBack (doc_in target)
 call_of routes.Freeze target body = option_map calls.Freeze (request_of body)
 call_of routes.GetProduction target body = option_map calls.GetProduction (name_in target)
+call_of routes.SeeStates target body = option_map calls.SeeStates (doc_in target)
+call_of routes.SeeValues target body = option_map calls.SeeValues (doc_in target)
+call_of routes.SeeStaff target body = Some calls.SeeStaff
+call_of routes.SeeProductions target body = Some calls.SeeProductions
+call_of routes.Find target body = do
+  from ← number (codes "from") body
+  page ← number (codes "page") body
+  terms ← texts_of (codes "terms") body
+  Some (calls.Find terms (doc_no from) page)
+call_of routes.Plan target body = option_map calls.Plan (request_of body)

@@ -10,7 +10,7 @@ use Rattle.bp_matter.specs.declared.calls.Reply.TheVariants as replies
 use Rattle.bp_tiff.specs.Tiff.{tiff_of}
 use Rattle.bp_tiff.specs.declared.form.Form.TheVariants.{G4}
 use Rattle.bp_web.specs.Messages.{Message, json_message, message_text}
-use Rattle.bp_web.specs.Values.{doc_data, done_data, production_data, refusal_data, staff_data, words_data}
+use Rattle.bp_web.specs.Values.{doc_data, done_data, fields_data, found_data, people_data, production_data, productions_data, refusal_data, staff_data, states_data, words_data}
 use Rattle.bp_web.specs.declared.refusals.WebRefusal.{WebRefusal}
 use Rattle.bp_web.specs.declared.refusals.WebRefusal.TheVariants as refusals
 use Rattle.bp_web.specs.declared.replies.Answer.{Answer}
@@ -25,6 +25,11 @@ reply_message (replies.Image page) =
 reply_message (replies.Words words) = json_message 200 (words_data words)
 reply_message replies.Done = json_message 200 done_data
 reply_message (replies.Produced production) = json_message 200 (production_data production)
+reply_message (replies.States rows) = json_message 200 (states_data rows)
+reply_message (replies.Values rows) = json_message 200 (fields_data rows)
+reply_message (replies.People rows) = json_message 200 (people_data rows)
+reply_message (replies.Productions rows) = json_message 200 (productions_data rows)
+reply_message (replies.Found found) = json_message 200 (found_data found)
 
 -- ---- a broken rule
 

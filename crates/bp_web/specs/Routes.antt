@@ -74,6 +74,10 @@ method_of routes.SeeDoc = get
 method_of routes.SeePage = get
 method_of routes.SeeWords = get
 method_of routes.GetProduction = get
+method_of routes.SeeStates = get
+method_of routes.SeeValues = get
+method_of routes.SeeStaff = get
+method_of routes.SeeProductions = get
 method_of _ = post
 
 -- whether its requests have no body
@@ -96,6 +100,12 @@ pattern_of routes.Confirm = codes "/docs/#/confirm"
 pattern_of routes.SendBack = codes "/docs/#/back"
 pattern_of routes.Freeze = codes "/productions"
 pattern_of routes.GetProduction = codes "/productions/*"
+pattern_of routes.SeeStates = codes "/states/#"
+pattern_of routes.SeeValues = codes "/docs/#/values"
+pattern_of routes.SeeStaff = codes "/staff"
+pattern_of routes.SeeProductions = codes "/productions"
+pattern_of routes.Find = codes "/find"
+pattern_of routes.Plan = codes "/plan"
 
 -- the same for matchit, which reads a name in braces at a hole
 abbrev pub text_of : Route → List ℕ
@@ -113,6 +123,12 @@ text_of routes.Confirm = codes "/docs/{doc}/confirm"
 text_of routes.SendBack = codes "/docs/{doc}/back"
 text_of routes.Freeze = codes "/productions"
 text_of routes.GetProduction = codes "/productions/{id}"
+text_of routes.SeeStates = codes "/states/{from}"
+text_of routes.SeeValues = codes "/docs/{doc}/values"
+text_of routes.SeeStaff = codes "/staff"
+text_of routes.SeeProductions = codes "/productions"
+text_of routes.Find = codes "/find"
+text_of routes.Plan = codes "/plan"
 
 -- the route is the one of this method and this target
 abbrev pub is_route : List ℕ → List ℕ → Route → Bool

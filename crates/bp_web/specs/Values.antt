@@ -5,9 +5,18 @@ use Rattle.serde_json.specs.Data.{Data, array, boolean, null, number, object, st
 use Rattle.serde_json.specs.View.{items_of}
 use Rattle.bp_core.specs.Review.{basis_code}
 use Rattle.bp_core.specs.declared.numbers.StaffNo.{StaffNo}
+use Rattle.bp_core.specs.declared.review.Basis.{Basis}
+use Rattle.bp_core.specs.declared.review.Role.{Role}
+use Rattle.bp_core.specs.declared.review.Role.TheVariants as roles
 use Rattle.bp_core.specs.declared.review.Treatment.{Treatment}
 use Rattle.bp_core.specs.declared.review.Treatment.TheVariants as treatments
 use Rattle.bp_matter.specs.declared.calls.DocView.{DocView}
+use Rattle.bp_matter.specs.declared.looks.Found.{Found}
+use Rattle.bp_matter.specs.declared.looks.Hit.{Hit}
+use Rattle.bp_matter.specs.declared.looks.PersonRow.{PersonRow}
+use Rattle.bp_matter.specs.declared.looks.ProductionView.{ProductionView}
+use Rattle.bp_matter.specs.declared.looks.StateRow.{StateRow}
+use Rattle.bp_matter.specs.declared.looks.ValueRow.{ValueRow}
 use Rattle.bp_matter.specs.declared.rows.BoxRow.{BoxRow}
 use Rattle.bp_matter.specs.declared.rows.Entry.{Entry}
 use Rattle.bp_matter.specs.declared.rows.HeldRow.{HeldRow}
@@ -131,6 +140,108 @@ production_data p =
     (member (codes "prefix") (text p.request.prefix.text)
     (member (codes "volume") (text p.request.volume)
     (member (codes "width") (num p.request.prefix.width) no_members)))))))
+
+-- ---- a matter as a whole
+
+-- a text, or null
+abbrev pub text_or_null : Option (List ℕ) → Data
+text_or_null None = null
+text_or_null (Some characters) = text characters
+
+-- a ground by its two letters, or null
+abbrev pub ground_or_null : Option Basis → Data
+ground_or_null None = null
+ground_or_null (Some basis) = string (basis_code basis)
+
+-- how far the review of a document has come: boxes and fields that are held back by their numbers
+unfoldable pub state_data : StateRow → Data
+state_data s =
+    object
+    (member (codes "boxes") (num s.boxes)
+    (member (codes "confirmer") (num (confirmer_of s.state))
+    (member (codes "designation") (text s.designation)
+    (member (codes "doc") (num s.doc.0)
+    (member (codes "editor") (num (editor_of s.state))
+    (member (codes "entry") (boolean s.entry)
+    (member (codes "held") (num s.held)
+    (member (codes "pages") (num s.pages)
+    (member (codes "parent") (num s.parent.0)
+    (member (codes "production") (text_or_null s.production)
+    (member (codes "responsive") (boolean s.responsive)
+    (member (codes "treatment") (string (treatment_text s.treatment)) no_members))))))))))))
+
+-- the same of one document after another
+unfoldable pub states_data : List StateRow → Data
+states_data rows = list_of state_data rows
+
+-- a field, by its number and its name, and what a document has in it
+abbrev pub field_data : ValueRow → Data
+field_data v =
+    object
+    (member (codes "field") (num v.field)
+    (member (codes "held") (ground_or_null v.held)
+    (member (codes "name") (text v.name)
+    (member (codes "value") (text v.value) no_members))))
+
+-- the fields of a document
+unfoldable pub fields_data : List ValueRow → Data
+fields_data rows = list_of field_data rows
+
+-- a role, as a body says it
+abbrev pub role_text : Role → List ℕ
+role_text roles.Reviewer = codes "Reviewer"
+role_text roles.Second = codes "Second"
+role_text roles.Lead = codes "Lead"
+role_text roles.Clerk = codes "Clerk"
+role_text roles.Receiver = codes "Receiver"
+
+-- a member of the staff
+abbrev pub person_data : PersonRow → Data
+person_data p =
+    object
+    (member (codes "name") (text p.name)
+    (member (codes "role") (string (role_text p.role))
+    (member (codes "staff") (num p.staff.0) no_members)))
+
+-- the staff
+unfoldable pub people_data : List PersonRow → Data
+people_data rows = list_of person_data rows
+
+-- a kept production, with how many items it has
+unfoldable pub production_view_data : ProductionView → Data
+production_view_data p =
+    object
+    (member (codes "first") (num p.span.first)
+    (member (codes "from") (num p.from.0)
+    (member (codes "id") (text p.id)
+    (member (codes "items") (num p.items)
+    (member (codes "last") (num p.span.last)
+    (member (codes "prefix") (text p.prefix)
+    (member (codes "to") (num p.to.0)
+    (member (codes "volume") (text p.volume)
+    (member (codes "width") (num p.width) no_members)))))))))
+
+-- the kept productions
+unfoldable pub productions_data : List ProductionView → Data
+productions_data rows = list_of production_view_data rows
+
+-- a place where terms match
+abbrev pub hit_data : Hit → Data
+hit_data h =
+    object
+    (member (codes "count") (num h.count)
+    (member (codes "doc") (num h.doc.0)
+    (member (codes "field") (num h.field)
+    (member (codes "page") (num h.page)
+    (member (codes "place") (num h.place) no_members)))))
+
+-- what a search found, and the part that comes next
+unfoldable pub found_data : Found → Data
+found_data f =
+    object
+    (member (codes "hits") (list_of hit_data f.hits)
+    (member (codes "next") (num f.next)
+    (member (codes "next_page") (num f.next_page) no_members)))
 
 -- ---- the rest
 

@@ -9,7 +9,8 @@ ghost use Rattle.bp_web.specs.Replies.{other_message, reply_message, reply_text,
 use crate::messages::{json_bytes, message_bytes};
 use crate::refusals::WebRefusal;
 use crate::values::{
-    doc_value, done_value, production_value, refusal_value, staff_value, words_value,
+    doc_value, done_value, fields_value, found_value, people_value, production_value,
+    productions_value, refusal_value, staff_value, states_value, words_value,
 };
 use bp_core::{Bytes, OutOfMemory, Rule, RuleKind};
 use bp_matter::{KeptPage, Reply};
@@ -88,6 +89,26 @@ pub fn bytes_of_reply(alloc: Global, reply: &Reply) -> Result<Bytes, OutOfMemory
         }
         Reply::Produced(production) => {
             let value = production_value(alloc, production)?;
+            json_bytes(alloc, 200, &value)
+        }
+        Reply::States(rows) => {
+            let value = states_value(alloc, rows.as_slice())?;
+            json_bytes(alloc, 200, &value)
+        }
+        Reply::Values(rows) => {
+            let value = fields_value(alloc, rows.as_slice())?;
+            json_bytes(alloc, 200, &value)
+        }
+        Reply::People(rows) => {
+            let value = people_value(alloc, rows.as_slice())?;
+            json_bytes(alloc, 200, &value)
+        }
+        Reply::Productions(rows) => {
+            let value = productions_value(alloc, rows.as_slice())?;
+            json_bytes(alloc, 200, &value)
+        }
+        Reply::Found(found) => {
+            let value = found_value(alloc, found)?;
             json_bytes(alloc, 200, &value)
         }
     }

@@ -1,6 +1,6 @@
 use Rattle.std.proofs.Common.{ap, ◌∙◌, subst, IfOk, ◌≡◌}
 use Rattle.serde_json.specs.Written.{has_float}
-use Rattle.bp_web.proofs.ReplyLemmas.{doc_whole, done_whole, image_sent, production_whole, staff_whole, words_whole}
+use Rattle.bp_web.proofs.ReplyLemmas.{doc_whole, done_whole, fields_whole, found_whole, image_sent, people_whole, production_whole, productions_whole, staff_whole, states_whole, words_whole}
 use Rattle.bp_web.proofs.replies.bytes_of_reply.Goals as goal
 
 pub json_bytes-requires-clause-whole : goal.json_bytes-requires-clause-whole
@@ -17,6 +17,21 @@ json_bytes-requires-in-Words-clause-whole c = ap has_float c.in_ok-value-in-Word
 
 pub json_bytes-requires-in-Produced-clause-whole : goal.json_bytes-requires-in-Produced-clause-whole
 json_bytes-requires-in-Produced-clause-whole c = ap has_float c.in_ok-value-in-Produced.ensures ∙ production_whole _
+
+pub json_bytes-requires-in-States-clause-whole : goal.json_bytes-requires-in-States-clause-whole
+json_bytes-requires-in-States-clause-whole c = ap has_float c.in_ok-value-in-States.ensures ∙ states_whole _
+
+pub json_bytes-requires-in-Values-clause-whole : goal.json_bytes-requires-in-Values-clause-whole
+json_bytes-requires-in-Values-clause-whole c = ap has_float c.in_ok-value-in-Values.ensures ∙ fields_whole _
+
+pub json_bytes-requires-in-People-clause-whole : goal.json_bytes-requires-in-People-clause-whole
+json_bytes-requires-in-People-clause-whole c = ap has_float c.in_ok-value-in-People.ensures ∙ people_whole _
+
+pub json_bytes-requires-in-Productions-clause-whole : goal.json_bytes-requires-in-Productions-clause-whole
+json_bytes-requires-in-Productions-clause-whole c = ap has_float c.in_ok-value-in-Productions.ensures ∙ productions_whole _
+
+pub json_bytes-requires-in-Found-clause-whole : goal.json_bytes-requires-in-Found-clause-whole
+json_bytes-requires-in-Found-clause-whole c = ap has_float c.in_ok-value-in-Found.ensures ∙ found_whole _
 
 pub returns-in_ok-file-in-Image : goal.returns-in_ok-file-in-Image
 returns-in_ok-file-in-Image c =

@@ -6,12 +6,13 @@ stands once and each answer is right?
 
 A matter of 1,000 small documents is made and imported. While its database is locked, PROGRAM is refused it. Then PROGRAM serves it at
 DESKS desks, ports 48201 on, and holds it so that nobody else can lock it; at each desk CLIENTS clients ask, one request a connection,
-CALLS in all: calls of all fourteen kinds, good and bad ones, some documents asked for often. Now and then the disk takes nothing for a
+CALLS in all: calls of all twenty kinds, good and bad ones, some documents asked for often. Now and then the disk takes nothing for a
 moment (the program's limit for the size of a file is lowered: prlimit), so that commits fail and the desks answer 503. Some such faults
 have the keeper keep nothing more until the desks are opened anew; so they are, three times.
   - `served N` has each time as many calls as were answered by one (all but 503 and 507);
   - the calls are put in order by a plain model of a matter (review_model.py): a call that began after another had its answer comes
-    after it; the model gives each call the very answer that its client had;
+    after it; the model gives each call the very answer that its client had; a list of the states of more than ten documents is
+    replayed as a look at each of them, and one moment is right for all of these looks;
   - a desk that is opened anew takes a change, also where the disk failed so that the keeper took none until the end;
   - the kept rows are those of the model's matter, and the database is sound.
 Takes ten minutes at most: clients stop asking after seven, and then the desks are ended as by Ctrl-C and print nothing. Needs Linux'
@@ -46,7 +47,8 @@ import t6_model  # noqa: E402
 DOCUMENTS, FIRST_PORT = 1000, 48201
 PEOPLE = [("lead", "Lead"), ("second 1", "Second"), ("second 2", "Second"), ("reviewer 1", "Reviewer"), ("reviewer 2", "Reviewer"),
           ("clerk", "Clerk"), ("receiver", "Receiver")]
-HOT = 20  # documents that many clients ask for
+HOT = 20  # documents that many clients ask for, the last ones
+FEW = 10  # states that are replayed as of one moment
 ROUNDS = 4  # how often the desks are opened
 ASKING, WHOLE = 420, 600  # seconds
 Asked = collections.namedtuple("Asked", "began ended desk key call status body")
@@ -63,6 +65,9 @@ def stop(text):
 # ---- calls, and how they are asked for
 
 
+TARGETS = {"GetProduction": "/productions/{id}", "SeeStates": "/states/{from}", "SeeStaff": "/staff", "SeeProductions": "/productions"}
+
+
 def request_of(call):
     """The first line of a request, and its body where it has one."""
     name, members = call["call"], {name: value for name, value in call.items() if name not in ("call", "doc")}
@@ -71,11 +76,13 @@ def request_of(call):
         return f"GET {at}", None
     if name in ("SeePage", "SeeWords"):
         return f"GET {at}/pages/{call['page']}" + ("/words" if name == "SeeWords" else ""), None
-    if name == "GetProduction":
-        return f"GET /productions/{call['id']}", None
+    if name == "SeeValues":
+        return f"GET {at}/values", None
+    if name in TARGETS:
+        return "GET " + TARGETS[name].format_map(call), None
     routes = {"SetCall": "call", "PutBox": "box", "DropBox": "unbox", "HoldField": "hold", "FreeField": "free", "PutEntry": "entry",
               "Confirm": "confirm", "SendBack": "back"}
-    route = {"AddStaff": "/staff", "Freeze": "/productions"}.get(name) or f"{at}/{routes[name]}"
+    route = {"AddStaff": "/staff", "Freeze": "/productions", "Find": "/find", "Plan": "/plan"}.get(name) or f"{at}/{routes[name]}"
     return f"POST {route}", json.dumps(members)
 
 
@@ -100,14 +107,17 @@ def ask(port, key, call):
 
 
 class Asker:
-    """What a client asks for, by chance."""
+    """What a client asks for, by chance; now and then all that a family needs to be produced."""
+
+    SETTLES = 0.0005
 
     def __init__(self, seed, batch):
         self.chance, self.batch, self.name, self.made = random.Random(seed), batch, seed.replace(" ", "-"), 0
+        self.planned, self.queue = None, []
 
     def document(self):
         if self.chance.random() < 0.1:
-            return self.chance.randint(1, HOT)
+            return self.chance.randint(DOCUMENTS - HOT + 1, DOCUMENTS)
         return self.chance.randint(1, DOCUMENTS) if self.chance.random() < 0.995 else self.chance.choice((DOCUMENTS + 1, 999999999))
 
     def page(self, document):
@@ -120,10 +130,33 @@ class Asker:
         return self.chance.choices([name for name, _ in PEOPLE], (4, 4, 4, 4, 4, 2, 0.2))[0]
 
     def next(self):
+        if self.queue:
+            return self.queue.pop(0)
+        if self.chance.random() < self.SETTLES:
+            self.settle(self.batch[self.chance.randint(1, DOCUMENTS) - 1][0])
         name, weight = zip(*KINDS)
         call = {"call": self.chance.choices(name, weight)[0]}
         getattr(self, call["call"])(call)
         return self.key(), call
+
+    def settle(self, parent):
+        """Has a family settled, and its production planned, frozen and seen."""
+        family = [number for number, (other, _) in enumerate(self.batch, 1) if other == parent]
+        for doc in family:
+            treatment, entry = self.chance.choice(("Produce", "Redact", "Withhold-AC")), ("date", "author", "recipients", "description")
+            self.then("reviewer 1", "SetCall", doc=doc, responsive=True, treatment=treatment, designation="A-1_.")
+            self.then("reviewer 1", "PutEntry", doc=doc, **dict.fromkeys(entry, "Ärzte"))
+            self.then("second 1", "Confirm", doc=doc)
+        self.made += 1
+        named = f"S{self.name}-{self.made}"
+        request = {"id": named, "volume": named.upper(), "prefix": "S-", "width": 8, "from": parent, "to": family[-1], "fields": ["AUTHOR"]}
+        for key, name in (("reviewer 1", "Plan"), ("clerk", "Freeze"), ("second 1", "Plan")):
+            self.then(key, name, **request)
+        self.then("lead", "SeeProductions")
+        self.then("lead", "GetProduction", id=named)
+
+    def then(self, key, name, **members):
+        self.queue.append((key, {"call": name, **members}))
 
     def text(self, *others):
         return self.chance.choice((f"{self.name} {self.chance.randint(1, 99)}", "Ärzte", *others))
@@ -142,7 +175,21 @@ class Asker:
         call["page"] = self.page(call["doc"])
 
     SeeWords = SeePage
-    Confirm = SendBack = SeeDoc
+    Confirm = SendBack = SeeValues = SeeDoc
+
+    def SeeStaff(self, call):
+        pass
+
+    SeeProductions = SeeStaff
+
+    def SeeStates(self, call):
+        few = self.chance.random() < 0.9
+        call["from"] = self.chance.randint(DOCUMENTS - FEW + 1, DOCUMENTS) if few else self.document()
+
+    def Find(self, call):
+        call["terms"] = self.chance.choice(TERMS)
+        call["from"] = self.document() if self.chance.random() < 0.99 else 0
+        call["page"] = 0 if self.chance.random() < 0.7 else self.page(call["from"] or 1)
 
     def SetCall(self, call):
         call["doc"] = self.document()
@@ -175,6 +222,17 @@ class Asker:
         call["recipients"], call["description"] = self.text("y" * 201), self.text("z" * 1000, "z" * 1001)
 
     def Freeze(self, call):
+        """Now and then the request that was planned last."""
+        if self.planned and self.chance.random() < 0.3:
+            call.update(self.planned)
+        else:
+            self.request(call)
+
+    def Plan(self, call):
+        self.request(call)
+        self.planned = {name: value for name, value in call.items() if name != "call"}
+
+    def request(self, call):
         self.made += 1
         call["id"] = f"Q{self.name}-{self.made}" if self.chance.random() < 0.8 else f"Q{self.chance.randint(1, 20)}"
         call["volume"] = call["id"].upper() if self.chance.random() < 0.95 else "v"
@@ -189,7 +247,11 @@ class Asker:
 
 
 KINDS = [("SetCall", 18), ("PutBox", 14), ("DropBox", 5), ("HoldField", 6), ("FreeField", 4), ("PutEntry", 8), ("Confirm", 12),
-         ("SendBack", 4), ("SeeDoc", 16), ("SeePage", 5), ("SeeWords", 4), ("Freeze", 3), ("GetProduction", 1), ("AddStaff", 0.05)]
+         ("SendBack", 4), ("SeeDoc", 16), ("SeePage", 5), ("SeeWords", 4), ("Freeze", 3), ("GetProduction", 1), ("AddStaff", 0.05),
+         ("SeeStates", 0.5), ("SeeValues", 2), ("SeeStaff", 0.2), ("SeeProductions", 0.2), ("Find", 1.5), ("Plan", 2)]
+TERMS = [["w7"], ["W12*"], ["*99"], ["w###"], ["*7*"], ["#*"], ["*"], ["*", "*"], ["counsel"], ["counse"], ["coun*", "now"],
+         ["ask", "counsel"], ["ASK", '"Counsel,"', "*"], ["now", "555-####"], ["###-####"], ["author", "3"], ["Author", "1#"], ["*1"],
+         ["ärzte"], ["ÄRZTE", "ask", "Counsel"], ["nothing"], ["*"] * 8, ["w" * 200], [], ["*"] * 9, ["w7", ""], ["a\tb"], ["w" * 201]]
 
 
 def client(seed, port, count, batch, until, told):
@@ -248,13 +310,22 @@ def seen_bodies(batch):
         for page, place in enumerate(places, 1):
             at += 1
             seen["SeePage", number, page] = pages[place]
-            seen["SeeWords", number, page] = review_model.compact([dict(zip(names, desks_batch.word_of(at)))])
+            seen["SeeWords", number, page] = review_model.compact([dict(zip(names, word)) for word in desks_batch.words_of(at)])
     return seen
+
+
+def texts_of(batch):
+    """Of each document its values, and the words of its pages."""
+    at = 0
+    for number, (_, places) in enumerate(batch, 1):
+        pages = [[text for *_, text in desks_batch.words_of(at + page)] for page in range(1, len(places) + 1)]
+        at += len(places)
+        yield [desks_batch.value_of(number)], pages
 
 
 def begun(batch):
     pages = [(parent, [desks_batch.SIZES[place] for place in places]) for parent, places in batch]
-    return review_model.Matter(digest(PEOPLE[0][0]), ["AUTHOR"], pages, seen_bodies(batch))
+    return review_model.Matter(digest(PEOPLE[0][0]), ["AUTHOR"], pages, seen_bodies(batch), list(texts_of(batch)))
 
 
 # ---- the replay
@@ -314,7 +385,7 @@ def parts_of(matter, asked):
     each row the calls of a part were over before those of the next began."""
     until, last, following = {}, {}, [[] for _ in asked]
     for at, one in enumerate(asked):
-        for row in matter.touched(one.call):
+        for row in matter.touched(one.call, one.status):
             if row in last:
                 following[last[row]].append(at)
                 if until[row] >= one.began:
@@ -355,9 +426,13 @@ def strong_parts(following):
     return parts[::-1]
 
 
+def changes_nothing(one):
+    return one.status != 200 or one.call["call"] in review_model.LOOKS
+
+
 def ends_of(matter, calls, rows, begin):
     """The states in which these calls may leave the rows, each answered as it was, in any order that the times allow: a call comes
-    after those that had ended before it began."""
+    after those that had ended before it began. One that changes nothing comes as soon as it may: no other order ends otherwise."""
     ends, tried = set(), set()
     todo = [(tuple(sorted(calls, key=lambda one: one.ended)), begin)]
     while todo:
@@ -365,9 +440,9 @@ def ends_of(matter, calls, rows, begin):
         if not left:
             ends.add(state)
             continue
-        for at, one in enumerate(left):
-            if one.began > left[0].ended:
-                continue
+        able = [at for at, one in enumerate(left) if one.began <= left[0].ended]
+        for at in sorted(able, key=lambda at: not changes_nothing(left[at])):
+            one = left[at]
             load(matter, rows, state)
             if matter.step(one.key, one.call) == (one.status, one.body):
                 rest, after = left[:at] + left[at + 1:], tuple(matter.state(row) for row in rows)
@@ -375,22 +450,55 @@ def ends_of(matter, calls, rows, begin):
                 if mark not in tried:
                     tried.add(mark)
                     todo.append((rest, after))
+                if changes_nothing(one):
+                    break
     return ends
+
+
+def spread(matter, asked):
+    """The calls, with a look at each document in place of a look at the states of many."""
+    for at, one in enumerate(asked):
+        if one.call["call"] != "SeeStates" or one.status != 200 or len(matter.told_from(one.call)) <= FEW:
+            yield one
+            continue
+        rows, due = json.loads(one.body), matter.told_from(one.call)
+        if review_model.compact(rows) != one.body or [row["doc"] for row in rows] != list(due):
+            stop(f"{one[:6]} tells of {[row['doc'] for row in rows]}, or isn't compact: {one.body[:300]}")
+        for row in rows:
+            yield one._replace(call={"call": "SeeState", "doc": row["doc"], "of": at}, body=review_model.compact(row))
+
+
+def moments_of(matter, calls, look, rows, states):
+    """From when to when a look may have been made, as these calls tell."""
+    times = sorted({time for one in calls for time in (one.began, one.ended) if look.began <= time <= look.ended})
+    fit = []
+    for begin, end in zip(times, times[1:]):
+        now = look._replace(began=(begin + end) / 2, ended=(begin + end) / 2)
+        if any(ends_of(matter, [now if one is look else one for one in calls], rows, state) for state in states):
+            fit += begin, end
+    return (fit[0], fit[-1]) if fit else (look.began, look.ended)
 
 
 def replayed(matter, asked):
     """Replays the calls, and leaves the matter after them. Returns how many parts had more than one call, the largest, and the rows
     that may have ended in several states."""
-    asked = sorted(answered(asked), key=lambda one: one.began)
-    rows, several, largest = Rows(matter), 0, 0
+    asked = sorted(spread(matter, answered(asked)), key=lambda one: one.began)
+    rows, several, largest, moments = Rows(matter), 0, 0, {}
     for calls in parts_of(matter, asked):
-        named = sorted({row for one in calls for row in matter.touched(one.call)}, key=str)
+        named = sorted({row for one in calls for row in matter.touched(one.call, one.status)}, key=str)
         reached, states = rows.states(named)
         ends = sorted({end for state in states for end in ends_of(matter, calls, reached, state)}, key=repr)
         if not ends:
             for one in calls[:40]:
                 print(*one[:6], one.body[:300], file=sys.stderr)
             stop(f"no order of {len(calls)} calls gives the answers that were told ({named[:8]})")
+        for look in calls if len(calls) > 1 else ():
+            if "of" in look.call:
+                begin, end = moments_of(matter, calls, look, reached, states)
+                least, most = moments.get(look.call["of"], (begin, end))
+                moments[look.call["of"]] = least, most = max(least, begin), min(most, end)
+                if least >= most:
+                    stop(f"at no moment the states were as they were told ({look[:6]})")
         rows.put(reached, ends)
         several, largest = several + (len(calls) > 1), max(largest, len(calls))
     return several, largest, rows.all_states()
@@ -544,12 +652,12 @@ def rows_of(matter, open_rows):
 
 
 def test_rows(matter, open_rows):
-    """The kept rows are the model's. Prefixes and productions stand in some order of making."""
+    """The kept rows are the model's."""
     with contextlib.closing(sqlite3.connect("matter.db")) as connection:
         if connection.execute("PRAGMA integrity_check").fetchall() != [("ok",)]:
             stop("the database isn't sound")
         kept = connection.execute("SELECT kind, k1, k2, body FROM kept WHERE kind IN (1, 5, 6, 7, 8, 9, 10)").fetchall()
-    kept = sorted((kind, *((0, 0) if kind in (9, 10) else (k1, k2)), bytes(body)) for kind, k1, k2, body in kept)
+    kept = sorted((kind, k1, k2, bytes(body)) for kind, k1, k2, body in kept)
     for due in rows_of(matter, open_rows):
         if kept == due:
             return len(kept)

@@ -1,6 +1,6 @@
 #!/usr/bin/env python3
 """Makes a batch of many small documents for desks.py: families of one to three documents, one to three pages each of a few sizes,
-a word on each page, one field. Words: the folder, and how many documents."""
+one to five words on each page, one field. Words: the folder, and how many documents."""
 import os
 import random
 import sys
@@ -11,6 +11,8 @@ from plain_page import plain_page  # noqa: E402
 
 SIZES = [(64, 40), (65, 33), (100, 12), (7, 5), (33, 64)]
 RESOLUTION = 200
+# what some pages say beside their own word
+SAID = (("Ask", '"Counsel,"', "now", "555-0188"), (), ("counsel",), (), ("Ärzte", "ask", "(COUNSEL)"), (), ("555-0199",))
 
 
 def strip_of(width, height):
@@ -35,9 +37,16 @@ def documents(count):
         page += pages
 
 
-def word_of(page):
-    """The word on a page, pages of the batch counted from 1: line, left, top, width, height, text."""
-    return 1, page % 3, 1, 3, 2, f"w{page}"
+def words_of(page):
+    """The words on a page, pages of the batch counted from 1: of each line, left, top, width, height, text."""
+    yield 1, page % 3, 1, 3, 2, f"w{page}"
+    for at, text in enumerate(SAID[page % len(SAID)]):
+        yield 2, at, 3, 2, 2, text
+
+
+def value_of(number):
+    """The value of a document in the one field."""
+    return f"Author {number % 17}"
 
 
 def main(folder, count):
@@ -49,11 +58,13 @@ def main(folder, count):
     page, names = 0, []
     for number, (parent, places) in enumerate(documents(count), 1):
         names.append(f"P{page + 1:06}")
-        dat.append(f"þ{names[-1]}þ\x14þ{names[parent - 1]}þ\x14þAuthor {number % 17}þ")
+        dat.append(f"þ{names[-1]}þ\x14þ{names[parent - 1]}þ\x14þ{value_of(number)}þ")
         for at, place in enumerate(places):
             page += 1
             opt.append(f"P{page:06},V,I\\{place}.tif,{'' if at else 'Y'},,,")
-            words.append(f"P{page:06}," + ",".join(map(str, word_of(page))))
+            for *numbers, text in words_of(page):
+                quoted = text.replace('"', '""')
+                words.append(f"P{page:06}," + ",".join(map(str, numbers)) + f',"{quoted}"')
     for name, lines in (("load.dat", dat), ("load.opt", opt), ("words.csv", words)):
         with open(f"{folder}/{name}", "w", encoding="utf-8", newline="") as out:
             out.write("".join(line + "\n" for line in lines))

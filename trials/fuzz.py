@@ -46,8 +46,12 @@ AT_ONCE, IN_A_FILE = 20000, 100
 
 
 def request_lines(draw):
-    """Requests, usual and damaged ones, as web_model.py makes them, and ones at their limits."""
+    """Requests, usual and damaged ones, as web_model.py makes them, and ones at their limits; replies to looks."""
     while True:
+        if draw.random() < 0.1:
+            line = web_model.reply_line(draw)
+            yield [(line, web_model.told(line))]
+            continue
         data = web_model.usual(draw)
         kind = draw.random()
         if kind < 0.02:

@@ -319,7 +319,7 @@ def members(name, parts, body):
             call[key] = value == "true"
         elif kind == "list":
             call[key] = [item[1] for item in value]
-    numbers = ("id",) if name == "GetProduction" else ("doc", "page")
+    numbers = {"GetProduction": ("id",), "SeeStates": ("from",)}.get(name, ("doc", "page"))
     return call | {key: part if name == "GetProduction" else int(part) for key, part in zip(numbers, parts)}
 
 
@@ -401,7 +401,8 @@ def some_call(draw, matter):
         texts = ["x" * 201, "a\tb", "\u00fe", "\x7f", "\u00e9" * 101, "\U0001f600" * 50, "a\nb"]
     name = draw.choice(("SetCall", "SetCall", "SetCall", "PutBox", "PutBox", "PutBox", "DropBox", "HoldField", "HoldField", "FreeField",
                         "PutEntry", "PutEntry", "Confirm", "Confirm", "Confirm", "Confirm", "SendBack", "SeeDoc", "SeeDoc", "SeePage",
-                        "SeeWords", "AddStaff", "Freeze", "GetProduction"))
+                        "SeeWords", "AddStaff", "Freeze", "GetProduction", "SeeStates", "SeeValues", "SeeStaff", "SeeProductions",
+                        "Find", "Find", "Plan", "Plan"))
     basis = draw.choice(("AC", "WP", "PI", "TS"))
     body, way, target = {}, "POST", f"/docs/{doc}/"
     if name == "SetCall":
@@ -435,18 +436,49 @@ def some_call(draw, matter):
         roles = ("Second", "Reviewer", "Clerk", "Receiver", "Lead", "Second")
         body = {"name": draw.choice((f"member {k}", f"member {k}", draw.choice(texts))), "role": roles[k % 6], "digest": DIGESTS[k].hex()}
         target = "/staff"
-    elif name == "Freeze":
-        body, target = freeze_body(draw, matter), "/productions"
+    elif name in ("Freeze", "Plan"):
+        body, target = freeze_body(draw, matter), "/productions" if name == "Freeze" else "/plan"
+    elif name == "Find":
+        body = {"terms": some_terms(draw, matter), "from": draw.choice((doc, doc, 1, 0)), "page": draw.choice((0, 0, page))}
+        target = "/find"
     elif name == "GetProduction":
         way, target = "GET", "/productions/" + draw.choice([*(made["id"] for made in matter.productions), "none"])
     else:
-        way, target = "GET", {"SeeDoc": f"/docs/{doc}", "SeePage": f"/docs/{doc}/pages/{page}", "SeeWords": f"/docs/{doc}/pages/{page}/words"}[name]
+        way, target = "GET", {
+            "SeeDoc": f"/docs/{doc}", "SeePage": f"/docs/{doc}/pages/{page}", "SeeWords": f"/docs/{doc}/pages/{page}/words",
+            "SeeStates": f"/states/{doc}", "SeeValues": f"/docs/{doc}/values", "SeeStaff": "/staff", "SeeProductions": "/productions"}[name]
     key = draw.choice(KEYS[: len(matter.staff) + (draw.random() < 0.1)] if draw.random() < 0.9 else KEYS)
     data = as_json(body) if draw.random() < 0.5 else json.dumps(body).encode()
     head = f"{way} {target} HTTP/1.1\r\nDesk-Key: {key}\r\n"
     if way == "GET":
         return (head + "\r\n").encode("utf-8")
     return (head + f"Content-Length: {len(data)}\r\n\r\n").encode("utf-8") + data
+
+
+def some_terms(draw, matter):
+    """Terms that stand for words in a row of some page or value, most often; or others."""
+    rows = [[word[5] for word in words] for words in matter.words.values()]
+    rows += [value.split(" ") for doc in matter.docs for value in doc["values"]]
+    row = draw.choice([row for row in rows if row] or [["w"]])
+    at = draw.randrange(len(row))
+    terms = [some_term(draw, word) for word in row[at : at + draw.choice((1, 1, 1, 2, 3, 8))]]
+    if draw.random() < 0.15:
+        terms = draw.choice(([], [""], ["*"] * 9, ["a\tb"], ["x" * 201], ["\u00e9" * 100], ["*", "*"], ["**"], ["#"], ["\x7f"], ["\x80"]))
+    return terms
+
+
+def some_term(draw, word):
+    """What stands for the word or its core, or what hardly doesn't."""
+    kind = draw.randrange(9)
+    if kind == 0:
+        return draw.choice((word.upper(), word.lower(), word.casefold(), word.swapcase()))
+    if kind == 1:
+        return re.sub("[0-9]", "#", word)
+    if kind == 2:
+        return word.strip("\"'.,:;()[]<>!?-_ \u00ab\u00bb\u2018\u2019\u201c\u201d")
+    at = draw.randrange(len(word) + 1)
+    parts = {3: word[:at] + "*", 4: "*" + word[at:], 5: "*" + word[at : at + 3] + "*", 6: word[:at] + "*" + word[at:], 7: word[:at]}
+    return parts.get(kind, word)
 
 
 def freeze_body(draw, matter):

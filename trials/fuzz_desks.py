@@ -43,8 +43,7 @@ import web_model  # noqa: E402
 
 DOCUMENTS, EACH, CLIENTS, PROCESSES, LIMIT = 120, 40, 2, 4, 300
 ROLES = ("Lead", "Second", "Reviewer", "Second", "Reviewer", "Clerk", "Receiver", "Lead")
-MEMBERS = web_model.MEMBERS | {name: [] for name in ("Confirm", "SendBack", "SeeDoc", "SeePage", "SeeWords", "GetProduction")}
-READS = ("SeeDoc", "SeePage", "SeeWords", "GetProduction")
+MEMBERS = {name: [] for _, _, name in web_model.ROUTES} | web_model.MEMBERS
 Sent = collections.namedtuple("Sent", "data manner")  # whole, pieces or broken
 
 
@@ -77,18 +76,20 @@ class Key:
 
 
 class Asker(desks.Asker):
-    """Calls of desks.py, by the keys of this matter and over its documents."""
+    """Calls of desks.py, by the keys of this matter and over its documents, most of which are settled."""
+
+    SETTLES = 0
 
     def document(self):
         kind = self.chance.random()
-        most = 12 if kind < 0.3 else DOCUMENTS
-        return self.chance.randint(1, most) if kind < 0.99 else self.chance.choice((DOCUMENTS + 1, 999999999))
+        least = DOCUMENTS - 11 if kind < 0.3 else 1
+        return self.chance.randint(least, DOCUMENTS) if kind < 0.99 else self.chance.choice((DOCUMENTS + 1, 999999999))
 
     def key(self):
         return self.chance.choices(days.KEYS, (4, 4, 4, 4, 4, 2, 0.3, 4))[0] if self.chance.random() < 0.98 else "nobody"
 
-    def Freeze(self, call):
-        super().Freeze(call)
+    def request(self, call):
+        super().request(call)
         begin = self.batch[self.chance.randint(1, DOCUMENTS) - 1][0]
         call["from"], call["to"] = begin, min(begin + self.chance.randint(0, 3), DOCUMENTS)
 
@@ -102,7 +103,7 @@ def a_request(draw, asker, matter):
     else:
         data = days.some_call(draw, matter)
         # a freeze of all documents would be over all that is under way
-        while b"/productions HTTP" in data:
+        while b"POST /productions HTTP" in data or b"POST /plan HTTP" in data:
             data = days.some_call(draw, matter)
     kind = draw.random()
     if kind < 0.2:
@@ -117,7 +118,7 @@ def sent(draw, data):
         return Sent(data, "pieces")
     if kind < 0.09:
         call = call_of(data)[1]
-        if call is None or call["call"] in READS:
+        if call is None or call["call"] in review_model.LOOKS:
             return Sent(data, "broken")
         cut = data[: draw.randrange(len(data))]
         if call_of(cut)[1] is None:
@@ -249,7 +250,7 @@ class Room:
             return copy.deepcopy(self.model)
         sizes = [(doc["parent"], [(page.width, page.height) for key, page in sorted(self.matter.pages.items()) if key[0] == k])
                  for k, doc in enumerate(self.matter.docs, 1)]
-        model = review_model.Matter(days.DIGESTS[0].hex(), list(self.matter.fields), sizes, self.seen)
+        model = review_model.Matter(days.DIGESTS[0].hex(), list(self.matter.fields), sizes, self.seen, list(desks.texts_of(self.batch)))
         model.staff = [(role, digest.hex(), name) for role, digest, name in self.matter.staff]
         return model
 

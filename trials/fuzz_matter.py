@@ -1,9 +1,11 @@
 """A plain model of a matter: its kept rows (docs/FORMATS.md, bp_matter), when they are those of a valid matter, its
 review calls, freezes and logs (docs/STATUSES.md)."""
+import copy
 import functools
 import re
 import struct
 
+import find_model
 import fuzz_loads as loads
 import fuzz_pages as pages
 import t6_model
@@ -493,6 +495,8 @@ def step(m, digest, name, call):
         return produced(freeze(m, call))
     if name == "GetProduction":
         return produced(production(m, call["id"]))
+    if name in LOOKS:
+        return LOOKS[name](m, call)
     doc = call["doc"]
     if not 1 <= doc <= len(m.docs):
         raise Rule(10, doc)
@@ -646,9 +650,60 @@ def send_back(m, caller, doc, call):
     return DONE
 
 
+# ---- looks
+
+
+def see_states(m, call):
+    if not 1 <= call["from"] <= len(m.docs):
+        raise Rule(10, call["from"])
+    return [state_of(m, doc) for doc in range(call["from"], min(call["from"] + 499, len(m.docs)) + 1)]
+
+
+def state_of(m, doc):
+    row = see_doc(m, 0, doc, {})
+    made = next((made["id"] for made in m.productions if any(item["doc"] == doc for item in made["items"])), None)
+    counts = {"boxes": len(row["boxes"]), "held": len(row["held"])}
+    return row | counts | {"entry": row["entry"] is not None, "production": made}
+
+
+def see_values(m, caller, doc, call):
+    values, (_, held) = m.docs[doc - 1]["values"], m.marks(doc)
+    return [{"field": k, "held": held.get(k), "name": name, "value": values[k - 1] if k <= len(values) else ""}
+            for k, name in enumerate(m.fields, 1)]
+
+
+def see_staff(m, call):
+    return [{"name": name, "role": role, "staff": k} for k, (role, _, name) in enumerate(m.staff, 1)]
+
+
+def see_productions(m, call):
+    return [{"first": made["items"][0]["first"], "last": made["items"][-1]["last"], "items": len(made["items"])}
+            | {key: made[key] for key in ("from", "id", "prefix", "to", "volume", "width")} for made in m.productions]
+
+
+def find(m, call):
+    documents = [(row["values"], [[word[5] for word in m.words[doc, p]] for p in range(1, row["pages"] + 1)])
+                 for doc, row in enumerate(m.docs, 1)]
+    found = find_model.find(documents, call["terms"], call["from"], call["page"])
+    if isinstance(found, str):
+        raise Rule({"TermRefused": 140, "NoDocument": 10, "NoPage": 11}[found],
+                   {"TermRefused": 0, "NoDocument": call["from"], "NoPage": call["page"]}[found])
+    hits = [dict(zip(("doc", "page", "field", "place", "count"), hit)) for hit in found[0]]
+    return {"hits": hits, "next": found[1], "next_page": found[2]}
+
+
+def plan(m, call):
+    """What a freeze answers, with nothing kept of it."""
+    other = copy.copy(m)
+    other.prefixes, other.productions = list(m.prefixes), list(m.productions)
+    return produced(freeze(other, call))
+
+
+LOOKS = {"SeeStates": see_states, "SeeStaff": see_staff, "SeeProductions": see_productions, "Find": find, "Plan": plan}
 STEPS = {
     "SeeDoc": see_doc, "SeePage": see_page, "SeeWords": see_words, "SetCall": set_call, "PutBox": put_box, "DropBox": drop_box,
     "HoldField": hold_field, "FreeField": free_field, "PutEntry": put_entry, "Confirm": confirm, "SendBack": send_back,
+    "SeeValues": see_values,
 }
 
 

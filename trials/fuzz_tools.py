@@ -6,6 +6,10 @@ import sys
 sys.path.append(os.path.join(os.path.dirname(os.path.dirname(os.path.abspath(__file__))), "tools"))
 from volumes.rule import NAMES, Rule  # noqa: E402, F401
 
+# no check says it
+NAMES[140] = "TermRefused"
+
+
 def answer(make, *words):
     """What a call gives, or its rule as it is told."""
     try:

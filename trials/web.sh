@@ -1,6 +1,6 @@
 #!/bin/sh
-# Random requests: web_model.py makes lines of requests, usual ones and damaged ones, with what its plain model says is
-# due, and the program bp_test_requests reads them. Prints how many were tried and which are told otherwise; ends with status 1
+# Random requests, and replies to looks: web_model.py makes lines of these, usual ones and damaged ones, with what its plain model
+# says is due, and the program bp_test_requests reads them. Prints how many were tried and which are told otherwise; ends with status 1
 # where one is. Words: how many, 100,000 where none is given, and a seed. Needs rt on PATH, and python3.
 set -eu
 here=$(CDPATH='' cd -- "$(dirname -- "$0")" && pwd)

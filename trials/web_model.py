@@ -1,11 +1,12 @@
 #!/usr/bin/env python3
-"""A plain model of how requests are read and replies are written (docs/FORMATS.md, bp_web), apart
+"""A plain model of how requests are read and the replies to looks are written (docs/FORMATS.md, bp_web), apart
 from the proved crates. It knows nothing of them but the form of the lines that bp_test_requests reads.
 
     web_model.py check FILE..     compares what each line says is to be told with the model
-    web_model.py make COUNT SEED  writes COUNT lines of requests, usual and damaged, with what is due
+    web_model.py make COUNT SEED  writes COUNT lines of requests and replies, usual and damaged, with what is due
 """
 import hashlib
+import json
 import random
 import re
 import sys
@@ -153,6 +154,12 @@ ROUTES = [
     ("POST", rf"/docs/{N}/back", "SendBack"),
     ("POST", r"/productions", "Freeze"),
     ("GET", r"/productions/([^/?]+)", "GetProduction"),
+    ("GET", rf"/states/{N}", "SeeStates"),
+    ("GET", rf"/docs/{N}/values", "SeeValues"),
+    ("GET", r"/staff", "SeeStaff"),
+    ("GET", r"/productions", "SeeProductions"),
+    ("POST", r"/find", "Find"),
+    ("POST", r"/plan", "Plan"),
 ]
 
 
@@ -368,10 +375,12 @@ def call_of(name, parts, body):
         return [parts[0], said(text(body, "field"))]
     if name == "PutEntry":
         return [parts[0]] + [said(text(body, key)) for key in ("date", "author", "recipients", "description")]
-    if name == "Freeze":
+    if name in ("Freeze", "Plan"):
         words = [said(text(body, key)) for key in ("id", "volume", "prefix")]
         words += [number(body, "width", 255), number(body, "from"), number(body, "to")]
         return words + [said(item) for item in texts(body, "fields")]
+    if name == "Find":
+        return [said(term) for term in texts(body, "terms")] + [number(body, "from"), number(body, "page")]
     if name == "GetProduction":
         return [said(parts[0])]
     return list(parts)
@@ -450,6 +459,114 @@ def lengths(data):
     return f"{count} tell {whole}, {whole} are enough"
 
 
+# ---- replies to looks
+
+
+class Unread(Exception):
+    pass
+
+
+class Words:
+    """The words of a line, read one after another."""
+
+    def __init__(self, words):
+        self.words = words[::-1]
+
+    def word(self):
+        if not self.words:
+            raise Unread
+        return self.words.pop()
+
+    def number(self, most=4294967295):
+        word = self.word()
+        if not re.fullmatch(r"[0-9]+", word) or int(word) > most:
+            raise Unread
+        return int(word)
+
+    def among(self, named):
+        word = self.word()
+        if word not in named:
+            raise Unread
+        return named[word]
+
+    def text(self):
+        word = self.word().encode("utf-8").replace(b"_", b" ")
+        data = re.sub(rb"%([0-9a-f]{2})", lambda found: bytes([int(found[1], 16)]), b"" if word == b"-" else word)
+        if not is_utf8(data):
+            raise Unread
+        return data.decode("utf-8")
+
+    def several(self, part):
+        # the program that reads the line takes a hundred at most
+        return [part(self) for _ in range(min(self.number(), 100))]
+
+
+YES = {"yes": True, "no": False}
+TREATMENT_WORDS = {"produce": "Produce", "redact": "Redact"} | {basis: "Withhold-" + basis for basis in BASES}
+ROLE_WORDS = {role.lower(): role for role in ROLES}
+GROUNDS = {basis: basis for basis in BASES} | {"-": None}
+
+
+def state_row(words):
+    row = {key: words.number() for key in ("doc", "parent", "pages", "editor", "confirmer")}
+    if row["editor"] == 0:
+        row["confirmer"] = 0
+    row |= {"responsive": words.among(YES), "treatment": words.among(TREATMENT_WORDS), "designation": words.text()}
+    row |= {"boxes": words.number(), "held": words.number(), "entry": words.among(YES)}
+    return row | {"production": words.text() or None}
+
+
+def value_row(words):
+    return {"field": words.number(), "name": words.text(), "value": words.text(), "held": words.among(GROUNDS)}
+
+
+def person_row(words):
+    return {"staff": words.number(), "name": words.text(), "role": words.among(ROLE_WORDS)}
+
+
+def production_row(words):
+    row = {key: words.text() for key in ("id", "volume", "prefix")} | {"width": words.number(255)}
+    row |= {key: words.number(2**64 - 1) for key in ("first", "last")}
+    return row | {key: words.number() for key in ("items", "from", "to")}
+
+
+def hit_row(words):
+    return {key: words.number() for key in ("doc", "page", "field", "place", "count")}
+
+
+def found(words):
+    following = {key: words.number() for key in ("next", "next_page")}
+    return following | {"hits": words.several(hit_row)}
+
+
+REPLIES = {
+    "states": lambda words: words.several(state_row), "values": lambda words: words.several(value_row),
+    "people": lambda words: words.several(person_row), "productions": lambda words: words.several(production_row), "found": found,
+}
+
+
+def compact(value):
+    """Compact JSON, its members in byte order of their names."""
+    return json.dumps(value, ensure_ascii=False, separators=(",", ":"), sort_keys=True).encode("utf-8")
+
+
+def replied(asked):
+    """What is told of a line with the reply to a look; nothing of a line with another."""
+    kind, *rest = asked.split(" ")
+    if kind not in REPLIES:
+        return None
+    words = Words(rest)
+    try:
+        value = REPLIES[kind](words)
+        if words.words:
+            raise Unread
+    except Unread:
+        return "not read"
+    body = compact(value)
+    head = f"HTTP/1.1 200 OK\r\nContent-Type: application/json\r\nContent-Length: {len(body)}\r\nConnection: close\r\n\r\n"
+    return escaped(head.encode() + body)
+
+
 # ---- lines
 
 
@@ -488,6 +605,8 @@ def told(asked):
         return lengths(bytes_in(rest))
     if verb == "enough":
         return "yes" if enough(bytes_in(rest)) else "no"
+    if verb == "reply":
+        return replied(rest)
     return None
 
 
@@ -503,7 +622,7 @@ def check(files):
             if due != wanted:
                 others += 1
                 print(f"{file}:{number}: the model tells {due}")
-    print(f"{lines} lines of requests, {others} of them otherwise in the model")
+    print(f"{lines} lines of requests and replies, {others} of them otherwise in the model")
 
 
 # ---- requests made at random
@@ -544,7 +663,17 @@ def value_text(draw, name):
         return '"' + "0a" * 31 + draw.choice(["ff", "ff", "FF", "f"]) + '"'
     if name == "fields":
         return draw.choice(["[]", '["A","B"]', '[ "A" , 1 ]', "{}"])
+    if name == "terms":
+        return terms_text(draw)
     return draw.choice(['""', '"A b"', '"\\u00e9\\n"', '"\\ud83d\\ude00"', '"\\ud83d"', '"caf\u00e9"', "1"][: draw.choice([4, 4, 7])])
+
+
+def terms_text(draw):
+    terms = [draw.choice(['"ask"', '"Counsel*"', '"###-####"', '"*"', '""', '"a b"', '"\\u0000_%"', '"caf\u00e9"', '"' + "x" * 201 + '"'])
+             for _ in range(draw.choice([0, 1, 1, 2, 3, 8, 9]))]
+    if draw.random() < 0.15:
+        terms.append(draw.choice(["1", "null", "[]", '["ask"]', "{}"]))
+    return draw.choice(["[" + ",".join(terms) + "]"] * 8 + ["[ " + " , ".join(terms) + " ]", '"ask"', "null", "{}"])
 
 
 MEMBERS = {
@@ -556,6 +685,8 @@ MEMBERS = {
     "FreeField": ["field"],
     "PutEntry": ["date", "author", "recipients", "description"],
     "Freeze": ["id", "volume", "prefix", "width", "from", "to", "fields"],
+    "Plan": ["id", "volume", "prefix", "width", "from", "to", "fields"],
+    "Find": ["terms", "from", "page"],
 }
 
 
@@ -588,9 +719,51 @@ def damaged(draw, data):
     return data
 
 
+# ---- replies made at random
+
+TEXTS = ["-", "A", "A_b", "Say_%22x%22\\y", "caf\u00e9", "\U0001f600", "%5f%25", "%00%08%0c%1f%7f", "%0a%0d%09", "</x>", "\u2028", "_"]
+
+
+def number_word(draw, most=4294967295):
+    return str(draw.choice([0, 1, 2, 9, 10, 256, draw.randrange(most + 1), most]))
+
+
+def row_words(draw, kind):
+    numbers, text, yes = lambda count: [number_word(draw) for _ in range(count)], lambda: draw.choice(TEXTS), lambda: draw.choice(list(YES))
+    if kind == "states":
+        named = [yes(), draw.choice(list(TREATMENT_WORDS)), text()]
+        return [*numbers(5), *named, *numbers(2), yes(), text()]
+    if kind == "values":
+        return [*numbers(1), text(), text(), draw.choice(list(GROUNDS))]
+    if kind == "people":
+        return [*numbers(1), text(), draw.choice(list(ROLE_WORDS))]
+    if kind == "productions":
+        spans = [number_word(draw, 2**64 - 1) for _ in range(2)]
+        return [text(), text(), text(), number_word(draw, 255), *spans, *numbers(3)]
+    return numbers(5)
+
+
+def reply_line(draw):
+    """The reply to a look as a line gives it; some with a word that is lost, doubled or another."""
+    kind = draw.choice(list(REPLIES))
+    count = draw.choice([0, 1, 1, 2, 5, 100])
+    words = [number_word(draw), number_word(draw)] if kind == "found" else []
+    words.append(str(count))
+    for _ in range(count):
+        words += row_words(draw, kind)
+    if draw.random() < 0.3:
+        at = draw.randrange(len(words))
+        words[at : at + 1] = draw.choice([[], [words[at]] * 2, [draw.choice(["x", "-", "-1", "4294967296", "2", "yes", "AC", "", "lead"])]])
+    return " ".join(["reply", kind, *words])
+
+
 def make(count, seed):
     draw = random.Random(seed)
     for _ in range(count):
+        if draw.random() < 0.1:
+            line = reply_line(draw)
+            print(f"{line} = {told(line)}")
+            continue
         data = usual(draw)
         if draw.random() < 0.6:
             data = damaged(draw, data)

@@ -34,7 +34,10 @@ use Rattle.bp_rules.specs.declared.decided.Decided.{Decided}
 use Rattle.bp_rules.specs.declared.refusals.MatterRefusal.{MatterRefusal}
 use Rattle.bp_rules.specs.declared.refusals.MatterRefusal.TheVariants as refusals
 use Rattle.bp_cli.specs.declared.stops.Stop.{Stop}
-use Rattle.bp_cli.specs.Demoing.{FreezesHere, FrozeHere}
+use Rattle.bp_demo.specs.Demo.{demo_freeze, demo_matter}
+use Rattle.bp_cli.specs.Demo.{DemoAsked}
+use Rattle.bp_cli.specs.Demoing.{DrawsDemo, FreezesHere, FrozeHere}
+use Rattle.bp_cli.specs.declared.demo.Drawn.{Drawn}
 use Rattle.bp_cli.specs.Producing.{Freezes, Froze, IsProduced, TellsFrozen}
 use Rattle.bp_cli.specs.Stops.{StopsForMatter}
 use Rattle.bp_cli.proofs.KeptLemmas.{told_then}
@@ -171,3 +174,19 @@ pub here_lacked : (m : Matter) (q : Request) (r : Result Production Refusal) (m'
 here_lacked m q r m' is stop =
     here_by (λ x. x ≡ calls.OutOfMemory) m q r m' is stop
     (λ x same. subst (λ (y : Refusal). FreezesHere m q (Err y) m') (sym same) tt)
+
+-- ---- a drawing that is refused as its freeze is
+
+drawn_by : (P : Refusal → Type 0) (asked : DemoAsked) (r : Result Drawn Refusal) → IsErr r → IsErrAnd r P → ((x : Refusal) → P x → DrawsDemo asked (Err x)) → DrawsDemo asked r
+drawn_by P asked (Ok drawn) is stop h = absurd stop
+drawn_by P asked (Err x) is stop h = h x stop
+
+drawn_refused : (asked : DemoAsked) (m : Matter) (refusal : Refusal) (m' : Matter) → m ≡ demo_matter asked.seed asked.pages → FreezesHere m (demo_freeze m) (Err refusal) m' → DrawsDemo asked (Err refusal)
+drawn_refused asked m (calls.Rule rule) m' same refused = subst (λ (n : Matter). freeze_of n (demo_freeze n) ≡ Err rule) same refused
+drawn_refused asked m calls.OutOfMemory m' same refused = tt
+
+pub drawing_refused : (asked : DemoAsked) (m : Matter) (q : Request) (refusal : Refusal) (r : Result Drawn Refusal) (m' : Matter) → m ≡ demo_matter asked.seed asked.pages → q ≡ demo_freeze m → FreezesHere m q (Err refusal) m' → IsErr r → IsErrAnd r (λ x. x ≡ refusal) → DrawsDemo asked r
+drawing_refused asked m q refusal r m' drawn whole froze is stop =
+    let all = subst (λ (p : Request). FreezesHere m p (Err refusal) m') whole froze in
+    drawn_by (λ x. x ≡ refusal) asked r is stop
+    (λ x same. subst (λ (y : Refusal). DrawsDemo asked (Err y)) (sym same) (drawn_refused asked m refusal m' drawn all))

@@ -119,8 +119,7 @@ pub struct Drawn {
 fn drawn_demo<R: Threads + Sync>(rt: &R, alloc: Global, asked: DemoLine) -> Result<Drawn, Refusal>
     ensures { DrawsDemo asked result }
 {
-    let DemoLine { seed, pages } = asked;
-    let mut tables = demo_tables(rt, alloc, u64::from(seed), pages)?;
+    let mut tables = demo_tables(rt, alloc, u64::from(asked.seed), asked.pages)?;
     let request = demo_request(alloc, tables.documents())?;
     let production = freeze_here(alloc, &mut tables, request)?;
     Ok(Drawn { tables, production })

@@ -11,6 +11,7 @@ use Rattle.bp_codes.specs.Bits.{bits_of}
 use Rattle.bp_rows.specs.Changes.{Shows}
 use Rattle.bp_rows.specs.Image.{FitsRes, Image, IsGrid, IsPage}
 use Rattle.bp_rows.specs.Limits.{sides_are_allowed}
+use Rattle.bp_t6.specs.Canonical.{IsCanonicalStrip}
 use Rattle.bp_t6.specs.Faults.{StripFault}
 use Rattle.bp_t6.specs.Read.{StripReads, LinesRead}
 use Rattle.bp_t6.specs.SoFar.{AddedSoFar, HasAdded, HasRead, ReadSoFar, ReadsLine, unread}
@@ -118,6 +119,15 @@ checked law width height bytes written seen sides so same =
       | inl is ↦ is ∙ sym (ap is_some (its_strip law width height bytes written p (plain_is_page width height so.lines sides so.grid) refl so.codes same is))
       | inr isnt ↦ isnt ∙ sym (ap is_some (other_strip law width height bytes written p refl so.reads so.codes same isnt))
     ]
+
+-- a strip that is told as it is read
+pub canonical_found : StripLaw → (width height : ℕ) (bytes : List ℕ) → IsTrue (sides_are_allowed width height) → IsCanonicalStrip width height bytes → is_some (lines_of width height bytes) ≡ true
+unfolding strip
+canonical_found law width height bytes sides is =
+    let p = page_of width height is.lines in
+    let page = plain_is_page width height is.lines sides is.grid in
+    let found : lines_of width height (strip p) ≡ Some is.lines = lines_again law p (page_lines p page) in
+    ap is_some (ap (lines_of width height) is.strip ∙ found)
 
 -- sides that no page has
 pub refused_sides : (width height : ℕ) (bytes : List ℕ) → sides_are_allowed width height ≡ false → lines_of width height bytes ≡ None

@@ -9,11 +9,11 @@ use bp_codes::Fill;
 use bp_core::{Bytes, OutOfMemory, Refusal};
 use bp_rows::allowed_sides;
 use bp_t6::laws::{reading_law, rows_law, strip_law, strip_size};
-use bp_t6::{StripRows, StripWriter};
+use bp_t6::{StripRows, StripWriter, is_canonical};
 use std::alloc::Global;
 
-// Whether these bytes are the strip of some page of these sides, in pixels. Each row is read and coded
-// again, so the check holds two rows and one strip beside the bytes.
+// Whether these bytes are the strip of some page of these sides, in pixels. Such a strip is told as it is
+// read; else each row is read and coded again, so the check holds two rows and one strip beside the bytes.
 pub(crate) fn is_strip(
     alloc: Global,
     width: u32,
@@ -29,6 +29,10 @@ pub(crate) fn is_strip(
     }
     if bytes.len() > 4_294_967_295 {
         return Ok(false);
+    }
+    let is_known = is_canonical(alloc, bytes, width, height)?;
+    if is_known {
+        return Ok(true);
     }
     match coded_again(alloc, width, height, bytes)? {
         None => Ok(false),

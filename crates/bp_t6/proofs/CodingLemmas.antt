@@ -14,7 +14,7 @@ use Rattle.bp_t6.proofs.PlaceLemmas.{a1_is, b1_is, after_is}
 -- ---- the mode is chosen
 
 module _ (above line : List Bool) (place : Place) where
-  abbrev near : Bool
+  abbrev pub near : Bool
   near = nat_le (a1 line place) (b1 above place + 3) && nat_le (b1 above place) (a1 line place + 3)
 
   abbrev V : Mode
@@ -55,13 +55,13 @@ module _ (above line : List Bool) (place : Place) where
 
 -- ---- the number of modes that are allowed does not matter
 
-on_more : (most : ℕ) (above line : List Bool) (place : Place) → place.right ≤ length line → chosen_modes (suc most) above line place ≡ chosen above line place ∷ chosen_modes most above line (after above place (chosen above line place))
+pub on_more : (most : ℕ) (above line : List Bool) (place : Place) → place.right ≤ length line → chosen_modes (suc most) above line place ≡ chosen above line place ∷ chosen_modes most above line (after above place (chosen above line place))
 on_more most above line place h =
     let more = chosen above line place ∷ chosen_modes most above line (after above place (chosen above line place)) in
     let pick : Bool → List Mode = λ b. elim b [ true ↦ more | false ↦ [] ] in
     ap pick (le-leb place.right (length line) h)
 
-at_end : (most : ℕ) (above line : List Bool) (place : Place) → length line < place.right → chosen_modes most above line place ≡ []
+pub at_end : (most : ℕ) (above line : List Bool) (place : Place) → length line < place.right → chosen_modes most above line place ≡ []
 at_end zero above line place h = refl
 at_end (suc most) above line place h =
     let more = chosen above line place ∷ chosen_modes most above line (after above place (chosen above line place)) in

@@ -119,3 +119,12 @@ pub shift_small : (held fill : ℕ) → IsGathered held fill → held * 2 ^ (32 
 shift_small held fill kept =
     let size : fill + (32 - fill) ≡ 32 = omega (arith, kept.few) in
     subst (λ (n : ℕ). held * 2 ^ (32 - fill) < 2 ^ n) size (shl_below held fill (32 - fill) kept.small)
+
+-- bytes whose bits are some bits with zeros to the byte are those bits packed
+pub packed_again : (bytes : List ℕ) (all : List Bool) (pad : ℕ) → AreBytes bytes → pad < 8 → bits_of High bytes ≡ all ++ replicate pad false → bytes ≡ packed_row all
+packed_again bytes all pad small few is =
+    let long : length bytes * 8 ≡ length all + pad =
+    sym (length-bits_of High bytes) ∙ ap length is ∙ length-append all (replicate pad false) ∙ ap (λ n. length all + n) (length-replicate pad false) in
+    let zeros : pad ≡ 8 * row_bytes (length all) - length all = omega (arith, long, few) in
+    same_bytes bytes (packed_row all) small (packed_small all 0 (row_bytes (length all)))
+    (is ∙ ap (λ k. all ++ replicate k false) zeros ∙ sym (pixels_in-packed_row all))

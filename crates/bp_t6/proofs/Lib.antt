@@ -1,4 +1,6 @@
 pub mod BoundLemmas
+pub mod CanonicalLemmas
+pub mod CanonicalStripLemmas
 pub mod ChosenLemmas
 pub mod CodeLemmas
 pub mod CodingLemmas

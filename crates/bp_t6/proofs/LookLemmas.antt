@@ -1,13 +1,14 @@
 -- Lemmas on codes looked up: carry the row that was found over to the bits of runs.
-use Rattle.std.proofs.Common.{nat_lt, ℕ, suc, ◌+◌, ◌-◌, ◌*◌, ◌<◌, ◌≤◌, ◌≡◌, Bool, true, false, List, [], ◌∷◌, ◌++◌, length, get_or, drop, sum, Option, Some, None, IfSome, Ok, Err, refl, ap, sym, ◌∙◌, subst, arith, inl, inr, append_assoc}
+use Rattle.std.proofs.Common.{nat_lt, if◌then◌else◌, replicate, ◌⊎◌, ℕ, suc, ◌+◌, ◌-◌, ◌*◌, ◌/◌, ◌%◌, ◌<◌, ◌≤◌, ◌≡◌, Bool, true, false, List, [], ◌∷◌, ◌++◌, length, get_or, drop, sum, Option, Some, None, IfSome, Ok, Err, refl, ap, sym, ◌∙◌, subst, arith, inl, inr, append_assoc}
 use Rattle.std.specs.List.{position_from, flat_map}
-use Rattle.std.proofs.lemmas.Bool.{cases_Bool, cond-true, cond-false, and_parts, lt-ltb, le-ltb}
-use Rattle.std.proofs.lemmas.List.{append-nil, length-append, drop-drop}
+use Rattle.std.proofs.lemmas.Bool.{cases_lt, cases_Bool, cond-true, cond-false, and_parts, lt-ltb, le-ltb}
+use Rattle.std.proofs.lemmas.List.{append-nil, length-append, drop-drop, replicate-append-replicate}
 use Rattle.std.proofs.lemmas.List.Sums.{sum_by-append, sum_by-cons}
 use Rattle.bp_codes.specs.declared.code.NoCode.{NoCode}
 use Rattle.bp_codes.specs.CodeLists.{mode_codes}
 use Rattle.bp_codes.specs.NextCode.{begins, same_bit, row_at, row_or, no_code, next_row}
 use Rattle.bp_t6.specs.Modes.{Run, pixels_of, AreMakeUps, HasCodes, code, run_codes, run_bits_in}
+use Rattle.bp_t6.specs.Written.{run_of}
 use Rattle.bp_core.specs.declared.rules.RuleKind.TheVariants.{T6BadPlace}
 use Rattle.bp_t6.specs.Faults.{RunFault, missing_code, row_pixels}
 use Rattle.bp_t6.proofs.RunCodeLemmas.{flat_map-append, make_up}
@@ -61,24 +62,86 @@ row_in_table codes bits row e =
 
 -- ---- the make-up codes of a run so far
 
--- from one place of the bits to another stand make-up codes of so many pixels
-pub record MakeUps (codes : List (List Bool)) (bits : List Bool) (start at pixels : ℕ) : Type 0 where
+-- from one place of the bits to another stand make-up codes of so many pixels, which may be the coder's
+pub record MakeUps (codes : List (List Bool)) (bits : List Bool) (start at pixels : ℕ) (canonical : Bool) : Type 0 where
   pub ns : List ℕ
   pub are : AreMakeUps ns
   pub total : 64 * sum ns ≡ pixels
   pub reads : drop start bits ≡ flat_map (make_up codes) ns ++ drop at bits
   pub long : at ≡ start + length (flat_map (make_up codes) ns)
+  pub chosen : canonical ≡ true → ns ≡ (run_of pixels).make_ups
 
-pub none_yet : (codes : List (List Bool)) (bits : List Bool) (start : ℕ) → MakeUps codes bits start start 0
-none_yet codes bits start = record { ns = []; are = tt; total = refl; reads = refl; long = omega arith }
+pub none_yet : (codes : List (List Bool)) (bits : List Bool) (start : ℕ) → MakeUps codes bits start start 0 true
+none_yet codes bits start = record { ns = []; are = tt; total = refl; reads = refl; long = omega arith; chosen = λ e. refl }
 
 are_more : (ns : List ℕ) (n : ℕ) → AreMakeUps ns → 1 ≤ n → n ≤ 40 → AreMakeUps (ns ++ n ∷ [])
 are_more [] n h low high = ((low, high), tt)
 are_more (m ∷ ns) n h low high = (h.0, are_more ns n h.1 low high)
 
+-- behind longest make-up codes alone one of any length is the coder's
+run_more : (pixels n : ℕ) → pixels % 2560 ≡ 0 → 1 ≤ n → n ≤ 40 → (run_of (pixels + 64 * n)).make_ups ≡ (run_of pixels).make_ups ++ n ∷ []
+run_more pixels n whole low high = elim (cases_lt n 40) [
+  | inl less ↦
+      let count : (pixels + 64 * n) / 2560 ≡ k = omega (arith, whole) in
+      let many : 64 ≤ (pixels + 64 * n) % 2560 = omega (arith, whole) in
+      let own : (pixels + 64 * n) % 2560 / 64 ≡ n = omega (arith, whole) in
+      ap (λ j. replicate j 40 ++ last_make_up (pixels + 64 * n)) count
+      ∙ ap (λ ns. replicate k 40 ++ ns) (cond-false (nat_lt ((pixels + 64 * n) % 2560) 64) [] ((pixels + 64 * n) % 2560 / 64 ∷ []) (le-ltb ((pixels + 64 * n) % 2560) 64 many) ∙ ap (λ m. m ∷ []) own)
+      ∙ ap (λ ns. ns ++ n ∷ []) (sym front)
+  | inr most ↦
+      let top : n ≡ 40 = omega arith in
+      let count : (pixels + 64 * n) / 2560 ≡ k + 1 = omega (arith, whole) in
+      let few : (pixels + 64 * n) % 2560 < 64 = omega (arith, whole) in
+      ap (λ j. replicate j 40 ++ last_make_up (pixels + 64 * n)) count
+      ∙ ap (λ ns. replicate (k + 1) 40 ++ ns) (cond-true (nat_lt ((pixels + 64 * n) % 2560) 64) [] ((pixels + 64 * n) % 2560 / 64 ∷ []) (lt-ltb ((pixels + 64 * n) % 2560) 64 few))
+      ∙ append-nil (replicate (k + 1) 40) ∙ sym (replicate-append-replicate k 1 40)
+      ∙ ap (λ m. replicate k 40 ++ m ∷ []) (sym top)
+      ∙ ap (λ ns. ns ++ n ∷ []) (sym front)
+]
+  where
+    k : ℕ
+    k = pixels / 2560
+
+    last_make_up : ℕ → List ℕ
+    last_make_up m = if nat_lt (m % 2560) 64 then [] else m % 2560 / 64 ∷ []
+
+    few_left : pixels % 2560 < 64
+    few_left = omega (arith, whole)
+
+    front : (run_of pixels).make_ups ≡ replicate k 40
+    front = ap (λ ns. replicate k 40 ++ ns) (cond-true (nat_lt (pixels % 2560) 64) [] (pixels % 2560 / 64 ∷ []) (lt-ltb (pixels % 2560) 64 few_left)) ∙ append-nil (replicate k 40)
+
+-- a terminating code ends the coder's run
+run_ended : (pixels rest : ℕ) (ns : List ℕ) → rest < 64 → pixels % 64 ≡ 0 → ns ≡ (run_of pixels).make_ups → ◌≡◌ {A = Run} (record { make_ups = ns; rest = rest }) (run_of (pixels + rest))
+run_ended pixels rest ns few whole is =
+    let all = pixels + rest in
+    let count : pixels / 2560 ≡ all / 2560 = omega (arith, whole) in
+    let own : rest ≡ all % 64 = omega (arith, whole) in
+    ap (λ ms. run ms rest) (is ∙ ap (λ j. replicate j 40 ++ last_make_up pixels) count ∙ ap (λ ms. replicate (all / 2560) 40 ++ ms) (same_last (cases_lt (pixels % 2560) 64)))
+    ∙ ap (run (run_of all).make_ups) own
+  where
+    run : List ℕ → ℕ → Run
+    run ms r = record { make_ups = ms; rest = r }
+
+    last_make_up : ℕ → List ℕ
+    last_make_up m = if nat_lt (m % 2560) 64 then [] else m % 2560 / 64 ∷ []
+
+    same_last : (pixels % 2560 < 64) ⊎ (64 ≤ pixels % 2560) → last_make_up pixels ≡ last_make_up (pixels + rest)
+    same_last (inl less) =
+        let there : (pixels + rest) % 2560 < 64 = omega (arith, whole) in
+        cond-true (nat_lt (pixels % 2560) 64) [] (pixels % 2560 / 64 ∷ []) (lt-ltb (pixels % 2560) 64 less)
+        ∙ sym (cond-true (nat_lt ((pixels + rest) % 2560) 64) [] ((pixels + rest) % 2560 / 64 ∷ []) (lt-ltb ((pixels + rest) % 2560) 64 there))
+    same_last (inr more) =
+        let there : 64 ≤ (pixels + rest) % 2560 = omega (arith, whole) in
+        let same : pixels % 2560 / 64 ≡ (pixels + rest) % 2560 / 64 = omega (arith, whole) in
+        cond-false (nat_lt (pixels % 2560) 64) [] (pixels % 2560 / 64 ∷ []) (le-ltb (pixels % 2560) 64 more)
+        ∙ ap (λ m. m ∷ []) same
+        ∙ sym (cond-false (nat_lt ((pixels + rest) % 2560) 64) [] ((pixels + rest) % 2560 / 64 ∷ []) (le-ltb ((pixels + rest) % 2560) 64 there))
+
 -- one more
-pub make_up_more : (codes : List (List Bool)) (bits : List Bool) (start at pixels row len : ℕ) → MakeUps codes bits start at pixels → next_row codes (drop at bits) ≡ Ok row → len ≡ length (code codes row) → 64 ≤ row → row < 104 → MakeUps codes bits start (at + len) (pixels + 64 * (row - 63))
-make_up_more codes bits start at pixels row len so is long low high =
+pub make_up_more : (codes : List (List Bool)) (bits : List Bool) (start at pixels row len : ℕ) (old new : Bool) → MakeUps codes bits start at pixels old → next_row codes (drop at bits) ≡ Ok row → len ≡ length (code codes row) → 64 ≤ row → row < 104
+    → (new ≡ true → (old ≡ true) × (pixels % 2560 ≡ 0)) → MakeUps codes bits start (at + len) (pixels + 64 * (row - 63)) new
+make_up_more codes bits start at pixels row len old new so is long low high fine =
     let n = row - 63 in
     let back : 63 + n ≡ row = omega arith in
     let found = row_found codes (drop at bits) row is in
@@ -92,17 +155,19 @@ make_up_more codes bits start at pixels row len so is long low high =
       reads = so.reads ∙ ap (λ bs. flat_map (make_up codes) so.ns ++ bs) rest ∙ sym (append_assoc (flat_map (make_up codes) so.ns) (code codes row) (drop (at + len) bits))
           ∙ ap (λ bs. bs ++ drop (at + len) bits) (sym piece);
       long = omega (arith, so.long, long, ap length piece, length-append (flat_map (make_up codes) so.ns) (code codes row));
+      chosen = λ e. (let f = fine e in ap (λ ns. ns ++ n ∷ []) (so.chosen f.0) ∙ sym (run_more pixels n f.1 (omega arith) (omega arith)));
     }
 
 -- the bits begin with the codes of a run, from one of the tables
-pub record RunEnds (table : List (List Bool)) (bits : List Bool) (n : ℕ) (rest : List Bool) : Type 0 where
+pub record RunEnds (table : List (List Bool)) (bits : List Bool) (n : ℕ) (canonical : Bool) (rest : List Bool) : Type 0 where
   pub run : Run
   pub has : HasCodes run
   pub size : pixels_of run ≡ n
+  pub chosen : canonical ≡ true → run ≡ run_of n
   pub codes : bits ≡ run_bits_in table run ++ rest
 
 -- a terminating code
-pub run_end : (codes : List (List Bool)) (bits : List Bool) (start at pixels row len : ℕ) → MakeUps codes bits start at pixels → next_row codes (drop at bits) ≡ Ok row → len ≡ length (code codes row) → row < 64 → RunEnds codes (drop start bits) (pixels + row) (drop (at + len) bits)
+pub run_end : {canonical : Bool} → (codes : List (List Bool)) (bits : List Bool) (start at pixels row len : ℕ) → MakeUps codes bits start at pixels canonical → next_row codes (drop at bits) ≡ Ok row → len ≡ length (code codes row) → row < 64 → RunEnds codes (drop start bits) (pixels + row) canonical (drop (at + len) bits)
 run_end codes bits start at pixels row len so is long low =
     let found = row_found codes (drop at bits) row is in
     let rest : drop at bits ≡ code codes row ++ drop (at + len) bits = found ∙ ap (λ bs. code codes row ++ bs) (ap (λ m. drop m (drop at bits)) (sym long) ∙ drop-drop len at bits) in
@@ -110,6 +175,7 @@ run_end codes bits start at pixels row len so is long low =
       run = record { make_ups = so.ns; rest = row };
       has = record { make_ups = so.are; rest = low };
       size = omega (arith, so.total);
+      chosen = λ e. run_ended pixels row so.ns low (omega (arith, so.total)) (so.chosen e);
       codes = so.reads ∙ ap (λ bs. flat_map (make_up codes) so.ns ++ bs) rest ∙ sym (append_assoc (flat_map (make_up codes) so.ns) (code codes row) (drop (at + len) bits));
     }
 
@@ -118,14 +184,14 @@ row_length codes bits row e = omega (arith, ap length (row_found codes bits row 
 
 -- ---- where no run is read
 
-pub run_missing : (black : Bool) (room : ℕ) (bits : List Bool) (start at pixels : ℕ) (why : NoCode) → MakeUps (run_codes black) bits start at pixels → pixels ≤ room → next_row (run_codes black) (drop at bits) ≡ Err why → RunFault black room (drop start bits) (missing_code why) (at - start)
+pub run_missing : {canonical : Bool} → (black : Bool) (room : ℕ) (bits : List Bool) (start at pixels : ℕ) (why : NoCode) → MakeUps (run_codes black) bits start at pixels canonical → pixels ≤ room → next_row (run_codes black) (drop at bits) ≡ Err why → RunFault black room (drop start bits) (missing_code why) (at - start)
 run_missing black room bits start at pixels why so fits e =
     let size : length (flat_map (make_up (run_codes black)) so.ns) ≡ at - start = omega (arith, so.long) in
     subst (λ (bs : List Bool). RunFault black room bs (missing_code why) (at - start)) (sym so.reads)
     (subst (λ (n : ℕ). RunFault black room (flat_map (make_up (run_codes black)) so.ns ++ drop at bits) (missing_code why) n) size
     (RunFault.missing so.ns (drop at bits) why so.are (omega (arith, so.total)) e))
 
-pub run_passes : (black : Bool) (room : ℕ) (bits : List Bool) (start at pixels row : ℕ) → MakeUps (run_codes black) bits start at pixels → pixels ≤ room → next_row (run_codes black) (drop at bits) ≡ Ok row → room < pixels + row_pixels row → RunFault black room (drop start bits) T6BadPlace (at - start)
+pub run_passes : {canonical : Bool} → (black : Bool) (room : ℕ) (bits : List Bool) (start at pixels row : ℕ) → MakeUps (run_codes black) bits start at pixels canonical → pixels ≤ room → next_row (run_codes black) (drop at bits) ≡ Ok row → room < pixels + row_pixels row → RunFault black room (drop start bits) T6BadPlace (at - start)
 run_passes black room bits start at pixels row so fits e past =
     let size : length (flat_map (make_up (run_codes black)) so.ns) ≡ at - start = omega (arith, so.long) in
     subst (λ (bs : List Bool). RunFault black room bs T6BadPlace (at - start)) (sym so.reads)

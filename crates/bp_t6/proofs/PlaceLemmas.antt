@@ -6,16 +6,16 @@ use Rattle.std.specs.Int.{from_bool}
 use Rattle.bp_rows.specs.Changes.{differs, place_at, odd, Rises, Shows}
 use Rattle.bp_rows.proofs.ShownLemmas.{odd_one, odd_two, twice, up}
 use Rattle.bp_t6.specs.Places.{Place, leaves, least, a1, b1}
-use Rattle.bp_t6.specs.Coding.{IsNext, IsNextFrom}
+use Rattle.bp_t6.specs.Coding.{IsNext, IsNextFrom, Stepped}
 use Rattle.bp_t6.proofs.LeastLemmas.{prev, pix, is_least, least-end, hit}
 
-same_differs : (x y : Bool) → x ≡ y → differs x y ≡ false
+pub same_differs : (x y : Bool) → x ≡ y → differs x y ≡ false
 same_differs true true e = refl
 same_differs false false e = refl
 same_differs true false e = cc
 same_differs false true e = cc
 
-not_differs : (c x y : Bool) → x ≡ c → y ≡ not c → differs x y ≡ true
+pub not_differs : (c x y : Bool) → x ≡ c → y ≡ not c → differs x y ≡ true
 not_differs true true false e f = refl
 not_differs false false true e f = refl
 not_differs true true true e f = cc
@@ -163,11 +163,6 @@ next_two places width k rises on =
     subst (λ (n : ℕ). IsNext places width n (place_at places width (k + 1) + 1)) same (next_one places width (k + 1) rises on)
 
 -- those of b1, after the steps of two
-pub record Stepped (places : List ℕ) (width start at right : ℕ) : Type 0 where
-  pub colour : odd at ≡ odd start
-  pub behind : ((j : ℕ) → j + 2 ≡ start → place_at places width j < right) → (j : ℕ) → j + 2 ≡ at → place_at places width j < right
-  pub ahead : right ≤ width → right ≤ place_at places width at
-
 pub from_same : (places : List ℕ) (width k at right to : ℕ) (black : Bool) → IsNextFrom places width k right black → right ≤ to → to ≤ width → Stepped places width k at to → IsNextFrom places width at to black
 from_same places width k at right to black next more on step = record {
   colour = step.colour ∙ next.colour;

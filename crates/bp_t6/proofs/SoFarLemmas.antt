@@ -29,7 +29,7 @@ use Rattle.bp_t6.specs.SoFar.{last_line, HaveWidth, codes_so_far, AddedSoFar, Ha
 use Rattle.bp_t6.specs.Strips.{fault_rule, refusal_for, SaysFault}
 use Rattle.bp_t6.proofs.StripLemmas.{lines_to-read, lines_more, last-more, lines_fault}
 
-wide_more : (width : ℕ) (lines : List (List Bool)) (line : List Bool) → HaveWidth width lines → length line ≡ width → HaveWidth width (lines ++ line ∷ [])
+pub wide_more : (width : ℕ) (lines : List (List Bool)) (line : List Bool) → HaveWidth width lines → length line ≡ width → HaveWidth width (lines ++ line ∷ [])
 wide_more width lines line wide long i h = elim (cases_lt i (length lines)) [
   | inl less ↦ ap length (get_or_append_left lines (line ∷ []) [] i less) ∙ wide i less
   | inr last ↦ (let same : length lines ≡ i = omega (arith, length_push lines line) in ap length (get_or_at lines line [] [] i same) ∙ long)
@@ -44,7 +44,7 @@ last_long width above (line ∷ lines) long wide = last_long width line lines (w
 pub none_added : (writer : AddedSoFar) → writer.bits ≡ [] → writer.above ≡ [] → HasAdded writer []
 none_added writer bits above = record { wide = λ i h. absurd (omega arith); coded = bits; last = above ∙ sym (all_white 0 writer.width) }
 
-codes_more : (above : List Bool) (lines : List (List Bool)) (line : List Bool) → codes_so_far above (lines ++ line ∷ []) ≡ codes_so_far above lines ++ row_code (last_line above lines) line
+pub codes_more : (above : List Bool) (lines : List (List Bool)) (line : List Bool) → codes_so_far above (lines ++ line ∷ []) ≡ codes_so_far above lines ++ row_code (last_line above lines) line
 codes_more above [] line = append-nil (row_code above line)
 codes_more above (first ∷ lines) line =
     ap (λ bs. row_code above first ++ bs) (codes_more first lines line)
@@ -85,7 +85,7 @@ still_writer width new_width places above line wide same is shows = record {
   rises = subst (λ (w : ℕ). Rises above w) (sym same) (subst (λ (ps : List ℕ). Rises ps width) (sym is) shows.rises);
 }
 
-codes_end : (above : List Bool) (lines : List (List Bool)) → codes_so_far above lines ++ end_of_block ≡ lines_code above lines
+pub codes_end : (above : List Bool) (lines : List (List Bool)) → codes_so_far above lines ++ end_of_block ≡ lines_code above lines
 codes_end above [] = refl
 codes_end above (line ∷ lines) =
     append_assoc (row_code above line) (codes_so_far line lines) end_of_block ∙ ap (λ bs. row_code above line ++ bs) (codes_end line lines)

@@ -1,5 +1,5 @@
 -- Carries bits, whatever they are, over to a reading or to a fault.
-use Rattle.std.proofs.Common.{ℕ, zero, suc, ◌+◌, ◌-◌, ◌*◌, ◌<◌, ◌≤◌, ◌≡◌, Bool, not, List, [], ◌∷◌, ◌++◌, length, get_or, drop, Result, Ok, Err, ◌⊎◌, inl, inr, refl, ap, sym, ◌∙◌, subst, arith, append_assoc, length-append}
+use Rattle.std.proofs.Common.{ℕ, zero, suc, ◌+◌, ◌-◌, ◌*◌, ◌<◌, ◌≤◌, ◌≡◌, Bool, true, false, not, List, [], ◌∷◌, ◌++◌, length, get_or, drop, Result, Ok, Err, ◌⊎◌, inl, inr, refl, ap, sym, ◌∙◌, subst, arith, append_assoc, length-append}
 use Rattle.std.proofs.lemmas.Bool.{cases_lt, cases_eq}
 use Rattle.bp_core.specs.declared.rules.RuleKind.{RuleKind}
 use Rattle.bp_core.specs.declared.rules.RuleKind.TheVariants.{T6EarlyEnd, T6Extension, T6BadPlace}
@@ -38,13 +38,13 @@ RunAnswer black room bits = RunFits black room bits ⊎ ((kind : RuleKind) × (a
 
 -- each make-up code takes up 64 pixels of the room, so the room and one are enough of them
 run_from :
-    (black : Bool) (room : ℕ) (bits : List Bool) (most at pixels : ℕ)
-    → MakeUps (run_codes black) bits 0 at pixels
+    (black : Bool) (room : ℕ) (bits : List Bool) (most at pixels : ℕ) (canonical : Bool)
+    → MakeUps (run_codes black) bits 0 at pixels canonical
     → pixels ≤ room
     → room < pixels + most
     → RunAnswer black room bits
-run_from black room bits zero at pixels so fits few = absurd (omega arith)
-run_from black room bits (suc most) at pixels so fits few =
+run_from black room bits zero at pixels canonical so fits few = absurd (omega arith)
+run_from black room bits (suc most) at pixels canonical so fits few =
     let codes = run_codes black in
     elim (looked (next_row codes (drop at bits))) [
       | inr none ↦ inr (missing_code none.0, at - 0, run_missing black room bits 0 at pixels none.0 so fits none.1)
@@ -65,14 +65,14 @@ run_from black room bits (suc most) at pixels so fits few =
                   })
               | inr high ↦
                   let bound = row_in_table codes (drop at bits) row found.1 in
-                  let more = make_up_more codes bits 0 at pixels row long so found.1 refl high (omega (arith, bound, run_rows black)) in
-                  run_from black room bits most (at + long) (pixels + 64 * (row - 63)) more (omega (arith, many_pixels row high)) (omega arith)
+                  let more = make_up_more codes bits 0 at pixels row long canonical false so found.1 refl high (omega (arith, bound, run_rows black)) (λ e. cc) in
+                  run_from black room bits most (at + long) (pixels + 64 * (row - 63)) false more (omega (arith, many_pixels row high)) (omega arith)
             ]
           ]
     ]
 
 run_answer : (black : Bool) (room : ℕ) (bits : List Bool) → RunAnswer black room bits
-run_answer black room bits = run_from black room bits (room + 1) 0 0 (none_yet (run_codes black) bits 0) (omega arith) (omega arith)
+run_answer black room bits = run_from black room bits (room + 1) 0 0 true (none_yet (run_codes black) bits 0) (omega arith) (omega arith)
 
 -- ---- a mode
 

@@ -1,5 +1,5 @@
 -- Lemmas on one mode read: carry places and bits over to the modes of a row, and to its faults.
-use Rattle.std.proofs.Common.{nat_eq, Some, ℕ, zero, suc, ◌+◌, ◌-◌, ◌<◌, ◌≤◌, ◌≡◌, Bool, true, false, not, List, [], ◌∷◌, ◌++◌, length, get_or, drop, replicate, Ok, Err, Result, IfOk, IfErr, refl, ap, sym, ◌∙◌, subst, arith, inl, inr, append_assoc, length-append, length-drop}
+use Rattle.std.proofs.Common.{nat_eq, Some, ℕ, zero, suc, ◌+◌, ◌-◌, ◌<◌, ◌≤◌, ◌≡◌, Bool, true, false, not, ◌&&◌, List, [], ◌∷◌, ◌++◌, length, get_or, drop, replicate, Ok, Err, Result, IfOk, IfErr, refl, ap, sym, ◌∙◌, subst, arith, inl, inr, append_assoc, length-append, length-drop}
 use Rattle.bp_core.specs.declared.rules.RuleKind.{RuleKind}
 use Rattle.bp_core.specs.declared.rules.RuleKind.TheVariants.{T6BadPlace}
 use Rattle.bp_codes.specs.CodeLists.{mode_codes}
@@ -13,12 +13,13 @@ use Rattle.bp_t6.specs.Faults.{RunFault, ModeFault, RowFault, stops, due_codes, 
 use Rattle.bp_rows.specs.Changes.{place_at, odd, Shows, Rises}
 use Rattle.std.specs.Int.{from_bool}
 use Rattle.std.proofs.lemmas.Bool.{cond-false}
-use Rattle.bp_t6.specs.Coding.{IsNextFrom}
+use Rattle.bp_t6.specs.Coding.{IsNextFrom, Stepped}
 use Rattle.bp_t6.specs.Turns.{Turns}
 use Rattle.bp_t6.specs.declared.near_reader.Near.{Near}
 use Rattle.bp_t6.specs.Near.{BeginsNear, near_mode}
+use Rattle.bp_t6.specs.Canonical.{AreCanonicalRuns, IsCanonical, AreCanonical}
 use Rattle.bp_t6.specs.Reading.{place_under, IsUnder, Steps, ModeReads, ModeStops, VerticalStops, RowIsRead, RowStops, ModesRead}
-use Rattle.bp_t6.proofs.PlaceLemmas.{b1_is, after_is, from_back, from_same, Stepped}
+use Rattle.bp_t6.proofs.PlaceLemmas.{b1_is, after_is, from_back, from_same}
 use Rattle.bp_t6.proofs.LookLemmas.{row_found, row_length}
 use Rattle.bp_rows.proofs.ShownLemmas.{shows_white}
 use Rattle.bp_t6.proofs.TurnLemmas.{shows_more, turn_shows, turn_turns, turn_colour}
@@ -39,10 +40,10 @@ pub turns_grown : (ts : List ℕ) (n to : ℕ) → Turns ts n → n ≤ to → T
 turns_grown ts n to turns more = record { strict = turns.strict; until = λ k h. omega (arith, turns.until k h) }
 
 module _ (above : List ℕ) (width : ℕ) (over : List Bool) (u : Under) (shows_over : Shows above width over) (next : IsNextFrom above width u.from u.right u.black) where
-  b1-there : b1 over (place_under u) ≡ place_at above width u.from
+  pub b1-there : b1 over (place_under u) ≡ place_at above width u.from
   b1-there = b1_is above width over (place_under u) u.from shows_over next
 
-  b2-there : b2 over (place_under u) ≡ place_at above width (u.from + 1)
+  pub b2-there : b2 over (place_under u) ≡ place_at above width (u.from + 1)
   b2-there = after_is above width over u.from (b1 over (place_under u)) shows_over b1-there
 
   pub vertical_right : (n : ℕ) → (after over (place_under u) (Vertical n)).right ≡ place_at above width u.from + 1 + n - 3
@@ -50,22 +51,26 @@ module _ (above : List ℕ) (width : ℕ) (over : List Bool) (u : Under) (shows_
 
   pub vertical_steps : (ts new : List ℕ) (v : Under) (n : ℕ) (px : List Bool) → n ≤ 6 → Turns ts (u.right - 1) → odd (length ts) ≡ u.black → Shows ts (u.right - 1) px
       → v.right ≡ place_at above width u.from + 1 + n - 3 → v.black ≡ not u.black → u.right < v.right → v.right ≤ width + 1
-      → ((pixels : List Bool) → Shows ts (v.right - 1) pixels → Shows new (v.right - 1) pixels) → Steps over px new u v (Vertical n)
-  vertical_steps ts new v n px small turns colour shows right black more within turned =
+      → ((pixels : List Bool) → Shows ts (v.right - 1) pixels → Shows new (v.right - 1) pixels)
+      → (v.canonical ≡ true → (u.canonical ≡ true) × (place_at above width u.from + n ≤ place_at above width (u.from + 1) + 3)) → Steps over px new u v (Vertical n)
+  vertical_steps ts new v n px small turns colour shows right black more within turned fine =
       let there = vertical_right n in
       record {
         moves = record { coded = small; onward = omega arith; within = omega (arith, shows_over.long) };
         there = same_place (b1 over (place_under u) + 1 + n - 3) v.right (not u.black) v.black (there ∙ sym right) (sym black);
         shows = turned (px ++ replicate (v.right - 1 - (u.right - 1)) u.black) (grown ts (u.right - 1) (v.right - 1) px u.black turns shows colour (omega arith));
+        chosen = λ e. (let f = fine e in (f.0, omega (arith, f.1, b1-there, b2-there)));
       }
 
   pub pass_steps : (ts : List ℕ) (v : Under) (px : List Bool) → Turns ts (u.right - 1) → odd (length ts) ≡ u.black → Shows ts (u.right - 1) px
-      → v.right ≡ place_at above width (u.from + 1) + 1 → v.black ≡ u.black → u.right < v.right → v.right ≤ width + 1 → Steps over px ts u v Pass
-  pass_steps ts v px turns colour shows right black more within =
+      → v.right ≡ place_at above width (u.from + 1) + 1 → v.black ≡ u.black → u.right < v.right → v.right ≤ width + 1
+      → (v.canonical ≡ true → (u.canonical ≡ true) × (v.right ≤ width)) → Steps over px ts u v Pass
+  pass_steps ts v px turns colour shows right black more within fine =
       record {
         moves = record { coded = tt; onward = omega (arith, b2-there); within = omega (arith, b2-there, shows_over.long) };
         there = same_place (b2 over (place_under u) + 1) v.right u.black v.black (ap (λ k. k + 1) b2-there ∙ sym right) (sym black);
         shows = grown ts (u.right - 1) (v.right - 1) px u.black turns shows colour (omega arith);
+        chosen = λ e. (let f = fine e in (f.0, omega (arith, f.1, right, b2-there, shows_over.long)));
       }
 
 module _ (bits : List Bool) (width : ℕ) (above : List ℕ) (u : Under) where
@@ -73,8 +78,9 @@ module _ (bits : List Bool) (width : ℕ) (above : List ℕ) (u : Under) where
       → Turns ts (u.right - 1) → odd (length ts) ≡ u.black → Shows ts (u.right - 1) px
       → middle ≡ u.right - 1 + m → v.right ≡ middle + n + 1 → v.black ≡ u.black → u.right < v.right → v.right ≤ width + 1
       → Turns mid middle → odd (length mid) ≡ not (odd (length ts)) → ((pixels : List Bool) → Shows ts middle pixels → Shows mid middle pixels)
-      → ((pixels : List Bool) → Shows mid (v.right - 1) pixels → Shows new (v.right - 1) pixels) → Steps over px new u v (Horizontal p q)
-  horizontal_steps over px ts mid new v p q m n middle shows_over has_p has_q is_m is_n turns colour shows first second black more within turns_mid colour_mid turned_mid turned =
+      → ((pixels : List Bool) → Shows mid (v.right - 1) pixels → Shows new (v.right - 1) pixels)
+      → (v.canonical ≡ true → (u.canonical ≡ true) × AreCanonicalRuns over (place_under u) p q) → Steps over px new u v (Horizontal p q)
+  horizontal_steps over px ts mid new v p q m n middle shows_over has_p has_q is_m is_n turns colour shows first second black more within turns_mid colour_mid turned_mid turned fine =
       let c = u.black in
       let one : middle - (u.right - 1) ≡ m = omega arith in
       let two : v.right - 1 - middle ≡ n = omega arith in
@@ -89,6 +95,7 @@ module _ (bits : List Bool) (width : ℕ) (above : List ℕ) (u : Under) where
         moves = record { coded = (has_p, has_q); onward = omega arith; within = omega (arith, shows_over.long) };
         there = same_place (u.right - 1 + (pixels_of p + pixels_of q) + 1) v.right c v.black (omega arith) (sym black);
         shows = subst (λ (ps : List Bool). Shows new (v.right - 1) ps) same whole;
+        chosen = fine;
       }
 
   pub horizontal_bits : (p q : Run) (at middle end : ℕ) → drop u.at bits ≡ code mode_codes 1 ++ drop at bits → drop at bits ≡ run_bits u.black p ++ drop middle bits → drop middle bits ≡ run_bits (not u.black) q ++ drop end bits → drop u.at bits ≡ mode_bits u.black (Horizontal p q) ++ drop end bits
@@ -202,6 +209,10 @@ all_more : (over : List Bool) (place : Place) (ms : List Mode) (m : Mode) → Al
 all_more over place [] m all here = (here, tt)
 all_more over place (k ∷ ms) m all here = (all.0, all_more over (after over place k) ms m all.1 here)
 
+chosen_more : (over : List Bool) (place : Place) (ms : List Mode) (m : Mode) → AreCanonical over place ms → IsCanonical over (end_of over place ms) m → AreCanonical over place (ms ++ m ∷ [])
+chosen_more over place [] m all here = (here, tt)
+chosen_more over place (k ∷ ms) m all here = (all.0, chosen_more over (after over place k) ms m all.1 here)
+
 codes_more : (over : List Bool) (place : Place) (ms : List Mode) (m : Mode) → codes_of over place (ms ++ m ∷ []) ≡ codes_of over place ms ++ mode_bits (end_of over place ms).black m
 codes_more over place [] m = append-nil (mode_bits place.black m)
 codes_more over place (k ∷ ms) m =
@@ -225,6 +236,7 @@ none_read over bits first line u none right black here = record {
   reads = ap (λ k. drop k bits) (sym here);
   there = same_place 0 u.right false u.black (sym right) (sym black);
   shows = (let zero : 0 ≡ u.right - 1 = omega arith in subst (λ (ts : List ℕ). Shows ts (u.right - 1) []) (sym none) (subst (λ (n : ℕ). Shows [] n []) zero (shows_white 0)));
+  chosen = λ e. tt;
 }
 
 pub mode_more : (over bits : List Bool) (first width : ℕ) (above old new : List ℕ) (u v : Under) → Shows above width over → ModesRead over bits first old u → ModeReads bits width above old new u v → ModesRead over bits first new v
@@ -243,6 +255,7 @@ mode_more over bits first width above old new u v shows_over so more =
       there = end_more over start so.modes m ∙ ap (λ q. after over q m) so.there ∙ step.there;
       shows = subst (λ (ps : List Bool). Shows new (v.right - 1) ps)
           (sym (pixels_more over start so.modes m ∙ ap (λ q. pixels over start so.modes ++ painted q (after over q m) m) so.there ∙ ap (λ q. pixels over start so.modes ++ painted p q m) step.there)) step.shows;
+      chosen = λ e. (let f = step.chosen e in chosen_more over start so.modes m (so.chosen f.0) (subst (λ (q : Place). IsCanonical over q m) (sym so.there) f.1));
     }
 
 pub row_end : (over bits : List Bool) (first width : ℕ) (above line : List ℕ) (u : Under) → Shows above width over → ModesRead over bits first line u → u.right ≡ width + 1 → RowIsRead over bits first u.at width line
@@ -363,18 +376,27 @@ near_under false above old new width change u v rises so onward on is some same 
 pub near_steps : (stays : Bool) (above old new : List ℕ) (width change shift add : ℕ) (over px : List Bool) (u v : Under) → Shows above width over → Shows old (u.right - 1) px → IsUnder above old width u → u.right ≤ width
     → nat_eq shift 7 ≡ stays → shift ≤ 7 → (stays ≡ true → shift ≡ 7) → (stays ≡ false → shift ≤ 6) → (stays ≡ true → add ≡ 3) → (stays ≡ false → add ≡ shift) → change ≡ u.from + from_bool stays → v.right ≡ place_at above width change + add - 2
     → (stays ≡ true → new ≡ old) → (stays ≡ false → new ≡ old ++ (v.right - 1) ∷ []) → (stays ≡ true → v.black ≡ u.black) → (stays ≡ false → v.black ≡ not u.black)
-    → u.right < v.right → v.right ≤ width → Steps over px new u v (near_mode shift)
-near_steps true above old new width change shift add over px u v shows_over shows so on e small seven six three own is right same put kept turned less within =
+    → u.right < v.right → v.right ≤ width → v.canonical ≡ u.canonical → (u.canonical ≡ true → v.right ≤ place_at above width (change + 1)) → Steps over px new u v (near_mode shift)
+near_steps true above old new width change shift add over px u v shows_over shows so on e small seven six three own is right same put kept turned less within wanted short =
     let place : change ≡ u.from + 1 = is in
     subst (λ (ts : List ℕ). Steps over px ts u v (near_mode shift)) (sym (same refl))
     (subst (λ (n : ℕ). Steps over px old u v (near_mode n)) (sym (seven refl))
-    (pass_steps above width over u shows_over (so.from on) old v px so.turns so.colour shows (omega (arith, right, ap (place_at above width) place, three refl)) (kept refl) less (omega arith)))
-near_steps false above old new width change shift add over px u v shows_over shows so on e small seven six three own is right same put kept turned less within =
+    (pass_steps above width over u shows_over (so.from on) old v px so.turns so.colour shows (omega (arith, right, ap (place_at above width) place, three refl)) (kept refl) less (omega arith)
+    (λ f. (sym wanted ∙ f, within))))
+near_steps false above old new width change shift add over px u v shows_over shows so on e small seven six three own is right same put kept turned less within wanted short =
     let place : change ≡ u.from = omega arith in
     let mode : near_mode shift ≡ Vertical shift = cond-false (nat_eq shift 7) Pass (Vertical shift) e in
     subst (λ (m : Mode). Steps over px new u v m) (sym mode)
     (vertical_steps above width over u shows_over (so.from on) old new v shift px (six refl) so.turns so.colour shows (omega (arith, right, ap (place_at above width) place, own refl)) (turned refl) less (omega arith)
-    (λ ps h. subst (λ (ts : List ℕ). Shows ts (v.right - 1) ps) (sym (put refl)) (turn_shows old (v.right - 1) ps h)))
+    (λ ps h. subst (λ (ts : List ℕ). Shows ts (v.right - 1) ps) (sym (put refl)) (turn_shows old (v.right - 1) ps h))
+    (λ f. (let own_is = sym wanted ∙ f in let next : change + 1 ≡ u.from + 1 = omega arith in
+    (own_is, omega (arith, short own_is, ap (place_at above width) next, right, ap (place_at above width) place, own refl, less)))))
+
+-- what is not refused where it is wanted
+pub not_refused : (wanted is : Bool) → (wanted && not is) ≡ false → wanted ≡ true → is ≡ true
+not_refused true true e f = refl
+not_refused true false e f = cc
+not_refused false is e f = cc
 
 -- a number that stands for a truth value
 pub at_most_one : (b : Bool) (n : ℕ) → n ≡ from_bool b → n ≤ 1

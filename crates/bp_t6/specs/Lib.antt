@@ -1,3 +1,4 @@
+pub mod Canonical
 pub mod Coding
 pub mod Faults
 pub mod Gathered

@@ -1,5 +1,5 @@
 -- The parts of reading.
-use Rattle.std.specs.Prelude.{ℕ, ◌+◌, ◌-◌, ◌<◌, ◌≤◌, ◌≡◌, Bool, List, [], ◌∷◌, ◌++◌, length, drop, if◌then◌else◌, ◌⊎◌}
+use Rattle.std.specs.Prelude.{ℕ, ◌+◌, ◌-◌, ◌<◌, ◌≤◌, ◌≡◌, Bool, true, List, [], ◌∷◌, ◌++◌, length, drop, if◌then◌else◌, ◌⊎◌}
 use Rattle.bp_core.specs.declared.rules.RuleKind.TheVariants.{T6BadPlace}
 use Rattle.bp_codes.specs.NextCode.{same_bit}
 use Rattle.bp_t6.specs.declared.missing.Front.{Front}
@@ -10,17 +10,21 @@ use Rattle.bp_t6.specs.declared.reading.Stop.TheVariants.{Fault, OutOfMemory}
 use Rattle.bp_t6.specs.declared.run_reader.ReadFault.{ReadFault}
 use Rattle.bp_t6.specs.Places.{Place, start}
 use Rattle.bp_t6.specs.Modes.{Run, Mode, Vertical, HasCodes, pixels_of, run_bits, mode_bits, after, painted, codes_of, end_of, pixels, Moves, AllMove}
+use Rattle.bp_t6.specs.Written.{run_of}
+use Rattle.bp_t6.specs.Canonical.{IsCanonical, AreCanonical}
 use Rattle.bp_t6.specs.Read.{RowReads}
 use Rattle.bp_t6.specs.Faults.{ModeFault, RowFault}
 use Rattle.bp_rows.specs.Changes.{Shows, odd}
 use Rattle.bp_t6.specs.Coding.{IsNextFrom}
 use Rattle.bp_t6.specs.Turns.{Turns}
 
--- the bits begin with the codes of a run of so many pixels
-pub record RunReads (black : Bool) (bits : List Bool) (n : ℕ) (rest : List Bool) : Type 0 where
+-- the bits begin with the codes of a run of so many pixels, which may be those that the coder puts
+pub record RunReads (black : Bool) (bits : List Bool) (n : ℕ) (canonical : Bool) (rest : List Bool) :
+    Type 0 where
   pub run : Run
   pub has : HasCodes run
   pub size : pixels_of run ≡ n
+  pub chosen : canonical ≡ true → run ≡ run_of n
   pub codes : bits ≡ run_bits black run ++ rest
 
 -- how a code stands at the front of bits
@@ -45,11 +49,13 @@ pub record IsUnder (above line : List ℕ) (width : ℕ) (u : Under) : Type 0 wh
   pub colour : odd (length line) ≡ u.black
   pub from : u.right ≤ width → IsNextFrom above width u.from u.right u.black
 
--- a mode leads from one place to another, and the list shows what it paints after the pixels so far
+-- a mode leads from one place to another, and the list shows what it paints after the pixels so far;
+-- where all modes up to there are the coder's, it is one of them
 pub record Steps (over px : List Bool) (new : List ℕ) (u v : Under) (mode : Mode) : Type 0 where
   pub moves : Moves over (place_under u) mode
   pub there : after over (place_under u) mode ≡ place_under v
   pub shows : Shows new (v.right - 1) (px ++ painted (place_under u) (place_under v) mode)
+  pub chosen : v.canonical ≡ true → (u.canonical ≡ true) × IsCanonical over (place_under u) mode
 
 -- a mode stands between the two bits, and leads from one place to the other
 pub record ModeRead (bits over px : List Bool) (new : List ℕ) (u v : Under) : Type 0 where
@@ -88,6 +94,7 @@ pub record ModesRead (over bits : List Bool) (first : ℕ) (line : List ℕ) (u 
   pub reads : drop first bits ≡ codes_of over start modes ++ drop u.at bits
   pub there : end_of over start modes ≡ place_under u
   pub shows : Shows line (u.right - 1) (pixels over start modes)
+  pub chosen : u.canonical ≡ true → AreCanonical over start modes
 
 -- a row is read from one bit to another, and the list shows it
 pub record RowIsRead (over bits : List Bool) (start next width : ℕ) (line : List ℕ) : Type 0 where

@@ -8,6 +8,9 @@ pub const MAKE_UP_STEP: u32 = 64;
 /// 2560 (ITU-T T.6, table 3).
 pub const MAKE_UPS: u32 = 40;
 
+/// The run of the longest make-up code, in pixels.
+pub const LONGEST_MAKE_UP: u32 = MAKE_UP_STEP * MAKE_UPS;
+
 /// How far a1 may stand from b1 in vertical mode, in pixels (ITU-T T.6, 2.2.3.2).
 pub const VERTICAL_REACH: u32 = 3;
 

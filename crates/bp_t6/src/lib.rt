@@ -11,6 +11,8 @@
 
 mod bit_copy;
 mod bit_writer;
+mod canonical;
+mod canonical_strip;
 pub mod laws;
 mod lengths;
 mod line_reader;
@@ -36,6 +38,7 @@ mod strip_writer;
 mod tables;
 mod turns;
 
+pub use canonical_strip::is_canonical;
 pub use page::code_page;
 pub use page_rows::PageRows;
 pub use row_code::RowCode;

@@ -10,6 +10,7 @@ ghost use Rattle.bp_t6.specs.Coding.{IsNextFrom};
 ghost use Rattle.bp_t6.specs.Faults.{due_codes, mode_fault};
 ghost use Rattle.bp_t6.specs.Reading.{IsUnder, Steps, ModeReads, ModeStops, VerticalStops};
 
+use crate::canonical::are_canonical;
 use crate::lengths::VERTICAL_REACH;
 use crate::missing::missing_kind;
 use crate::reading::Under;
@@ -85,12 +86,13 @@ fn look_up_mode(tables: &CodeTables, span: &BitSpan, at: u64) -> Result<ModeCode
 
 // A row goes on at another place, in the colour that it has.
 #[inline(always)]
-fn go_on(above: &[u32], width: u32, under: Under, right: u32, at: u64) -> Under
+fn go_on(above: &[u32], width: u32, under: Under, right: u32, at: u64, canonical: bool) -> Under
     requires more { under.right ≤ right }
     requires from { IsNextFrom above.now width under.from under.right under.black }
     ensures right { result.right ≡ right }
     ensures black { result.black ≡ under.black }
     ensures at { result.at ≡ at }
+    ensures canonical { result.canonical ≡ canonical }
     ensures from { right ≤ width → IsNextFrom above.now width result.from right under.black }
 {
     Under {
@@ -98,18 +100,20 @@ fn go_on(above: &[u32], width: u32, under: Under, right: u32, at: u64) -> Under
         black: under.black,
         from: next_from(above, under.from, right, width),
         at,
+        canonical,
     }
 }
 
 // A row goes on at another place, in the other colour.
 #[inline(always)]
-fn go_over(above: &[u32], width: u32, under: Under, right: u32, at: u64) -> Under
+fn go_over(above: &[u32], width: u32, under: Under, right: u32, at: u64, canonical: bool) -> Under
     requires above { Rises above.now width }
     requires more { under.right ≤ right }
     requires from { IsNextFrom above.now width under.from under.right under.black }
     ensures right { result.right ≡ right }
     ensures black { result.black ≡ not under.black }
     ensures at { result.at ≡ at }
+    ensures canonical { result.canonical ≡ canonical }
     ensures from { right ≤ width → IsNextFrom above.now width result.from right (not under.black) }
 {
     let back = if under.from > 0 { under.from - 1 } else { 1 };
@@ -118,6 +122,7 @@ fn go_over(above: &[u32], width: u32, under: Under, right: u32, at: u64) -> Unde
         black: !under.black,
         from: next_near(above, back, right, width),
         at,
+        canonical,
     }
 }
 
@@ -169,7 +174,9 @@ fn read_vertical(
         });
     }
     turn(line, right - 1);
-    Ok(go_over(above, width, under, right, at))
+    let b2 = place_in(above, under.from + 1, width);
+    let canonical = under.canonical & (right <= b2 + 1);
+    Ok(go_over(above, width, under, right, at, canonical))
 }
 
 // A horizontal mode, whose first run begins at a bit.
@@ -231,7 +238,8 @@ fn read_horizontal(
     }
     turn(line, middle);
     turn(line, end);
-    Ok(go_on(above, width, under, end + 1, second.next))
+    let canonical = under.canonical & are_canonical(above, width, under, first, second);
+    Ok(go_on(above, width, under, end + 1, second.next, canonical))
 }
 
 /// The next mode of a row, in a line that has room for its turns. It takes no memory.
@@ -267,7 +275,8 @@ pub fn read_mode(
     };
     if row == 0 {
         let right = place_in(above, under.from + 1, width) + 1;
-        return Ok(go_on(above, width, under, right, next));
+        let canonical = under.canonical & (right <= width);
+        return Ok(go_on(above, width, under, right, next, canonical));
     }
     if row == 1 {
         return read_horizontal(tables, span, ahead, width, above, under, next, line);

@@ -1,13 +1,14 @@
 // Modes near b1 read.
-ghost use Rattle.std.specs.Prelude.{◌≡◌, ◌<◌, ◌≤◌, ◌+◌, ◌-◌, ◌*◌, ◌^◌, ℕ, Bool, List, IfSome, None, true, false, [], ◌∷◌, ◌++◌, vec_len, vec_capacity, not};
-ghost use Rattle.bp_rows.specs.Changes.{Shows, Rises};
+ghost use Rattle.std.specs.Prelude.{◌≡◌, ◌<◌, ◌≤◌, ◌+◌, ◌-◌, ◌*◌, ◌^◌, ℕ, Bool, List, IfSome, None, true, false, [], ◌∷◌, ◌++◌, length, vec_len, vec_capacity, not};
+ghost use Rattle.bp_rows.specs.Changes.{place_at, Shows, Rises};
+ghost use Rattle.bp_t6.specs.Coding.{Stepped};
 ghost use Rattle.bp_t6.specs.Near.{Holds, BeginsNear, near_mode};
 ghost use Rattle.bp_t6.specs.Reading.{IsUnder, Steps};
 
 use crate::lengths::VERTICAL_REACH;
 use crate::near_index::NEAR_INDEX;
 use crate::reading::Under;
-use crate::row::next_near_two;
+use crate::row::{next_near_one, next_near_two};
 use bp_rows::MAX_WIDTH;
 
 /// A mode near b1: vertical with a1 at b1 + shift - 3, or pass, whose shift is 7. `len` is the length
@@ -64,9 +65,36 @@ fn colour_unless(black: bool, stays: bool) -> bool
     black == stays
 }
 
+// The position of the next b1 after a mode that starts from a change with one on each side, where it
+// stays left of the width. Where only the coder's modes are wanted, a1 is to be left of b2: then one
+// step is enough.
+#[inline(always)]
+fn next_b1(above: &[u32], width: u32, change: usize, right: u32, canonical: bool) -> Option<usize>
+    requires rises { Rises above.now width }
+    requires some { 0 < change }
+    requires within { change + 1 < length above.now }
+    ensures on { IfSome result (λ _. right ≤ width) }
+    ensures left { canonical ≡ true
+        → IfSome result (λ _. right ≤ place_at above.now width (change + 1)) }
+    ensures step { IfSome result (λ from. Stepped above.now width (change - 1) from right) }
+{
+    let start = change - 1;
+    if canonical {
+        if above[change + 1] < right {
+            return None;
+        }
+        return Some(next_near_one(above, start, right, width));
+    }
+    if width < right {
+        return None;
+    }
+    Some(next_near_two(above, start, right, width))
+}
+
 /// A mode near b1, where it leads right and stays left of the width, the change that it starts from has
 /// one on each side, and the list has room; else nothing is done. So no push lacks memory, and no turn is
-/// taken back. Pass mode ends where a vertical mode of shift 3 from b2 would, in the same colour.
+/// taken back. Pass mode ends where a vertical mode of shift 3 from b2 would, in the same colour. Where
+/// only the coder's modes are wanted, a1 is left of b2, too.
 #[inline(always)]
 pub fn read_near(
     width: u32,
@@ -99,15 +127,20 @@ pub fn read_near(
         return None;
     }
     let past = above[change] + shift;
-    if past <= under.right + PAST || width + PAST < past {
+    if past <= under.right + PAST {
         return None;
     }
     let right = past - PAST;
+    let from = match next_b1(above, width, change, right, under.canonical) {
+        Some(from) => from,
+        None => return None,
+    };
     turn_unless(line, right - 1, is_pass);
     Some(Under {
         right,
         black: colour_unless(under.black, is_pass),
-        from: next_near_two(above, change - 1, right, width),
+        from,
         at: under.at + near.len,
+        canonical: under.canonical,
     })
 }

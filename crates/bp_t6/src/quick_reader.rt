@@ -5,6 +5,7 @@ ghost use Rattle.bp_codes.specs.Span.{span_bits};
 ghost use Rattle.bp_rows.specs.Changes.{Shows, Rises};
 ghost use Rattle.bp_t6.specs.Reading.{IsUnder, ModeReads, ModesRead};
 
+use crate::canonical::are_canonical;
 use crate::near_reader::{near_ahead, read_near};
 use crate::reading::Under;
 use crate::row::next_likely;
@@ -80,6 +81,10 @@ fn read_short_horizontal(
     if line.len() + 1 >= line.capacity() || second.next - under.at > RUN_BITS {
         return None;
     }
+    let is_refused = under.canonical & !are_canonical(above, width, under, first, second);
+    if is_refused {
+        return None;
+    }
     line.push_reserved(middle);
     line.push_reserved(end);
     Some(Under {
@@ -87,6 +92,7 @@ fn read_short_horizontal(
         black: under.black,
         from: next_likely(above, under.from, end + 1, width),
         at: second.next,
+        canonical: under.canonical,
     })
 }
 

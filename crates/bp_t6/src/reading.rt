@@ -4,13 +4,15 @@ use std::alloc::AllocError;
 use std::convert::From;
 
 /// Where a row under way stands: the first place right of a0, whether a0 is black, the position of
-/// b1 among the changes of the row above, and the bit of the next code.
+/// b1 among the changes of the row above, the bit of the next code, and whether each mode so far is the
+/// one that the coder chooses.
 #[derive(Clone, Copy)]
 pub struct Under {
     pub right: u32,
     pub black: bool,
     pub from: usize,
     pub at: u64,
+    pub canonical: bool,
 }
 
 /// Why reading stops.

@@ -6,17 +6,19 @@ ghost use Rattle.bp_t6.specs.Modes.{run_codes};
 ghost use Rattle.bp_t6.specs.Reading.{RunReads};
 ghost use Rattle.bp_t6.specs.Faults.{RunFault, row_pixels};
 
-use crate::lengths::{BEFORE_MAKE_UPS, MAKE_UP_STEP, TERMINATING_CODES};
+use crate::lengths::{BEFORE_MAKE_UPS, LONGEST_MAKE_UP, MAKE_UP_STEP, TERMINATING_CODES};
 use crate::tables::CodeTables;
 use bp_codes::{BitSpan, Found, NoCode, black_ahead, white_ahead};
 use bp_core::RuleKind;
 use bp_rows::MAX_WIDTH;
 
-/// How many pixels a run has, and the bit after its codes.
+/// How many pixels a run has, the bit after its codes, and whether they are the codes that the coder
+/// puts for it.
 #[derive(Clone, Copy)]
 pub struct RunRead {
     pub pixels: u32,
     pub next: u64,
+    pub canonical: bool,
 }
 
 /// The rule that is broken, and the bit.
@@ -46,7 +48,7 @@ pub fn read_run(
     requires place { start ≤ length (span_bits span.now) }
     requires small { room ≤ MAX_WIDTH }
     ensures found { let bits = span_bits span.now in
-        IfOk result (λ r. RunReads black (drop start bits) r.pixels (drop r.next bits)) }
+        IfOk result (λ r. RunReads black (drop start bits) r.pixels r.canonical (drop r.next bits)) }
     ensures room { IfOk result (λ r. r.pixels ≤ room) }
     ensures next { IfOk result (λ r. r.next ≤ length (span_bits span.now)) }
     ensures after { IfOk result (λ r. start ≤ r.next) }
@@ -72,7 +74,7 @@ pub fn run_ahead(span: &BitSpan, word: u64, from: u64, start: u64, black: bool) 
     requires from { from ≤ start }
     requires place { start ≤ length (span_bits span.now) }
     ensures found { let bits = span_bits span.now in
-        IfSome result (λ r. RunReads black (drop start bits) r.pixels (drop r.next bits)) }
+        IfSome result (λ r. RunReads black (drop start bits) r.pixels r.canonical (drop r.next bits)) }
     ensures short { IfSome result (λ r. r.pixels < MAKE_UP_STEP) }
     ensures next { IfSome result (λ r. r.next ≤ length (span_bits span.now)) }
     ensures after { IfSome result (λ r. start ≤ r.next) }
@@ -90,6 +92,7 @@ pub fn run_ahead(span: &BitSpan, word: u64, from: u64, start: u64, black: bool) 
     Some(RunRead {
         pixels: code.row as u32,
         next: start + code.len,
+        canonical: true,
     })
 }
 
@@ -119,7 +122,7 @@ fn look_up_run(
     requires place { start ≤ length (span_bits span.now) }
     requires small { room ≤ MAX_WIDTH }
     ensures found { let bits = span_bits span.now in
-        IfOk result (λ r. RunReads black (drop start bits) r.pixels (drop r.next bits)) }
+        IfOk result (λ r. RunReads black (drop start bits) r.pixels r.canonical (drop r.next bits)) }
     ensures room { IfOk result (λ r. r.pixels ≤ room) }
     ensures next { IfOk result (λ r. r.next ≤ length (span_bits span.now)) }
     ensures after { IfOk result (λ r. start ≤ r.next) }
@@ -130,6 +133,7 @@ fn look_up_run(
     let codes = tables.run_table(black);
     let mut pixels = 0u32;
     let mut at = start;
+    let mut canonical = true;
     'codes: loop {
         let row = match codes.next_code(span, at) {
             Ok(row) => row,
@@ -153,11 +157,17 @@ fn look_up_run(
                 bit: at,
             });
         }
+        let is_longest = pixels % LONGEST_MAKE_UP == 0;
         pixels += more;
         at += u64::from(codes.code_of(row).len);
         if row < TERMINATING_CODES {
-            return Ok(RunRead { pixels, next: at });
+            return Ok(RunRead {
+                pixels,
+                next: at,
+                canonical,
+            });
         }
+        canonical &= is_longest;
     }
 }
 

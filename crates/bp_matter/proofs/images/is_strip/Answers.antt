@@ -2,7 +2,7 @@ use Rattle.std.proofs.Common.{ap, sym, ◌∙◌, subst, arith}
 use Rattle.std.specs.Prelude.{is_some}
 use Rattle.bp_matter.specs.Images.{CodedAgain}
 use Rattle.bp_matter.proofs.ImageLemmas.{not_read, too_long}
-use Rattle.bp_matter.proofs.KeptLemmas.{checked, refused_sides}
+use Rattle.bp_matter.proofs.KeptLemmas.{canonical_found, checked, refused_sides}
 use Rattle.bp_matter.proofs.images.is_strip.Goals as goal
 
 pub returns-then-not-allowed_sides : goal.returns-then-not-allowed_sides
@@ -12,6 +12,10 @@ returns-then-not-allowed_sides c =
 pub returns-then-bytes-gt4294967295 : goal.returns-then-bytes-gt4294967295
 returns-then-bytes-gt4294967295 c =
     sym (ap is_some (too_long c.strip_size.ensures.fits c.args.width c.args.height c.args.bytes.now (omega arith)))
+
+pub returns-then-is_known : goal.returns-then-is_known
+returns-then-is_known c =
+    sym (canonical_found c.strip_law.ensures c.args.width c.args.height c.args.bytes.now (sym c.allowed_sides.ensures ∙ c.if-not-allowed_sides.false) (c.in_ok-is_known.ensures c.if-is_known.true))
 
 pub returns-in-None : goal.returns-in-None
 returns-in-None c =

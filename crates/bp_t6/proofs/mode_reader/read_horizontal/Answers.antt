@@ -1,5 +1,6 @@
 use Rattle.std.proofs.Common.{◌≡◌, ◌-◌, ◌+◌, ◌++◌, ℕ, drop, refl, sym, ap, ◌∙◌, arith, subst}
 use Rattle.bp_codes.specs.Span.{span_bits}
+use Rattle.std.proofs.lemmas.Bool.{and_parts}
 use Rattle.bp_t6.specs.Modes.{Horizontal, mode_bits}
 use Rattle.bp_rows.specs.Changes.{Shows}
 use Rattle.bp_t6.proofs.StepLemmas.{horizontal_steps, horizontal_bits, first_stops, second_stops, horizontal_stops}
@@ -41,7 +42,9 @@ returns-clause-read c = λ over px shows_over shows.
           c.requires.under.turns c.requires.under.colour shows (omega (arith, c.saturating_sub-from.ensures)) place black
           (omega (arith, place, c.if-end-under.false)) (omega (arith, place, c.in-Ok.ensures.room, c.in-Ok-read_run.ensures.room, c.saturating_sub-from.ensures, c.requires.on))
           one.turns one.colour one.shows
-          (λ ps h. subst (λ (k : ℕ). Shows c.turn-2.new.line.items k ps) (sym last) (two.shows ps (subst (λ (k : ℕ). Shows c.turn.new.line.items k ps) last h)));
+          (λ ps h. subst (λ (k : ℕ). Shows c.turn-2.new.line.items k ps) (sym last) (two.shows ps (subst (λ (k : ℕ). Shows c.turn.new.line.items k ps) last h)))
+          (λ e. (let both = and_parts u.canonical c.are_canonical.result (sym c.go_on.ensures.canonical ∙ e) in
+          (both.0, c.are_canonical.ensures over p.run q.run shows_over p.size p.chosen q.size q.chosen both.1)));
     }
 
 pub read_run-requires-2-clause-from : goal.read_run-requires-2-clause-from

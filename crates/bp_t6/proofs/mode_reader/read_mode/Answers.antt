@@ -1,8 +1,9 @@
-use Rattle.std.proofs.Common.{◌+◌, ◌++◌, length, drop, sym, ap, ◌∙◌, arith}
+use Rattle.std.proofs.Common.{◌+◌, ◌++◌, nat_le, length, drop, sym, ap, ◌∙◌, arith}
 use Rattle.bp_codes.specs.Span.{span_bits}
 use Rattle.bp_codes.specs.CodeLists.{mode_codes}
 use Rattle.bp_t6.specs.Modes.{code, Pass}
 use Rattle.bp_rows.proofs.ShownLemmas.{up}
+use Rattle.std.proofs.lemmas.Bool.{and_parts, leb-true}
 use Rattle.bp_t6.proofs.PlaceLemmas.{from_small}
 use Rattle.bp_t6.proofs.StepLemmas.{of_fault, vertical_stops, vertical_reads, pass_steps, mode_ends, mode_inside, three_bits, missing_stops, at_most}
 use Rattle.bp_t6.proofs.mode_reader.read_mode.Goals as goal
@@ -28,7 +29,9 @@ returns-then-row-eq0-clause-read c = λ over px shows_over shows.
       mode = Pass;
       codes = mode_ends bits u.at row c.in-Ok.mode.next c.in-Ok.ensures.found c.in-Ok.ensures.next ∙ ap (λ r. code mode_codes r ++ drop c.in-Ok.mode.next bits) c.if-row-eq0.true ∙ ap (λ k. code mode_codes 0 ++ drop k bits) (sym c.go_on.ensures.at);
       steps = pass_steps c.args.above.now c.args.width over u shows_over next c.args.line.now.items c.go_on.result px c.requires.under.turns c.requires.under.colour shows place c.go_on.ensures.black
-          (omega (arith, place, next.ahead, up c.args.above.now c.args.width u.from c.requires.above)) (omega (arith, place, c.requires.above.within (u.from + 1)));
+          (omega (arith, place, next.ahead, up c.args.above.now c.args.width u.from c.requires.above)) (omega (arith, place, c.requires.above.within (u.from + 1)))
+          (λ e. (let right = c.place_in-right.result + 1 in let both = and_parts u.canonical (nat_le right c.args.width) (sym c.go_on.ensures.canonical ∙ e) in
+          (both.0, omega (arith, leb-true right c.args.width both.1, c.go_on.ensures.right))));
     }
 
 pub read_horizontal-requires-clause-place : goal.read_horizontal-requires-clause-place

@@ -1,5 +1,7 @@
-use Rattle.std.proofs.Common.{◌≡◌, ◌-◌, refl, sym, arith, inl, inr, ℕ, subst}
+use Rattle.std.proofs.Common.{◌≡◌, ◌+◌, ◌-◌, ◌∙◌, nat_le, refl, sym, arith, inl, inr, ℕ, subst}
 use Rattle.bp_rows.specs.Changes.{Shows}
+use Rattle.std.proofs.lemmas.Bool.{and_parts, leb-true}
+use Rattle.bp_t6.proofs.PlaceLemmas.{from_small}
 use Rattle.bp_t6.proofs.StepLemmas.{vertical_right, vertical_steps}
 use Rattle.bp_t6.proofs.mode_reader.read_vertical.Goals as goal
 use Rattle.bp_t6.proofs.mode_reader.read_vertical.Goals.{then-right-under-via-then-right-under, then-right-under-via-else-right-under+then-width-right}
@@ -26,3 +28,11 @@ returns-clause-steps c = λ over px shows_over shows.
     c.requires.under.turns c.requires.under.colour shows (omega (arith, place, c.saturating_sub-right.ensures, c.place_in.ensures)) c.go_over.ensures.black
     (omega (arith, place, c.if-right-under.false)) (omega (arith, place, c.if-width-right.false))
     (λ ps h. subst (λ (k : ℕ). Shows c.turn.new.line.items k ps) (sym last) (put.shows ps (subst (λ (k : ℕ). Shows c.args.line.now.items k ps) last h)))
+    (λ e.
+    let right = c.saturating_sub-right.result in let end = c.place_in-b2.result + 1 in
+    let both = and_parts u.canonical (nat_le right end) (sym c.go_over.ensures.canonical ∙ e) in
+    (both.0, omega (arith, leb-true right end both.1, c.place_in-b2.ensures, c.saturating_sub-right.ensures, c.place_in.ensures, c.if-right-under.false)))
+
+pub overflow_add-under : goal.overflow_add-under
+overflow_add-under c =
+    let small = from_small c.args.above.now c.args.width c.args.under.from c.args.under.right c.args.under.black (c.requires.under.from c.requires.on) c.requires.on in omega arith

@@ -21,8 +21,7 @@ returns-clause-under c =
     let u = c.args.under in
     near_under (nat_eq c.args.near.shift 7) c.args.above.now c.args.line.now.items c.turn_unless.new.line.items c.args.width (u.from + c.from.result) u _ c.requires.above c.requires.under c.requires.onward c.requires.on
     (ap (λ n. u.from + n) c.from.ensures) (omega (arith, c.if-change-eq0.false)) c.turn_unless.ensures.stays c.turn_unless.ensures.turns c.colour_unless.ensures.stays c.colour_unless.ensures.turns
-    (omega (arith, c.if-past-under.false)) (omega (arith, c.if-width-past.false))
-    (record { colour = c.next_near_two.ensures.colour; behind = c.next_near_two.ensures.behind; ahead = c.next_near_two.ensures.ahead })
+    (omega (arith, c.if-past-under.false)) c.in-Some.ensures.on c.in-Some.ensures.step
 
 pub returns-clause-steps : goal.returns-clause-steps
 returns-clause-steps c = λ over px shows_over shows.
@@ -36,4 +35,4 @@ returns-clause-steps c = λ over px shows_over shows.
     near_steps p c.args.above.now c.args.line.now.items c.turn_unless.new.line.items c.args.width change n c.if-is_pass.shift over px u _ shows_over shows c.requires.under c.requires.on
     refl c.requires.shift seven six three own (ap (λ k. u.from + k) c.from.ensures) (ap (λ k. k + c.if-is_pass.shift - 2) at_change)
     c.turn_unless.ensures.stays c.turn_unless.ensures.turns c.colour_unless.ensures.stays c.colour_unless.ensures.turns
-    (omega (arith, c.if-past-under.false)) (omega (arith, c.if-width-past.false))
+    (omega (arith, c.if-past-under.false)) c.in-Some.ensures.on refl c.in-Some.ensures.left

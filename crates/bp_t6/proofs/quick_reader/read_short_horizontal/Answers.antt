@@ -6,7 +6,7 @@ use Rattle.bp_rows.specs.Changes.{Shows}
 use Rattle.bp_t6.specs.Modes.{code, Horizontal}
 use Rattle.bp_t6.proofs.PlaceLemmas.{from_same}
 use Rattle.bp_t6.proofs.TurnLemmas.{turn_shows, turn_colour}
-use Rattle.bp_t6.proofs.StepLemmas.{mode_ends, three_bits, horizontal_bits, horizontal_steps, run_turns, under_runs}
+use Rattle.bp_t6.proofs.StepLemmas.{mode_ends, three_bits, horizontal_bits, horizontal_steps, run_turns, under_runs, not_refused}
 use Rattle.bp_t6.proofs.quick_reader.read_short_horizontal.Goals as goal
 
 pub overflow_add-start : goal.overflow_add-start
@@ -50,5 +50,9 @@ returns-clause-read c = λ over px shows_over shows.
           (run_turns old (u.right - 1) middle c.requires.under.turns (omega (arith, c.if-first-eq0.false))) (turn_colour old mid middle refl)
           (λ ps h. turn_shows old middle ps h)
           (λ ps h. subst (λ (k : ℕ). Shows c.push_reserved-2.new.self.items k ps) last
-          (subst (λ (ts : List ℕ). Shows ts end ps) (sym two) (turn_shows mid end ps (subst (λ (k : ℕ). Shows mid k ps) (sym last) h))));
+          (subst (λ (ts : List ℕ). Shows ts end ps) (sym two) (turn_shows mid end ps (subst (λ (k : ℕ). Shows mid k ps) (sym last) h))))
+          (λ e. (e, c.are_canonical.ensures over p.run q.run shows_over p.size p.chosen q.size q.chosen (not_refused u.canonical c.are_canonical.result c.if-is_refused.false e)));
     }
+
+pub are_canonical-requires-clause-from : goal.are_canonical-requires-clause-from
+are_canonical-requires-clause-from c = c.requires.under.from (omega (arith, c.if-end-width.false))

@@ -6,7 +6,7 @@ use Rattle.bp_t6.proofs.run_reader.look_up_run.Given as goal
 
 abbrev pub invariant-codes : goal.invariant-codes
 invariant-codes l = record {
-  made : MakeUps (run_codes l.black) (span_bits l.span) l.start l.at l.pixels;
+  made : MakeUps (run_codes l.black) (span_bits l.span) l.start l.at l.pixels l.canonical;
   fits : l.pixels ≤ l.room;
   within : l.at ≤ length (span_bits l.span);
 }

@@ -422,7 +422,7 @@ def decisions(day):
         responsive, designation = draw.random() < 0.8, draw.choice(("", "CONFIDENTIAL", "A-1. B_2"))
         told = treatment.lower() if treatment in ("Produce", "Redact") else treatment[-2:]
         day.call(REVIEWER, "SetCall", f"{doc} {yes(responsive)} {told} {word(designation)}",
-                     doc=doc, responsive=responsive, treatment=treatment, designation=designation)
+                 doc=doc, responsive=responsive, treatment=treatment, designation=designation)
         for number in draw.sample(range(1, 5), draw.choice((1, 2) if settled else (0, 1, 3))):
             page, basis = draw.randrange(1, m.page_count(doc) + (1 if settled else 2)), draw.choice(BASES)
             day.call(REVIEWER, "PutBox", f"{doc} {number} {page} 3 4 50 30 {basis}",

@@ -15,7 +15,7 @@ have the keeper keep nothing more until the desks are opened anew; so they are, 
     replayed as a look at each of them, and one moment is right for all of these looks;
   - a desk that is opened anew takes a change, also where the disk failed so that the keeper took none until the end;
   - the kept rows are those of the model's matter, and the database is sound.
-Takes ten minutes at most: clients stop asking after seven, and then the desks are ended as by Ctrl-C and print nothing. Needs Linux'
+Takes twelve minutes at most: clients stop asking after seven, and then the desks are ended as by Ctrl-C and print nothing. Needs Linux'
 prlimit, python3 with sqlite3, and the ports free. Ends with 0 where all holds.
 """
 import collections
@@ -50,7 +50,7 @@ PEOPLE = [("lead", "Lead"), ("second 1", "Second"), ("second 2", "Second"), ("re
 HOT = 20  # documents that many clients ask for, the last ones
 FEW = 10  # states that are replayed as of one moment
 ROUNDS = 4  # how often the desks are opened
-ASKING, WHOLE = 420, 600  # seconds
+ASKING, WHOLE = 420, 720  # seconds
 Asked = collections.namedtuple("Asked", "began ended desk key call status body")
 
 
@@ -444,6 +444,7 @@ def ends_of(matter, calls, rows, begin):
         for at in sorted(able, key=lambda at: not changes_nothing(left[at])):
             one = left[at]
             load(matter, rows, state)
+            made = matter.made_rows
             if matter.step(one.key, one.call) == (one.status, one.body):
                 rest, after = left[:at] + left[at + 1:], tuple(matter.state(row) for row in rows)
                 mark = (tuple(map(id, rest)), after)
@@ -452,6 +453,9 @@ def ends_of(matter, calls, rows, begin):
                     todo.append((rest, after))
                 if changes_nothing(one):
                     break
+            else:
+                # a freeze that was refused doesn't touch these rows, and the model may have made it
+                matter.made_rows = made
     return ends
 
 

@@ -12,8 +12,8 @@ ENOUGH_HITS = 1000
 MOST_TERMS = 8
 LONGEST_TERM = 200
 
-# Characters whose simple folding isn't their lower case, though their full one has two characters
-# (CaseFolding.txt: status S beside F, and C for the Cherokee letters is in casefold already).
+# CaseFolding.txt, status S: the sharp s, and three that came with Unicode 15.1. Of the others that fold to several
+# characters in full, the simple folding is their lower case where that is one character, else themselves.
 SIMPLE = {'\u1e9e': '\u00df', '\ufb05': '\ufb06', '\u1fd3': '\u0390', '\u1fe3': '\u03b0'}
 
 

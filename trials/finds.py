@@ -7,7 +7,7 @@ and come in, members of the staff decide on documents, and then they look: Find 
 folded, with `*` at an end, `#` for a digit, several in turn, or such as are refused; the other looks now and then, and a Plan before its
 Freeze. Some matters have more than 1,000 parts, others pages with more than 1,000 hits, at and about each of these limits. Where a find
 stops, another goes on from there until none does, and all of them together have to have each hit of each part, once. What is due comes
-from plain models in Python (find_model.py, fuzz_matter.py, and below), written from the papers.
+from plain models in Python (find_model.py, fuzz_matter.py), written from the papers.
 
 PROGRAM is bp_test_days as built (`rt run` in its crate): it does the lines of the files that it is given. `-` writes them to the folder
 KEEP and tries none (then `rt try --cases KEEP -- case` does). FINDS (20,000 where it isn't said) are drawn in parts of 2,000, at as many
@@ -19,7 +19,6 @@ tables once): which fold alike, and which are letters or digits. 500 parts have 
 all that fold as it does.
 """
 import collections
-import copy
 import multiprocessing
 import os
 import random
@@ -36,11 +35,9 @@ import fuzz_loads as loads  # noqa: E402
 import fuzz_matter as matters  # noqa: E402
 from fuzz_tools import NAMES, Rule, said  # noqa: E402
 
-NAMES.setdefault(140, "TermRefused")
 IN_A_PART = 2000  # finds
 PARTS = 500  # that have each character
 SECONDS = 600  # of the program, for a part
-MOST_STATES = 500
 LARGEST = 4294967295
 LEAD, SECOND, REVIEWER, CLERK, RECEIVER, STRANGER = range(1, 7)
 ROLES = {SECOND: "second", REVIEWER: "reviewer", CLERK: "clerk", RECEIVER: "receiver"}
@@ -49,69 +46,51 @@ FIELDS = ("AUTHOR", "TO", "SUBJECT", "\u65e5\u4ed8", "Stra\u00dfe", "PAGECOUNT",
 BASES = ("AC", "WP", "PI", "TS")
 
 
-# ---- what the other looks tell, as a line says it
+# ---- what a call tells, as a line says it
+
+
+def told_of(name, reply):
+    if name in ("Freeze", "Plan"):
+        return " ".join(["produced", *(f"{item['doc']}:{item['first']}-{item['last']}" for item in reply["items"])])
+    if name == "Find":
+        hits = (f"{hit['doc']}:{hit['page']}:{hit['field']}:{hit['place']}:{hit['count']}" for hit in reply["hits"])
+        return " ".join(["found", *hits, f"next {reply['next']} {reply['next_page']}"])
+    if name in ROWS:
+        return " | ".join([name.removeprefix("See").replace("Staff", "People").lower(), *map(ROWS[name], reply)])
+    return f"staff {reply['staff']}" if name == "AddStaff" else "done"
+
+
+def state(row):
+    editor, confirmer, treatment = row["editor"], row["confirmer"], row["treatment"]
+    called = f"confirmed {editor} {confirmer}" if confirmer else f"first {editor}" if editor else "uncalled"
+    treatment = treatment.removeprefix("Withhold-") if "-" in treatment else treatment.lower()
+    stands = quoted(row["production"]) if row["production"] else "-"
+    return (f"{row['doc']} {row['parent']} {row['pages']} {called} {yes(row['responsive'])} {treatment} {quoted(row['designation'])}"
+            f" {row['boxes']} {row['held']} {yes(row['entry'])} {stands}")
+
+
+def value(row):
+    return f"{row['field']} {quoted(row['name'])} {quoted(row['value'])} {row['held'] or '-'}"
+
+
+def person(row):
+    return f"{row['staff']} {quoted(row['name'])} {row['role'].lower()}"
+
+
+def production(row):
+    texts = " ".join(quoted(row[key]) for key in ("id", "volume", "prefix"))
+    return f"{texts} {row['width']} {row['first']}-{row['last']} {row['items']} {row['from']} {row['to']}"
+
+
+ROWS = {"SeeStates": state, "SeeValues": value, "SeeStaff": person, "SeeProductions": production}
 
 
 def quoted(text):
     return f'"{text}"'
 
 
-def states(m, first):
-    stands = {item["doc"]: quoted(made["id"]) for made in m.productions for item in made["items"]}
-    rows = []
-    for doc in range(first, len(m.docs) + 1)[:MOST_STATES]:
-        state, editor, confirmer, responsive, treatment, designation = m.calls.get(doc, (0, 0, 0, False, "Produce", ""))
-        called = ("uncalled", f"first {editor}", f"confirmed {editor} {confirmer}")[state]
-        treatment = treatment.lower() if treatment in ("Produce", "Redact") else treatment
-        boxes, held = m.marks(doc)
-        rows.append(f"{doc} {m.docs[doc - 1]['parent']} {m.page_count(doc)} {called} {yes(responsive)} {treatment} {quoted(designation)}"
-                    f" {len(boxes)} {len(held)} {yes(doc in m.entries)} {stands.get(doc, '-')}")
-    return " | ".join(["states", *rows])
-
-
 def yes(truth):
     return "yes" if truth else "no"
-
-
-def values(m, doc):
-    has, held = m.docs[doc - 1]["values"], m.marks(doc)[1]
-    rows = [f"{k} {quoted(name)} {quoted(has[k - 1] if k <= len(has) else '')} {held.get(k, '-')}" for k, name in enumerate(m.fields, 1)]
-    return " | ".join(["values", *rows])
-
-
-def people(m):
-    return " | ".join(["people", *(f"{k} {quoted(name)} {role.lower()}" for k, (role, _, name) in enumerate(m.staff, 1))])
-
-
-def productions(m):
-    rows = [f"{quoted(made['id'])} {quoted(made['volume'])} {quoted(made['prefix'])} {made['width']}"
-            f" {made['items'][0]['first']}-{made['items'][-1]['last']} {len(made['items'])} {made['from']} {made['to']}"
-            for made in m.productions]
-    return " | ".join(["productions", *rows])
-
-
-def plan(m, asked):
-    """What a freeze gives, over a copy."""
-    other = copy.copy(m)
-    other.prefixes, other.productions = list(m.prefixes), list(m.productions)
-    return produced(matters.freeze(other, asked))
-
-
-def produced(made):
-    return " ".join(["produced", *(f"{item['doc']}:{item['first']}-{item['last']}" for item in made["items"])])
-
-
-def may_look(m, key):
-    who = [role for role, digest, _ in m.staff if digest == digest_of(key)]
-    if not who:
-        raise Rule(9)
-    if who[0] == "Receiver":
-        raise Rule(12)
-
-
-def there_is(m, doc):
-    if not 1 <= doc <= len(m.docs):
-        raise Rule(10, doc)
 
 
 def digest_of(key):
@@ -127,66 +106,37 @@ class Day:
         self.matter = matters.begun(digest_of(LEAD))
         self.lines += ["files", f"begin {LEAD}"]
         for key, role in ROLES.items():
-            self.call(LEAD, "AddStaff", f"{role} {role} {key}", lambda: self.added(role, key))
+            self.call(LEAD, "AddStaff", f"{role} {role} {key}", name=role, role=role.capitalize(), digest=digest_of(key))
 
-    def added(self, role, key):
-        members = {"name": role, "role": role.capitalize(), "digest": digest_of(key)}
-        return f"staff {matters.step(self.matter, digest_of(LEAD), 'AddStaff', members)['staff']}"
-
-    def call(self, key, name, operands, make):
-        """A line of a call; what is due, or None where a rule is."""
+    def call(self, by, call, operands, **members):
+        """A line of a call, by its operands and its members; what it gives, or None where a rule is broken."""
         try:
-            due, told = (told := make()), told
+            reply = matters.step(self.matter, digest_of(by), call, members)
+            told = told_of(call, reply)
         except Rule as rule:
-            due, told = None, rule.told()
+            reply, told = None, rule.told()
             self.count[f"refused {rule.number} {NAMES[rule.number]}"] += 1
-        asked = f"call {key} {name} {operands}".rstrip()
+        asked = f"call {by} {call} {operands}".rstrip()
         if "\n" in told:  # a line says how long it is
             asked, told = "long " + asked, f"{len(told.encode())} bytes"
         self.lines.append(f"{asked} = {told}")
-        self.count[name] += 1
-        return due
-
-    def decide(self, key, name, operands, **members):
-        def make():
-            matters.step(self.matter, digest_of(key), name, members)
-            return "done"
-        self.call(key, name, operands, make)
-
-    def look(self, key, name, operands, make):
-        def told():
-            may_look(self.matter, key)
-            return make()
-        return self.call(key, name, operands, told)
-
-    # ---- finds
+        self.count[call] += 1
+        return reply
 
     def find(self, key, terms, doc, page):
         """A find, and those that go on where it stops."""
         first, hits, stops = (doc, page), [], -1
         while doc or stops < 0:
-            found = self.one_find(key, terms, doc, page)
+            operands = " ".join([str(doc), str(page), *map(word, terms)])
+            found = self.call(key, "Find", operands, **{"terms": terms, "from": doc, "page": page})
             if found is None:
                 return
-            more, doc, page = found
-            hits, stops = hits + more, stops + 1
+            doc, page = found["next"], found["next_page"]
+            hits, stops = hits + found["hits"], stops + 1
         self.count["stops"] += stops
-        if stops and hits != find_model.all_hits(self.docs, terms, *first):
+        self.count["hits"] += len(hits)
+        if stops and [tuple(hit.values()) for hit in hits] != find_model.all_hits(self.docs, terms, *first):
             raise AssertionError(f"the finds for {terms} from {first} on haven't all hits once")
-
-    def one_find(self, key, terms, doc, page):
-        found = []
-
-        def make():
-            answer = find_model.find(self.docs, terms, doc, page)
-            if isinstance(answer, str):
-                raise {"TermRefused": Rule(140), "NoDocument": Rule(10, doc), "NoPage": Rule(11, page)}[answer]
-            found.extend(answer)
-            hits = [":".join(map(str, hit)) for hit in answer[0]]
-            self.count["hits"] += len(hits)
-            return " ".join(["found", *hits, f"next {answer[1]} {answer[2]}"])
-        self.look(key, "Find", " ".join([str(doc), str(page), *map(word, terms)]), make)
-        return found or None
 
     # ---- batches
 
@@ -355,12 +305,12 @@ def many_parts(day):
         parts += count + 1
     day.import_batch("MANY", fields, docs)
     day.ready()
-    day.look(CLERK, "SeeStates", "1", lambda: states(day.matter, 1))
+    day.call(CLERK, "SeeStates", "1", **{"from": 1})
     for _ in range(40):
         some_find(day, stems)
     for _ in range(5):
         doc = draw.randrange(1, len(docs) + 1)
-        day.look(CLERK, "SeeStates", str(doc), lambda: states(day.matter, doc))
+        day.call(CLERK, "SeeStates", str(doc), **{"from": doc})
 
 
 def many_hits(day):
@@ -471,26 +421,26 @@ def decisions(day):
         treatment = draw.choice(("Produce", "Produce", "Redact", "Redact", "Withhold-AC", "Withhold-WP"))
         responsive, designation = draw.random() < 0.8, draw.choice(("", "CONFIDENTIAL", "A-1. B_2"))
         told = treatment.lower() if treatment in ("Produce", "Redact") else treatment[-2:]
-        day.decide(REVIEWER, "SetCall", f"{doc} {yes(responsive)} {told} {word(designation)}",
-                   doc=doc, responsive=responsive, treatment=treatment, designation=designation)
+        day.call(REVIEWER, "SetCall", f"{doc} {yes(responsive)} {told} {word(designation)}",
+                 doc=doc, responsive=responsive, treatment=treatment, designation=designation)
         for number in draw.sample(range(1, 5), draw.choice((1, 2) if settled else (0, 1, 3))):
             page, basis = draw.randrange(1, m.page_count(doc) + (1 if settled else 2)), draw.choice(BASES)
-            day.decide(REVIEWER, "PutBox", f"{doc} {number} {page} 3 4 50 30 {basis}",
-                       doc=doc, num=number, page=page, left=3, top=4, width=50, height=30, basis=basis)
+            day.call(REVIEWER, "PutBox", f"{doc} {number} {page} 3 4 50 30 {basis}",
+                     doc=doc, num=number, page=page, left=3, top=4, width=50, height=30, basis=basis)
         if draw.random() < 0.1:
-            day.decide(REVIEWER, "DropBox", f"{doc} 1", doc=doc, num=1)
+            day.call(REVIEWER, "DropBox", f"{doc} 1", doc=doc, num=1)
         for field in draw.sample([*m.fields, "x"], draw.choice((0, 1)) if settled else 1):
             basis = draw.choice(BASES)
-            day.decide(REVIEWER, "HoldField", f"{doc} {word(field)} {basis}", doc=doc, field=field, basis=basis)
+            day.call(REVIEWER, "HoldField", f"{doc} {word(field)} {basis}", doc=doc, field=field, basis=basis)
             if draw.random() < 0.2:
-                day.decide(REVIEWER, "FreeField", f"{doc} {word(field)}", doc=doc, field=field)
+                day.call(REVIEWER, "FreeField", f"{doc} {word(field)}", doc=doc, field=field)
         if settled or draw.random() < 0.7:
-            day.decide(REVIEWER, "PutEntry", f"{doc} 2019 Ng Ortiz Advice",
-                       doc=doc, date="2019", author="Ng", recipients="Ortiz", description="Advice")
+            day.call(REVIEWER, "PutEntry", f"{doc} 2019 Ng Ortiz Advice",
+                     doc=doc, date="2019", author="Ng", recipients="Ortiz", description="Advice")
         if settled or draw.random() < 0.8:
-            day.decide(SECOND, "Confirm", f"{doc}", doc=doc)
+            day.call(SECOND, "Confirm", f"{doc}", doc=doc)
         if draw.random() < 0.03:
-            day.decide(SECOND, "SendBack", f"{doc}", doc=doc)
+            day.call(SECOND, "SendBack", f"{doc}", doc=doc)
 
 
 def looks(day):
@@ -506,10 +456,10 @@ def looks(day):
         some_plan(day, who)
     for _ in range(4):
         first, doc = some_doc(), some_doc()
-        day.look(who(), "SeeStates", str(first), lambda: (there_is(m, first), states(m, first))[1])
-        day.look(who(), "SeeValues", str(doc), lambda: (there_is(m, doc), values(m, doc))[1])
-    day.look(who(), "SeeStaff", "", lambda: people(m))
-    day.look(who(), "SeeProductions", "", lambda: productions(m))
+        day.call(who(), "SeeStates", str(first), **{"from": first})
+        day.call(who(), "SeeValues", str(doc), doc=doc)
+    day.call(who(), "SeeStaff", "")
+    day.call(who(), "SeeProductions", "")
     day.lines.append("mark")
     for _ in range(3):
         some_plan(day, who, False)
@@ -521,9 +471,9 @@ def some_plan(day, who, frozen=True):
     asked = some_request(draw, m)
     texts, numbers = ([asked[key] for key in keys] for keys in (("id", "volume", "prefix"), ("width", "from", "to")))
     operands = " ".join([*map(word, texts), *map(str, numbers), *map(word, asked["fields"])])
-    planned = day.look(who(), "Plan", operands, lambda: plan(m, asked))
+    planned = day.call(who(), "Plan", operands, **asked)
     if frozen:
-        made = day.call(draw.choice((LEAD, CLERK)), "Freeze", operands, lambda: produced(matters.freeze(m, asked)))
+        made = day.call(draw.choice((LEAD, CLERK)), "Freeze", operands, **asked)
         if planned is not None and made != planned:
             raise AssertionError(f"{operands} was planned as {planned} and made as {made}")
 

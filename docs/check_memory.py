@@ -98,6 +98,9 @@ SIZED = {
         (["with_capacity(alloc, bytes_of_head(form) as usize)"], "the head of a file, of one of few lengths"),
     ("bp_web/src/messages.rt", "message_bytes"):
         (["with_capacity(alloc, body.len().saturating_add(HEAD_ROOM))"], "the length of the message that is made"),
+    ("bp_t6/src/canonical_strip.rt", "are_coded_lines"):
+        (["with_capacity(alloc, room_for(width))", "with_capacity(alloc, room_for(width))"],
+         "the changes of two rows, by the width of a page that is loaded"),
 }
 
 # what sees pixels that are to be covered, words and values that are held back

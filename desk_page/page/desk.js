@@ -36,10 +36,15 @@ export class Desk {
     return this.#inTurn(path, isBehind, () => this.#exchange(path, { method: 'GET' }))
   }
 
+  // The answer to a look that has members. It changes nothing, so that nothing is unknown where no desk answers.
+  ask(path, members, isBehind = false) {
+    const request = { method: 'POST', body: JSON.stringify(members) }
+    return this.#inTurn(path, isBehind, () => this.#exchange(path, request))
+  }
+
   // `unknown` is what to say where no desk answered; a call on a document has it said by what keeps it in mind
   make(path, members, unknown = '') {
-    const request = { method: 'POST', body: JSON.stringify(members) }
-    return this.#inTurn(path, false, () => this.#exchange(path, request)).catch((why) => {
+    return this.ask(path, members).catch((why) => {
       if (why instanceof NoAnswer) why.message = `${why.message} ${unknown}`.trim()
       throw why
     })

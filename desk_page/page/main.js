@@ -13,6 +13,7 @@ import { Greys } from './greys.js'
 import { HeldFields } from './held_fields.js'
 import { LastCall } from './last_call.js'
 import { Listing } from './listing.js'
+import { Looks } from './looks.js'
 import { Many } from './many.js'
 import { act, behind, keepUnsure, reasonOf, say, the } from './messages.js'
 import { Pages } from './pages.js'
@@ -30,6 +31,7 @@ import { inFull, lacksOf, progressOf, signOf } from './states.js'
 const decoder = new Decoder()
 
 function build(review, place) {
+  const { looks } = review
   const paper = new Paper(review, new Greys(decoder), {
     sheet: the('sheet'), paper: the('paper'), turned: the('turned'), ink: the('ink'), over: the('over'), size: the('size'),
   })
@@ -109,7 +111,7 @@ async function showPlace(review, image) {
 async function enter(key) {
   if (!isKey(key)) throw new NotNow('A key has letters, digits and signs of a plain keyboard alone.')
   const desk = new Desk(key)
-  const review = new Review(desk, new Pages(desk, decoder))
+  const review = new Review(desk, new Pages(desk, decoder), new Looks(desk))
   // the panels are put together once, when a desk has taken the key
   try {
     await review.countDocuments()

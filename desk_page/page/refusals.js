@@ -32,6 +32,7 @@ const MEANINGS = {
   BadVolume: 'An ID has 1 to 32 letters, digits, - and _; a volume the same without small letters.',
   VolumeTaken: 'Another production has this volume’s name. Take another.',
   FieldChoice: 'A field is chosen twice, or has the name of a column that each volume has.',
+  TermRefused: 'A search takes 1 to 8 words in turn, each of 1 to 200 bytes and without signs that don’t print.',
   NoProduction: 'No production has this ID. Capital and small letters count.',
   StaffThere: 'The key belongs to staff {a} already. Take another key.',
   MatterFull: 'The matter is full: it takes no more of this kind.',

@@ -15,10 +15,9 @@ const FRESH = 1000 // milliseconds for which what was told needs no second look
 const TO_READ = 600 // milliseconds in which nobody has read that a document was changed
 
 export class Review extends EventTarget {
-  constructor(desk, pages) {
+  constructor(desk, pages, looks) {
     super()
-    this.desk = desk
-    this.pages = pages
+    Object.assign(this, { desk, pages, looks })
     this.count = 0
     this.doc = null // the open document, as the desk told it
     this.page = 0 // the open page, from 1

@@ -4,128 +4,16 @@ exchange after another, in memory. It is for the tests of the page where the pro
 
     stand_in.py PORT[,PORT ..] BATCH LEADKEY [COPIES]    serves the batch in the folder BATCH, so many times over; Ctrl-C ends it
 """
-import csv
-import hashlib
 import json
-import os
 import re
 import socketserver
 import sys
 import threading
 
-from stand_in_freeze import REQUEST, Productions
-
-ROLES = {"Reviewer", "Second", "Lead", "Clerk", "Receiver"}
-REVIEWERS, CHECKERS = {"Reviewer", "Second", "Lead"}, {"Second", "Lead"}
-BASES = {"AC", "WP", "PI", "TS"}
-TREATMENTS = {"Produce", "Redact"} | {"Withhold-" + basis for basis in BASES}
-RULES = dict(KeyUnknown=9, NoDocument=10, NoPage=11, RoleRefused=12, BoxOutside=13, BoxShape=14, WrongTreatment=15,
-             BoxesRemain=16, BadBasis=17, NotCalled=18, SamePerson=19, NothingRedacted=20, EntryMissing=21, NoField=22,
-             TextRefused=23, RangeEmpty=24, SplitFamily=25, Unsettled=26, NothingResponsive=27, RequestDiffers=28, BadPrefix=29,
-             PrefixDiffers=30, BatesFull=31, BadVolume=32, NoProduction=33, StaffThere=36, FieldChoice=40, VolumeTaken=41,
-             HeadRefused=101, BodyRefused=102, BodyLimit=103, KeyMissing=104, NoRoute=105)
-STATUS = dict(KeyUnknown=401, KeyMissing=401, RoleRefused=403, NoDocument=404, NoPage=404, NoRoute=404, NoProduction=404,
-              HeadRefused=400, BodyRefused=400, BodyLimit=413)
-COLUMNS_APART = {"BEGDOC", "ENDDOC", "BEGATTACH", "ENDATTACH"}
-
-
-class Refused(Exception):
-    def __init__(self, name, a=0):
-        super().__init__(name)
-        self.name, self.a = name, a
-
-
-# ---- the batch
-
-
-def read_dat(path):
-    with open(path, encoding="utf-8-sig") as file:
-        lines = [line.rstrip("\r\n") for line in file if line.strip()]
-    rows = [[value.strip("þ").replace("®", "\n") for value in line.split("\x14")] for line in lines]
-    return rows[0], rows[1:]
-
-
-class Doc:
-    def __init__(self, number, parent):
-        self.number, self.parent = number, parent
-        self.files, self.words = [], []
-        self.call = self.entry = None
-        self.editor = self.confirmer = 0
-        self.boxes, self.held = {}, {}
-
-    def edited(self, caller):
-        if self.call:
-            self.editor, self.confirmer = caller, 0
-
-    def view(self):
-        responsive, treatment, designation = self.call or (False, "Produce", "")
-        return dict(
-            boxes=[dict(box, num=num) for num, box in sorted(self.boxes.items())], confirmer=self.confirmer,
-            designation=designation, doc=self.number, editor=self.editor, entry=self.entry,
-            held=[dict(basis=basis, field=field) for field, basis in sorted(self.held.items())], pages=len(self.files),
-            parent=self.parent, responsive=responsive, treatment=treatment)
-
-
-class Matter:
-    def __init__(self, lead, folder, copies):
-        self.staff = [("lead", "Lead", digest_of(lead))]
-        columns, records = read_dat(os.path.join(folder, "load.dat"))
-        self.fields = [column for column in columns if column not in COLUMNS_APART]
-        words = read_words(os.path.join(folder, "words.csv"))
-        with open(os.path.join(folder, "load.opt"), encoding="utf-8-sig") as file:
-            lines = [line.rstrip("\r\n").split(",") for line in file if line.strip()]
-        self.docs = []
-        self.productions = Productions(self, Refused)
-        for _ in range(copies):
-            self.add(columns, records, lines, words, folder)
-
-    def add(self, columns, records, lines, words, folder):
-        begins, attach = columns.index("BEGDOC"), columns.index("BEGATTACH")
-        records, first = iter(records), {}
-        for image, _, path, is_break, *_ in lines:
-            if is_break == "Y":
-                record = next(records)
-                number = len(self.docs) + 1
-                first[record[begins]] = number
-                self.docs.append(Doc(number, first[record[attach] or record[begins]]))
-            self.docs[-1].files.append(os.path.join(folder, path.replace("\\", "/")))
-            self.docs[-1].words.append(words.get(image, []))
-
-    def doc(self, number):
-        if not 1 <= number <= len(self.docs):
-            raise Refused("NoDocument", number)
-        return self.docs[number - 1]
-
-    def who(self, key):
-        for number, (_, role, digest) in enumerate(self.staff, 1):
-            if digest == digest_of(key):
-                return number, role
-        raise Refused("KeyUnknown")
-
-
-def digest_of(key):
-    return hashlib.sha256(key.encode("latin-1")).hexdigest()
-
-
-def read_words(path):
-    words = {}
-    with open(path, encoding="utf-8-sig", newline="") as file:
-        for image, line, left, top, width, height, text in csv.reader(file):
-            words.setdefault(image, []).append(dict(
-                height=int(height), left=int(left), line=int(line), text=text, top=int(top), width=int(width)))
-    return words
-
-
-def sides_of(path):
-    """Width and height of a page file."""
-    with open(path, "rb") as file:
-        data = file.read()
-    order = "little" if data[:2] == b"II" else "big"
-    number = lambda at, size: int.from_bytes(data[at : at + size], order)
-    at = number(4, 4)
-    entries = [at + 2 + 12 * k for k in range(number(at, 2))]
-    value = {number(entry, 2): number(entry + 8, 2 if number(entry + 2, 2) == 3 else 4) for entry in entries}
-    return value[256], value[257]
+import stand_in_looks as looks
+from stand_in_freeze import REQUEST
+from stand_in_matter import Matter, sides_of
+from stand_in_rules import BASES, CHECKERS, INSIDERS, REVIEWERS, ROLES, TREATMENTS, Refused
 
 
 # ---- calls
@@ -259,7 +147,6 @@ def get_production(matter, _caller, words, _body):
 
 
 DOC = r"/docs/([1-9]\d{0,8})"
-INSIDERS = ROLES - {"Receiver"}
 # method, target, who may, what it does, members
 ROUTES = [
     ("POST", "/staff", {"Lead"}, add_staff, dict(name=str, role=ROLES, digest=str)),
@@ -277,13 +164,39 @@ ROUTES = [
     ("POST", DOC + "/back", CHECKERS, send_back, {}),
     ("POST", "/productions", {"Clerk", "Lead"}, freeze, REQUEST),
     ("GET", "/productions/([^/?]+)", INSIDERS, get_production, {}),
+    ("GET", r"/states/([1-9]\d{0,8})", INSIDERS, looks.see_states, {}),
+    ("GET", DOC + "/values", INSIDERS, looks.see_values, {}),
+    ("GET", "/staff", INSIDERS, looks.see_staff, {}),
+    ("GET", "/productions", INSIDERS, looks.see_productions, {}),
+    ("POST", "/find", INSIDERS, looks.find, {"terms": list, "from": int, "page": int}),
+    ("POST", "/plan", INSIDERS, looks.plan, REQUEST),
 ]
 
 
 def fits(value, kind):
+    """Whether a member has a value of its kind: one of a set, a number of a range, a list of texts, a text, truth, or a number."""
     if isinstance(kind, set):
-        return value in kind
+        return isinstance(value, str) and value in kind
+    if isinstance(kind, range):
+        return type(value) is int and value in kind
+    if kind is list:
+        return isinstance(value, list) and all(isinstance(text, str) for text in value)
     return type(value) is kind and (kind is not int or 0 <= value < 1 << 32)
+
+
+def read_number(digits):
+    """A number with a sign fits no member, and -0 neither."""
+    return int(digits) if digits.isdigit() else -1
+
+
+def read_body(body):
+    """The object of a body: UTF-8, and JSON without half of a pair of surrogates."""
+    try:
+        value = json.loads(body.decode(), parse_int=read_number)
+        json.dumps(value, ensure_ascii=False).encode()
+        return value
+    except ValueError:
+        raise Refused("BodyRefused") from None
 
 
 def answer(matter, method, target, fields, body):
@@ -297,20 +210,25 @@ def answer(matter, method, target, fields, body):
     keys = [value for name, value in fields if name == "desk-key"]
     if len(keys) != 1:
         raise Refused("KeyMissing")
-    try:
-        value = json.loads(body) if way == "POST" else {}
-    except ValueError:
-        raise Refused("BodyRefused") from None
+    value = read_body(body) if way == "POST" else {}
     if not isinstance(value, dict) or not all(fits(value.get(name), kind) for name, kind in members.items()):
         raise Refused("BodyRefused")
     caller, role = matter.who(keys[0])
     if role not in roles:
         raise Refused("RoleRefused")
-    words = [int(word) if "docs" in pattern else word for word in found.groups()]
+    words = [int(word) if r"\d" in pattern else word for word in found.groups()]
     return work(matter, caller, words, value)
 
 
 # ---- exchanges, one after another
+
+
+def compact(value):
+    return json.dumps(value, ensure_ascii=False, separators=(",", ":"), sort_keys=True).encode()
+
+
+PHRASES = {200: "OK", 400: "Bad Request", 401: "Unauthorized", 403: "Forbidden", 404: "Not Found", 409: "Conflict",
+           413: "Payload Too Large"}
 
 
 class Exchange(socketserver.StreamRequestHandler):
@@ -334,14 +252,13 @@ class Exchange(socketserver.StreamRequestHandler):
                 Exchange.count += 1
                 status, kind, body = 200, "application/json", answer(matter, method, target, fields, sent)
         except Refused as why:
-            status, kind = STATUS.get(why.name, 409), "application/json"
-            body = dict(a=why.a, b=0, line=0, name=why.name, rule=RULES[why.name])
+            status, kind, body = why.status(), "application/json", why.told()
         if isinstance(body, bytes):
             kind = "image/tiff"
         else:
-            body = json.dumps({"done": True} if body is None else body, separators=(",", ":"), sort_keys=True).encode()
-        head = f"HTTP/1.1 {status} X\r\nContent-Type: {kind}\r\nContent-Length: {len(body)}\r\nConnection: close\r\n\r\n"
-        self.wfile.write(head.encode() + body)
+            body = compact({"done": True} if body is None else body)
+        head = f"HTTP/1.1 {status} {PHRASES[status]}\r\nContent-Type: {kind}\r\nContent-Length: {len(body)}\r\n"
+        self.wfile.write((head + "Connection: close\r\n\r\n").encode() + body)
 
     def body(self, method, fields):
         if method != "POST":

@@ -1,8 +1,11 @@
-"""The stand-in's productions: a request to freeze one, with its refusals in their order, and the question for one."""
+"""The stand-in's productions: a request to plan or to freeze one, with its refusals in their order, and the question for one."""
 import re
 
+from stand_in_rules import Refused
+
 COLUMNS = {"BEGDOC", "ENDDOC", "BEGATTACH", "ENDATTACH", "PAGECOUNT", "DESIGNATION", "WITHHELD", "TEXTPATH"}
-REQUEST = dict(id=str, volume=str, prefix=str, width=int, fields=list)
+MOST = 1000
+REQUEST = dict(id=str, volume=str, prefix=str, width=range(256), fields=list)
 REQUEST["from"] = REQUEST["to"] = int
 
 
@@ -11,10 +14,10 @@ def is_settled(doc):
 
 
 class Productions:
-    """Those of a matter; `refused` makes what is raised of a rule's name and its A."""
+    """Those of a matter; `of_doc` has the id of that in which a document stands."""
 
-    def __init__(self, matter, refused):
-        self.matter, self.refused, self.kept, self.prefixes = matter, refused, [], {}
+    def __init__(self, matter):
+        self.matter, self.kept, self.prefixes, self.of_doc = matter, [], {}, {}
 
     def find(self, name):
         return next((kept for kept in self.kept if kept["request"]["id"] == name), None)
@@ -26,7 +29,7 @@ class Productions:
     def see(self, name):
         kept = self.find(name)
         if kept is None:
-            raise self.refused("NoProduction")
+            raise Refused("NoProduction")
         return self.view(kept)
 
     def view(self, kept):
@@ -34,13 +37,32 @@ class Productions:
         return dict(first=items[0]["first"], id=request["id"], items=items, last=items[-1]["last"], prefix=request["prefix"],
                     volume=request["volume"], width=request["width"])
 
+    def rows(self):
+        """Each production without its documents."""
+        return [dict(self.view(kept), items=len(kept["items"]), **{"from": kept["request"]["from"], "to": kept["request"]["to"]})
+                for kept in self.kept]
+
+    def plan(self, body):
+        """What a freeze answers; nothing is kept of it."""
+        return self.view(self.asked(body)[0])
+
     def freeze(self, body):
+        made, is_new = self.asked(body)
+        if is_new:
+            request, items = made["request"], made["items"]
+            self.prefixes[request["prefix"]] = (request["width"], items[-1]["last"] + 1)
+            self.kept.append(made)
+            self.of_doc.update((item["doc"], request["id"]) for item in items)
+        return self.view(made)
+
+    def asked(self, body):
+        """The production of a request, and whether it is a new one."""
         request = {name: body[name] for name in REQUEST}
         kept = self.find(request["id"])
         if kept is not None:
             if kept["request"] != request:
-                raise self.refused("RequestDiffers")
-            return self.view(kept)
+                raise Refused("RequestDiffers")
+            return kept, False
         self.check_request(request)
         docs = self.selected(request)
         first = self.prefixes.get(request["prefix"], (0, 1))[1]
@@ -51,28 +73,28 @@ class Productions:
             items.append(dict(doc=doc.number, first=first, last=last, treatment=treatment))
             first = last + 1
         if first - 1 > 10 ** request["width"] - 1:
-            raise self.refused("BatesFull", 10 ** request["width"] - 1)
-        self.prefixes[request["prefix"]] = (request["width"], first)
-        self.kept.append(dict(request=request, items=items))
-        return self.view(self.kept[-1])
+            raise Refused("BatesFull", 10 ** request["width"] - 1)
+        if len(self.kept) == MOST:
+            raise Refused("MatterFull", 7, MOST + 1)
+        return dict(request=request, items=items), True
 
     def check_request(self, request):
         prefix, fields = request["prefix"], request["fields"]
         if not (re.fullmatch("[A-Z0-9_][A-Z0-9_-]{0,11}(?<![0-9])", prefix) and 4 <= request["width"] <= 10):
-            raise self.refused("BadPrefix")
+            raise Refused("BadPrefix")
         if not (re.fullmatch("[A-Za-z0-9_-]{1,32}", request["id"]) and re.fullmatch("[A-Z0-9_-]{1,32}", request["volume"])):
-            raise self.refused("BadVolume")
+            raise Refused("BadVolume")
         if any(kept["request"]["volume"] == request["volume"] for kept in self.kept):
-            raise self.refused("VolumeTaken")
+            raise Refused("VolumeTaken")
         if len(set(fields)) < len(fields) or COLUMNS & set(fields):
-            raise self.refused("FieldChoice")
+            raise Refused("FieldChoice")
         if not set(fields) <= set(self.matter.fields):
-            raise self.refused("NoField")
+            raise Refused("NoField")
         width = self.prefixes.get(prefix, (request["width"],))[0]
         if width != request["width"]:
-            raise self.refused("PrefixDiffers", width)
+            raise Refused("PrefixDiffers", width)
         if not 1 <= request["from"] <= request["to"] <= len(self.matter.docs):
-            raise self.refused("RangeEmpty")
+            raise Refused("RangeEmpty")
 
     def selected(self, request):
         docs = self.matter.docs[request["from"] - 1 : request["to"]]
@@ -84,8 +106,8 @@ class Productions:
         ):
             found = next((doc for doc in docs if holds(doc)), None)
             if found is not None:
-                raise self.refused(rule, found.number)
+                raise Refused(rule, found.number)
         wanted = {doc.parent for doc in docs if doc.call and doc.call[0]} - gone
         if not wanted:
-            raise self.refused("NothingResponsive")
+            raise Refused("NothingResponsive")
         return [doc for doc in docs if doc.parent in wanted]

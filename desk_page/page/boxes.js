@@ -10,12 +10,21 @@ const LEAST = 4
 const STILL = 4
 const NEW_BOX = { width: 600, height: 60 }
 
+// the least number that no box of a document has
+export function freeNumber(boxes) {
+  const taken = new Set(boxes.map((box) => box.num))
+  let num = 1
+  while (taken.has(num)) num += 1
+  return num
+}
+
 export class Boxes {
   constructor(review, paper, { list, basis, showWords, act }) {
     Object.assign(this, { review, paper, list, basis, showWords, act })
     this.draft = null // { num, page, left, top, width, height, basis, isNew }
     this.drag = null // what the pointer does to the draft
     this.isSending = false // what it does is on its way to the desk
+    this.layers = [] // what others draw over the page: each gives the shapes of the open page
     review.addEventListener('doc', ({ detail }) => this.showAnew(detail))
     review.addEventListener('page', () => this.refresh())
     showWords.addEventListener('change', act(() => this.toggleWords()))
@@ -63,6 +72,7 @@ export class Boxes {
     const all = this.draft === null ? shown : [...shown, this.draft]
     this.paper.over.replaceChildren(
       ...wordShapes(this.showWords.checked ? this.review.knownWords() ?? [] : [], all),
+      ...this.layers.flatMap((layer) => layer(this.paper.scale)),
       ...shown.flatMap((box) => boxShapes(box, 'box', this.paper.scale)),
       ...(this.draft === null ? [] : draftShapes(this.draft, this.paper.scale)),
     )
@@ -115,10 +125,7 @@ export class Boxes {
   }
 
   freeNumber() {
-    const taken = new Set(this.review.doc.boxes.map((box) => box.num))
-    let num = 1
-    while (taken.has(num)) num += 1
-    return num
+    return freeNumber(this.review.doc.boxes)
   }
 
   start(rect) {

@@ -241,11 +241,13 @@ export class Review extends EventTarget {
     throw new NotNow(`Document ${doc} is confirmed by staff ${confirmer}, and this would undo it. Do it again to go on.`)
   }
 
-  // the words of the open page
-  async readWords() {
-    const path = `/docs/${this.doc.doc}/pages/${this.page}/words`
-    if (!this.words.has(path)) this.words.set(path, await this.desk.see(path))
-    return this.words.get(path)
+  // the words of a page; those of pages that aren't open aren't kept
+  async readWords(doc = this.doc.doc, page = this.page, isBehind = false) {
+    const path = `/docs/${doc}/pages/${page}/words`
+    if (this.words.has(path)) return this.words.get(path)
+    const words = await this.desk.see(path, isBehind)
+    if (!isBehind) this.words.set(path, words)
+    return words
   }
 
   // the words of the open page where they were asked for before

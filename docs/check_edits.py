@@ -1,8 +1,10 @@
 #!/usr/bin/env python3
 """Counts the must-fail edits of each library crate, laws aside, and tests that each edit can be applied: each `old:` line stands exactly
-once in its file, and the edit changes something. Ends with status 1 where one can't, or where a library has fewer than five. What the
+once in its file, and the edit changes something. Ends with status 1 where one can't, where a library has fewer than five, where
+docs/PROMISES.md names an edit not at all, or where a column of edits there or in docs/PLANTED.md names one that isn't there. What the
 prover says of them is asked by `rt ci`."""
 import pathlib
+import re
 import sys
 
 TOP = pathlib.Path(__file__).resolve().parent.parent
@@ -41,6 +43,27 @@ def fault(crate, edit):
     return None if before != after else "it changes nothing"
 
 
+def named_in(document):
+    """The edits that the columns of edits in a document name."""
+    column = None
+    for line in (TOP / document).read_text(encoding="utf-8").splitlines():
+        cells = [re.sub(r"`[^`]*`", "", cell).strip() for cell in line.split("|")]
+        if "Edit" in cells:
+            column = cells.index("Edit")
+        elif not line.startswith("|"):
+            column = None
+        elif column is not None and column < len(cells):
+            yield from re.findall(r"\b[a-z0-9]+(?:_[a-z0-9]+)+\b", cells[column])
+
+
+def lost_names(edits):
+    """What the documents name and isn't there, and what is there and PROMISES doesn't name."""
+    there = {edit.stem for edit in edits}
+    named = {document: set(named_in(document)) for document in ("docs/PROMISES.md", "docs/PLANTED.md")}
+    yield from (f"{document}: there is no edit {name}" for document, names in named.items() for name in sorted(names - there))
+    yield from (f"docs/PROMISES.md names no edit {name}" for name in sorted(there - named["docs/PROMISES.md"]))
+
+
 def is_counted(crate):
     """Whether it is a library with code of its own."""
     return (crate / "src" / "lib.rt").is_file() and not crate.name.startswith(NOT_PRODUCT) and crate.name not in LAWS
@@ -54,6 +77,7 @@ def main():
         wrong += [f"{crate.name}/must-fail/{name}: {why}" for name, why in found if why]
         if is_counted(crate):
             counts[crate.name] = len(edits)
+    wrong += lost_names(TOP.glob("crates/*/must-fail/*.edit"))
     wrong += [f"{name}: {count} edits, and not {FEWEST} or more" for name, count in counts.items() if count < FEWEST]
     print(f"check_edits.py: {sum(counts.values())} edits of {len(counts)} libraries")
     for line in wrong:

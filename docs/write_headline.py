@@ -6,6 +6,7 @@ lines that is. What belongs to other commands alone is left out, where a definit
 import pathlib
 import re
 import sys
+import textwrap
 
 TOP = pathlib.Path(__file__).resolve().parent.parent
 PAGE = TOP / "docs" / "HEADLINE.md"
@@ -182,6 +183,12 @@ def shown(found):
     return lines, counted
 
 
+def wrapped(part):
+    """A paragraph of words, or a point of a list, in lines that aren't too wide."""
+    within = {"subsequent_indent": "  " if part.startswith("- ") else "", "break_long_words": False, "break_on_hyphens": False}
+    return part if part.startswith("```") else textwrap.fill(part, 120, **within)
+
+
 def page():
     walk, parts, told = Walk(rooms()), [], []
     for title, says, roots, stops in PARTS:
@@ -190,11 +197,11 @@ def page():
             walk.follow(crate, room, name, stops)
         lines, counted = shown(walk.found[before:])
         told.append(f"{title.lower()}: {len(walk.found) - before} definitions, {counted} lines")
-        parts += [f"## {title}", "", says, "", *lines]
+        parts += [f"## {title}", "", wrapped(says), "", *lines]
     lost = sorted({it[0] for it in walk.found} - {*FLOORS})
     if lost:
         sys.exit(f"docs/write_headline.py has no floor for {lost}")
-    kit = [f"- `{path}`: {', '.join(f'`{it}`' for it in sorted(words))}" for path, words in sorted(walk.of_kit.items())]
+    kit = [wrapped(f"- `{path}`: {', '.join(f'`{it}`' for it in sorted(words))}") for path, words in sorted(walk.of_kit.items())]
     head = f"""# The headline, to be read
 
 Whoever wants to believe the headline of README has this to read: the clauses of `run`, which are proved, and every definition that they
@@ -211,6 +218,7 @@ The call that the program makes:
 
 ```
 """
+    head = "\n\n".join(wrapped(part) for part in head.split("\n\n"))
     return head + "\n".join([*clauses(), "```", "", *parts, "## Words of the kit's library", "", *kit]) + "\n"
 
 

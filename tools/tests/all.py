@@ -27,11 +27,13 @@ import apart  # noqa: E402
 HERE = os.path.dirname(os.path.abspath(__file__))
 TOP = os.path.dirname(os.path.dirname(HERE))
 FIRST_PORT = 48201
+PROGRAM = "crates/bp_main/out/bp_main"
 
 
 class Part:
-    """What is run; how many minutes it has, well more than it takes beside other work; and what it can't do without: Debian's
-    packages, by a program of each, the built program, and so many desks of it. What a part looks for itself isn't named here."""
+    """What is run, where ROOM stands for a folder of its own; how many minutes it has, well more than it takes beside other work; and
+    what it can't do without: Debian's packages, by a program of each, the built program, and so many desks of it. What a part looks for
+    itself isn't named here."""
 
     def __init__(self, words, minutes, packages=(), desks=0, program=False):
         self.words, self.minutes, self.packages = words.split(), minutes, packages
@@ -68,6 +70,7 @@ PARTS = {
     "compare": Part("trials/compare.sh", 5, [("tifftopnm", "netpbm")], program=True),
     "stops": Part("trials/stops.sh 20", 10, [("sqlite3", "sqlite3")], program=True),
     "clients": Part("trials/clients.sh", 10, [("curl", "curl"), ("sqlite3", "sqlite3")], desks=1),
+    "growths": Part(f"trials/growths.py {PROGRAM} ROOM/growths 60", 10, [("cc", "gcc")], desks=2),
     "report": Part("tools/tests/matter_report.py", 10),
     "batch": Part("tools/tests/make_batch.py", 30),
     "take": Part("tools/tests/take_volume.py", 20),
@@ -112,7 +115,7 @@ def run(part, left_out):
 
 
 def run_in(room, part, left_out):
-    words = [os.path.join(TOP, part.words[0]), *part.words[1:]]
+    words = [os.path.join(TOP, part.words[0]), *[word.replace("ROOM", room) for word in part.words[1:]]]
     process = subprocess.Popen(words, cwd=TOP, env={**os.environ, "TMPDIR": room}, stdin=subprocess.DEVNULL, stdout=subprocess.PIPE,
                                stderr=subprocess.STDOUT, text=True, errors="replace", start_new_session=True)
     reader = threading.Thread(target=pass_on, args=(process.stdout, left_out), daemon=True)
@@ -126,8 +129,9 @@ def run_in(room, part, left_out):
     return status
 
 
-def is_well(name, left_out, until):
-    """Whether a part did what is due, or can't be tried here, or not any more, as its time to begin is over."""
+def is_well(name, tried, left_out, until):
+    """Whether a part did what is due, or can't be tried here, or not any more, as its time to begin is over. What was tried, and what
+    wasn't, is added to these lists."""
     part = PARTS[name]
     print(f"== {name}: {' '.join(part.words)}", flush=True)
     why = part.lacks() if time.monotonic() < until else "the minutes of --within are over"
@@ -135,6 +139,7 @@ def is_well(name, left_out, until):
         left_out.append(f"{name}: NOT TRIED: {why}")
         print(left_out[-1], flush=True)
         return True
+    tried.append(name)
     began = time.monotonic()
     status = run(part, left_out)
     if status not in (0, None) and time.monotonic() < until:
@@ -163,13 +168,14 @@ def main(words):
         signal.signal(ending, lambda number, _: sys.exit(128 + number))
     where = "a network of its own" if apart.in_own_network() else "this machine's network, as the system gives no other"
     print(f"all.py: in {where}", flush=True)
-    left_out, failed = [], []
+    tried, left_out, failed = [], [], []
     until = time.monotonic() + 60 * minutes
     try:
-        failed = [name for name in names or PARTS if not is_well(name, left_out, until)]
+        failed = [name for name in names or PARTS if not is_well(name, tried, left_out, until)]
     finally:
         apart.end_begun()
     print("", *left_out, sep="\n")
+    print(f"all.py: tried: {' '.join(tried) or 'nothing'}")
     print(f"all.py: FAILED: {' '.join(failed)}" if failed else "all.py: what was tried is as it is due")
     sys.exit(1 if failed else 0)
 

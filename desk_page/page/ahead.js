@@ -29,7 +29,7 @@ export class Ahead {
     for (let by = 1; by <= DOCUMENTS; by += 1) {
       const number = this.next(doc.doc, by)
       if (number === undefined) break
-      works.push(() => this.review.rows.has(number) || this.review.lookAt(number, true), () => this.read(number, 1))
+      works.push(() => this.review.docs.has(number) || this.review.lookAt(number, true), () => this.read(number, 1))
     }
     return works
   }

@@ -6,7 +6,7 @@ import { NotNow } from './review.js'
 import { progressOf } from './states.js'
 import { stopWalk, walk } from './walk.js'
 
-export function listen({ review, paper, boxes, documents, listing, call, held, second, many, last, place }) {
+export function listen({ review, overview, paper, boxes, documents, listing, list, finder, call, held, second, many, last, place }) {
   const on = (id, work) => the(id).addEventListener('click', act(work))
   const turn = (by) => review.turn(review.page + by)
   const step = (by) => review.step(listing.next(review.doc.doc, by))
@@ -19,7 +19,8 @@ export function listen({ review, paper, boxes, documents, listing, call, held, s
   on('mark', () => many.toggleMark())
   on('take_back', () => last.takeBack())
   on('show_many', () => many.open())
-  on('look_at_all', () => listing.lookAtAll(say))
+  on('show_finder', () => finder.open())
+  on('show_list', () => list.open())
   on('leave', () => {
     clearTimeout(place.soon)
     leave()
@@ -31,15 +32,19 @@ export function listen({ review, paper, boxes, documents, listing, call, held, s
     event.preventDefault()
     return openByNumber(review)
   }))
-  window.addEventListener('hashchange', act(() => follow(review, place)))
+  window.addEventListener('hashchange', act(() => follow(review, place, finder)))
   window.addEventListener('beforeunload', (event) => {
     if (review.unsent().length > 0) event.preventDefault()
   })
   new Keys({
     j: () => step(1),
     k: () => step(-1),
-    u: () => openUnsettled(review),
-    f: () => the('filter').focus(),
+    u: () => openUnsettled(review, overview),
+    f: () => { finder.close(); the('filter').focus() },
+    i: () => list.open(),
+    '/': () => finder.open(),
+    '.': () => finder.step(1),
+    ',': () => finder.step(-1),
     m: () => many.toggleMark(),
     x: () => many.open(),
     z: () => last.takeBack(),
@@ -112,32 +117,39 @@ async function openByNumber(review) {
   the('sheet').focus()
 }
 
-// The next document that isn't settled, as far as is known; what isn't known yet is looked at.
-async function openUnsettled(review) {
+// The next document that isn't settled. Before it is said that there is none, all are told once more.
+async function openUnsettled(review, overview) {
   const from = review.doc.doc
-  const others = review.count - 1
-  let found
-  const { done, isStopped } = await walk(others, async (k) => {
-    const number = ((from + k) % review.count) + 1
-    const doc = review.rows.get(number) ?? (await review.lookAt(number, true))
-    if (review.doc.doc !== from) return false
-    if (progressOf(doc) === 'settled') return true
-    found = number
-    return false
-  }, (k) => say(`Looking for one that isn’t settled: ${k.toLocaleString('en')} of ${others.toLocaleString('en')} documents. `
+  const found = nextUnsettled(review)
+  if (found !== undefined) return review.open(found)
+  const { blocks } = overview
+  const { isStopped } = await walk(blocks.length, async (k) => {
+    await overview.tell(blocks[k])
+    return review.doc.doc === from && nextUnsettled(review) === undefined
+  }, (k) => say(`Looking for one that isn’t settled: ${(500 * k).toLocaleString('en')} of ${review.count.toLocaleString('en')} documents. `
     + 'Escape stops.'))
   if (review.doc.doc !== from) return null
-  if (found !== undefined) return review.open(found)
-  if (isStopped) return `Stopped: the ${done.toLocaleString('en')} documents after ${from} are settled.`
-  return 'Every other document is settled.'
+  const other = nextUnsettled(review)
+  if (other !== undefined) return review.open(other)
+  return isStopped ? 'Stopped: no document that isn’t settled was told so far.' : 'Every other document is settled.'
+}
+
+function nextUnsettled(review) {
+  const from = review.doc.doc
+  for (let k = 0; k < review.count - 1; k += 1) {
+    const number = ((from + k) % review.count) + 1
+    if (progressOf(review.rows.get(number)) !== 'settled') return number
+  }
+  return undefined
 }
 
 // a link that was followed while the page stands
-async function follow(review, place) {
+async function follow(review, place, finder) {
   const wanted = placeIn(window.location.hash)
   try {
     if (wanted === null || wanted.number > review.count) throw new NotNow('The address names no document of this matter.')
     await review.open(wanted.number, wanted.page)
+    await finder.follow(wanted.find)
   } finally {
     place.keepLink(review.doc.doc, review.page)
   }

@@ -1,133 +1,116 @@
-// The list of documents. Only the rows in sight are there, and a row is asked for when it comes to rest in sight: each
-// look takes a place of the desks' journal.
+// The list of documents: what stands of each, its name, date and author. Its texts are asked for where a row rests in sight, as
+// each look takes a place of the desks' journal.
+import { FILTERS } from './filters.js'
+import { PARTS } from './names.js'
+import { Rows, piece } from './rows.js'
 import { inShort, signOf } from './states.js'
 
-const ROW = 3.1 // height of a row, in em
-const REST = 150 // milliseconds
-const SPARE = 3 // rows beyond each edge
+const HIGH = { plain: 3.1, named: 4.4 } // of a row, in em
 
 export class Documents {
-  constructor(review, listing, { list, tall, count, filter, untold, act, behind }) {
-    Object.assign(this, { review, listing, list, tall, count, untold, behind })
-    this.drawn = new Map()
+  constructor(review, listing, { list, tall, count, filter, found, names, act, behind }) {
+    Object.assign(this, { review, listing, list, count, filter, found, names })
     this.isAsking = false
-    list.addEventListener('scroll', () => this.draw())
-    new ResizeObserver(() => this.draw()).observe(list)
+    this.rows = new Rows({
+      list, tall, prefix: 'document', high: HIGH.plain, keys: listing, fill: (row, number) => this.fill(row, number),
+      rest: behind(() => this.ask()),
+    })
     tall.addEventListener('click', act((event) => this.press(event)))
     filter.addEventListener('change', () => listing.choose(filter.value))
-    listing.addEventListener('change', () => this.begin())
-    review.addEventListener('row', ({ detail }) => this.redraw(detail.doc))
-    review.addEventListener('marked', ({ detail }) => this.redraw(detail))
-    review.addEventListener('doc', ({ detail }) => this.mark(detail.doc))
+    found.addEventListener('change', () => listing.showFound(found.checked))
+    this.listen()
   }
 
-  // the list from anew: another filter, or documents that came or went
+  // those alone that the search found, or all
+  showFound(isWanted) {
+    this.found.checked = isWanted
+    this.listing.showFound(isWanted)
+  }
+
+  listen() {
+    const { review, listing, names, rows } = this
+    listing.addEventListener('change', () => this.begin())
+    listing.addEventListener('counts', () => this.showCounts())
+    for (const kind of ['begun', 'hits', 'ended']) listing.search.addEventListener(kind, () => this.offerFound())
+    review.addEventListener('row', ({ detail }) => rows.redraw(detail.doc))
+    review.addEventListener('states', ({ detail }) => detail.forEach((number) => rows.redraw(number)))
+    review.addEventListener('marked', ({ detail }) => rows.redraw(detail))
+    review.addEventListener('doc', ({ detail }) => this.mark(detail.doc))
+    names.addEventListener('chosen', () => this.begin())
+    names.addEventListener('told', ({ detail }) => rows.redraw(detail))
+  }
+
+  // without a search there is nothing to choose
+  offerFound() {
+    const isThere = this.listing.search.terms.length > 0
+    if (this.found.disabled === !isThere) return
+    this.found.disabled = !isThere
+    if (!isThere && this.found.checked) this.showFound(false)
+  }
+
   begin() {
-    for (const row of this.drawn.values()) row.remove()
-    this.drawn.clear()
-    this.tall.style.height = `${this.listing.count * ROW}em`
+    this.rows.begin(this.names.isNamed ? HIGH.named : HIGH.plain)
     this.tell()
-    this.draw()
   }
 
   tell() {
     const { listing } = this
+    const isAll = listing.filter === 'all' && !listing.isFoundOnly
     const all = this.review.count === 1 ? '1 document' : `${this.review.count.toLocaleString('en')} documents`
-    this.count.textContent = listing.filter === 'all' ? all : `${listing.count.toLocaleString('en')} of ${all}`
-    this.untold.hidden = listing.filter === 'all' || listing.untold === 0
-    this.untold.textContent = `Look at ${listing.untold.toLocaleString('en')} more`
+    this.count.textContent = isAll ? all : `${listing.count.toLocaleString('en')} of ${all}`
   }
 
-  rowHeight() {
-    return this.tall.clientHeight / Math.max(this.listing.count, 1)
-  }
-
-  // places of the list, from 1
-  inSight() {
-    const height = Math.max(this.rowHeight(), 1)
-    const first = Math.floor(this.list.scrollTop / height)
-    const last = Math.ceil((this.list.scrollTop + this.list.clientHeight) / height)
-    return { first: first + 1, last: Math.min(last, this.listing.count) }
-  }
-
-  draw() {
-    if (this.list.clientHeight === 0) return
-    const { first, last } = this.inSight()
-    const from = Math.max(1, first - SPARE)
-    const to = Math.min(this.listing.count, last + SPARE)
-    for (const [number, row] of this.drawn) {
-      const place = this.listing.placeOf(number)
-      if (place >= from && place <= to) continue
-      row.remove()
-      this.drawn.delete(number)
+  // each filter with how many documents it takes
+  showCounts() {
+    const counts = this.listing.counts()
+    if (this.filter.childElementCount === 0) this.makeFilters()
+    for (const [name, text] of FILTERS) {
+      const shown = `${text} (${counts.get(name).toLocaleString('en')})`
+      const option = this.filter.querySelector(`[value=${name}]`)
+      if (option.textContent !== shown) option.textContent = shown
     }
-    for (let place = from; place <= to; place += 1) if (!this.drawn.has(this.listing.at(place))) this.addRow(place)
-    this.askSoon()
   }
 
-  askSoon() {
-    clearTimeout(this.resting)
-    this.resting = setTimeout(this.behind(() => this.ask()), REST)
-  }
-
-  addRow(place) {
-    const number = this.listing.at(place)
-    const row = document.createElement('div')
-    row.id = `document_${number}`
-    row.dataset.number = number
-    row.setAttribute('role', 'option')
-    row.setAttribute('aria-setsize', this.listing.count)
-    row.setAttribute('aria-posinset', place)
-    row.style.top = `${(place - 1) * ROW}em`
-    this.drawn.set(number, row)
-    this.fill(row, number)
-    // in their order, for those who read the list by ear
-    const next = [...this.tall.children].find((it) => Number(it.dataset.number) > number) ?? null
-    this.tall.insertBefore(row, next)
+  makeFilters() {
+    for (const [name, text] of FILTERS) this.filter.append(new Option(text, name))
+    this.filter.value = this.listing.filter
   }
 
   fill(row, number) {
-    const doc = this.review.rows.get(number)
+    const it = this.review.rows.get(number)
     const isOpen = this.review.doc?.doc === number
-    const isMember = doc !== undefined && doc.parent !== doc.doc
+    const isMember = it !== undefined && it.parent !== it.doc
     row.className = `row${isOpen ? ' open' : ''}${isMember ? ' member' : ''}`
     row.setAttribute('aria-selected', isOpen)
-    const [sign, text] = doc === undefined ? ['', ''] : [signOf(doc), inShort(doc)]
-    const pages = doc === undefined ? '' : ` · ${doc.pages === 1 ? '1 page' : `${doc.pages} pages`}`
+    if (it === undefined) return
+    const name = this.names.of(number, 'name')
+    const rest = [this.names.of(number, 'date'), this.names.of(number, 'author')].filter((text) => text !== '')
+    const pages = it.pages === 1 ? '1 page' : `${it.pages} pages`
+    row.title = [`${number} ${name}`.trim(), ...rest].join(' · ')
     row.replaceChildren(
-      piece('sign', sign),
+      piece('sign', signOf(it)),
       piece('number', `${number}${this.review.marked.has(number) ? ' ✓ marked' : ''}`),
-      piece('pages', pages + (isMember ? ` · with ${doc.parent}` : '')),
-      piece('state', text),
+      piece('name', name === '' ? '' : ` ${name}`),
+      piece('state', inShort(it) + (it.production === null ? '' : ` · in ${it.production}`)),
+      piece('rest', [...rest, pages + (isMember ? ` · with ${it.parent}` : '')].join(' · ')),
     )
     row.children[0].setAttribute('aria-hidden', 'true')
-  }
-
-  redraw(number) {
-    const row = this.drawn.get(number)
-    if (row !== undefined) this.fill(row, number)
-    if (!this.untold.hidden) this.tell()
   }
 
   // the open document is marked, and comes into sight
   mark(number) {
     const before = this.marked
     this.marked = number
-    if (before !== undefined) this.redraw(before)
-    const place = this.listing.placeOf(number)
-    if (place !== undefined) this.bringIntoSight(place)
-    this.redraw(number)
-    if (place === undefined) this.list.removeAttribute('aria-activedescendant')
-    else this.list.setAttribute('aria-activedescendant', `document_${number}`)
-    this.askSoon() // what failed before: a desk answers now
+    if (before !== undefined) this.rows.redraw(before)
+    this.rows.makeActive(number)
+    this.rows.redraw(number)
+    this.rows.restSoon() // what failed before: a desk answers now
   }
 
-  bringIntoSight(place) {
-    const height = this.rowHeight()
-    const top = (place - 1) * height
-    const { scrollTop, clientHeight } = this.list
-    if (top < scrollTop) this.list.scrollTop = top - height
-    else if (top + height > scrollTop + clientHeight) this.list.scrollTop = top + 2 * height - clientHeight
+  // the row of the open document, in sight
+  showOpen() {
+    this.rows.draw()
+    this.rows.makeActive(this.marked)
   }
 
   press(event) {
@@ -135,42 +118,17 @@ export class Documents {
     return row === null ? null : this.review.open(Number(row.dataset.number))
   }
 
-  // Asks for the rows in sight that weren't told yet, one after another, so that what is pressed needn't wait for all.
+  // Asks for the texts of the rows in sight that weren't told yet, one after another, so that what is pressed needn't wait for all.
   async ask() {
-    if (this.isAsking) return null
+    const isWanted = this.names.fields.length === 0 || PARTS.some((part) => this.names.fieldOf(part) !== '')
+    if (this.isAsking || !isWanted) return null
     this.isAsking = true
+    const next = () => this.rows.keysInSight().find((number) => !this.names.isKnown(number))
     try {
-      for (let number = this.nextUntold(); number !== undefined; number = this.nextUntold()) await this.lookAt(number)
+      for (let number = next(); number !== undefined; number = next()) await this.names.read(number, true)
     } finally {
       this.isAsking = false
     }
     return null
   }
-
-  // why it failed may be said nowhere, so the row tells that it did
-  async lookAt(number) {
-    try {
-      await this.review.lookAt(number, true)
-    } catch (why) {
-      const row = this.drawn.get(number)
-      if (row !== undefined) row.querySelector('.state').textContent = 'no answer'
-      throw why
-    }
-  }
-
-  nextUntold() {
-    const { first, last } = this.inSight()
-    for (let place = first; place <= last; place += 1) {
-      const number = this.listing.at(place)
-      if (!this.review.rows.has(number)) return number
-    }
-    return undefined
-  }
-}
-
-function piece(name, text) {
-  const made = document.createElement('span')
-  made.className = name
-  made.textContent = text
-  return made
 }

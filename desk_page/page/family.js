@@ -1,34 +1,21 @@
-// The family of the open document, beside its number: families are produced or left out whole. Its members stand one
-// after another, and those that weren't told yet are asked for, up to a limit.
+// The family of the open document, beside its number: families are produced or left out whole. Its members stand one after
+// another.
 import { inShort, signOf } from './states.js'
 
-const MOST_ASKED = 12
-
 export class Family {
-  constructor(review, { place, act, behind }) {
+  constructor(review, { place, act }) {
     Object.assign(this, { review, place, act })
-    review.addEventListener('doc', behind(({ detail }) => this.show(detail)))
-    review.addEventListener('row', ({ detail }) => this.redraw(detail))
+    review.addEventListener('doc', ({ detail }) => this.draw(detail))
+    review.addEventListener('row', ({ detail }) => this.redraw([detail.doc]))
+    review.addEventListener('states', ({ detail }) => this.redraw(detail))
   }
 
-  async show(doc) {
-    this.draw(doc)
-    let number = doc.parent
-    for (let asked = 0; asked < MOST_ASKED && number <= this.review.count; number += 1) {
-      const known = this.review.rows.get(number)
-      if (known === undefined) asked += 1
-      const member = known ?? (await this.review.lookAt(number, true))
-      if (this.review.doc?.doc !== doc.doc || member.parent !== doc.parent) break
-    }
-    return null
+  redraw(numbers) {
+    const { doc, rows } = this.review
+    if (doc !== null && numbers.some((number) => rows.get(number).parent === doc.parent)) this.draw(doc)
   }
 
-  redraw({ parent }) {
-    const { doc } = this.review
-    if (doc !== null && parent === doc.parent) this.draw(doc)
-  }
-
-  // what is known of the family
+  // what stands of the family
   members(doc) {
     const found = []
     for (let number = doc.parent; number <= this.review.count; number += 1) {

@@ -8,6 +8,10 @@ const ROWS = [
   ['u', 'next document that isn’t settled'],
   ['o', 'open a document by its number'],
   ['f', 'which documents the list shows'],
+  ['i', 'the list: names, dates, authors, order'],
+  ['/', 'find words'],
+  ['.', 'next hit of the search'],
+  [',', 'hit before'],
   ['ArrowRight', 'next page', '→'],
   ['ArrowLeft', 'page before', '←'],
   [' ', 'read on, to the next page too', 'Space'],
@@ -49,14 +53,16 @@ const ROWS = [
 ]
 
 const ARROWS = { ArrowLeft: [-1, 0], ArrowRight: [1, 0], ArrowUp: [0, -1], ArrowDown: [0, 1] }
-const IN_LIST = { ArrowUp: 'k', ArrowDown: 'j' } // where the list of documents has the focus
+// where the list of documents, or of hits, has the focus
+const IN_LIST = { documents: { ArrowUp: 'k', ArrowDown: 'j' }, hits: { ArrowUp: ',', ArrowDown: '.' } }
 const STRIDE = 10 // pixels of the page
 
 const isText = (target) => target.matches('textarea, select, input:not([type=radio], [type=checkbox])')
 
 // what the press is among the keys of `does`
 function nameOf({ key, shiftKey, target }) {
-  if (target.matches('[role=listbox]') && key in IN_LIST) return IN_LIST[key]
+  const inList = IN_LIST[target.id]?.[key]
+  if (inList !== undefined) return inList
   if (key === ' ' && shiftKey) return 'back'
   return key.length === 1 ? key.toLowerCase() : key
 }

@@ -9,13 +9,19 @@ import { Desk, isKey } from './desk.js'
 import { Documents } from './documents.js'
 import { EntryForm } from './entry_form.js'
 import { Family } from './family.js'
+import { Finder } from './finder.js'
 import { Greys } from './greys.js'
 import { HeldFields } from './held_fields.js'
 import { LastCall } from './last_call.js'
+import { ListDialog } from './list_dialog.js'
 import { Listing } from './listing.js'
 import { Looks } from './looks.js'
 import { Many } from './many.js'
+import { Marks } from './marks.js'
+import { Me, MyName } from './me.js'
 import { act, behind, keepUnsure, reasonOf, say, the } from './messages.js'
+import { Names } from './names.js'
+import { Overview } from './overview.js'
 import { Pages } from './pages.js'
 import { Paper } from './paper.js'
 import { People } from './people.js'
@@ -23,23 +29,25 @@ import { Place } from './place.js'
 import { Productions } from './productions.js'
 import { Receiver } from './receiver.js'
 import { NotNow, Review } from './review.js'
+import { Search } from './search.js'
 import { SecondReview } from './second_review.js'
-import { inFull, lacksOf, progressOf, signOf } from './states.js'
+import { inFull, inShort, isSameRow, lacksOf, progressOf, rowOf, signOf } from './states.js'
 
 // ---- the panels
 
 const decoder = new Decoder()
 
-function build(review, place) {
+function build(review, overview, place) {
   const { looks } = review
   const paper = new Paper(review, new Greys(decoder), {
     sheet: the('sheet'), paper: the('paper'), turned: the('turned'), ink: the('ink'), over: the('over'), size: the('size'),
   })
   review.prepare = (image, doc, page) => paper.prepare(image, doc, page)
   const boxes = new Boxes(review, paper, { list: the('boxes'), basis: the('basis'), showWords: the('show_words'), act })
-  const listing = new Listing(review)
-  const documents = new Documents(review, listing, {
-    list: the('documents'), tall: the('tall'), count: the('count'), filter: the('filter'), untold: the('look_at_all'), act, behind,
+  const search = new Search(looks)
+  const { names, listing, documents, list } = buildList(review, overview, search, place)
+  const finder = new Finder(review, search, {
+    panel: the('finder'), place, marks: new Marks(review, paper, boxes, search, { behind }), names, documents, act, behind,
   })
   const call = new CallForm(review, { form: the('call'), known: the('designations'), act })
   const held = new HeldFields(review, { form: the('hold'), list: the('held'), known: the('field_names'), act })
@@ -53,7 +61,7 @@ function build(review, place) {
     refused: the('many_refused'), stop: the('stop_many'), close: the('close_many'), act,
   })
   const last = new LastCall(review)
-  new Family(review, { place: the('family'), act, behind })
+  new Family(review, { place: the('family'), act })
   new People(review.desk, {
     dialog: the('people'), form: the('person'), handed: the('handed'), newKey: the('new_key'), show: the('show_people'),
     close: the('close_people'), act,
@@ -74,15 +82,34 @@ function build(review, place) {
     ...(entry.isUnsent() ? ['the log entry'] : []),
   ]
   review.addEventListener('page', () => place.keepLinkSoon(review.doc.doc, review.page))
-  keepFilter(listing, place)
   new Ahead(review, (number, by) => listing.next(number, by))
-  return { review, paper, boxes, documents, listing, call, held, second, many, last, place }
+  return { review, overview, paper, boxes, documents, listing, list, finder, call, held, second, many, last, place }
 }
 
-// marks aren't kept, so that a list of those that are marked isn't either
-function keepFilter(listing, place) {
-  listing.choose(place.kept.filter === 'marked' ? 'all' : place.kept.filter)
-  the('filter').value = listing.filter
+function buildList(review, overview, search, place) {
+  const me = new Me(review, place)
+  const names = new Names(review.looks, place)
+  const listing = new Listing(review, { names, search, me })
+  const documents = new Documents(review, listing, {
+    list: the('documents'), tall: the('tall'), count: the('count'), filter: the('filter'), found: the('found_only'), names, act, behind,
+  })
+  const myName = new MyName(me, review.looks, { at: the('filter').closest('p'), behind })
+  listing.addEventListener('change', () => myName.show(listing.filter === 'mine'))
+  overview.inSight = () => documents.rows.keysInSight()
+  overview.addEventListener('fault', () => {
+    the('stale').hidden = overview.fault === null
+    the('stale').textContent = overview.fault === null ? '' : `The list isn’t told anew: ${reasonOf(overview.fault)}`
+  })
+  review.addEventListener('states', () => showOutdated(review))
+  keepList(listing, place)
+  return { names, listing, documents, list: new ListDialog(review, listing, { names, place, say, act }) }
+}
+
+// Marks aren't kept, so that a list of those that are marked isn't either; an order by a field would take a call each.
+function keepList(listing, place) {
+  const { filter = 'all', order = 'number', isBackward = false } = place.kept
+  if (['number', 'state', 'changed'].includes(order)) listing.sort(order, isBackward)
+  listing.choose(filter === 'marked' ? 'all' : filter)
   the('filter').addEventListener('change', () => place.keep({ filter: listing.filter }))
 }
 
@@ -94,6 +121,14 @@ function showHead(doc) {
   the('state').className = progressOf(doc)
   const lacks = lacksOf(doc)
   the('lacks').textContent = lacks.length === 0 ? '' : `Needs ${lacks.join(', ')}.`
+  the('outdated').hidden = true
+}
+
+// what was told of many documents later than the open one was
+function showOutdated({ doc, rows }) {
+  const now = doc === null ? null : rows.get(doc.doc)
+  the('outdated').hidden = now === null || isSameRow(rowOf(doc, now), now)
+  if (!the('outdated').hidden) the('outdated').textContent = `It isn’t so any more: ${inShort(now)}. Look again (L).`
 }
 
 async function showPlace(review, image) {
@@ -112,21 +147,25 @@ async function enter(key) {
   if (!isKey(key)) throw new NotNow('A key has letters, digits and signs of a plain keyboard alone.')
   const desk = new Desk(key)
   const review = new Review(desk, new Pages(desk, decoder), new Looks(desk))
+  const overview = new Overview(review)
   // the panels are put together once, when a desk has taken the key
   try {
-    await review.countDocuments()
+    await overview.tellAll((count) => { the('denied').textContent = `${count.toLocaleString('en')} documents so far.` })
   } catch (why) {
     if (why.rule !== 'RoleRefused') throw why
     return enterAsReceiver(desk)
   }
   const place = await Place.of(key)
-  const { number, page } = place.begin()
+  const { number, page, find } = place.begin()
   the('enter').hidden = true
   the('room').hidden = false
-  listen(build(review, place))
+  const panels = build(review, overview, place)
+  listen(panels)
+  overview.begin()
   if (review.count === 0) throw new NotNow('The matter has no documents yet.')
   await review.open(Math.min(number, review.count), page)
   the('sheet').focus()
+  await panels.finder.follow(find)
   return null
 }
 

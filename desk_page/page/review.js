@@ -1,9 +1,12 @@
 // The review as it stands in this window: which document and page are open, and what the desk told of them. It tells the
-// panels by events: `doc` when the open document was looked at, `page` when a page was read, `row` for any document told,
-// `aged` when what stands was told a while ago, `called` when calls were made, `unsure` when a call may have been made or
-// not, and when its document was looked at again.
+// panels by events: `doc` when the open document was looked at, `page` when a page was read, `row` for any document told
+// whole, `states` with the numbers of those of which something else stands than was known, `aged` when what stands was told
+// a while ago, `called` when calls were made, `unsure` when a call may have been made or not, and when its document was
+// looked at again.
 import { changeInWords, isAlike } from './changes.js'
 import { NoAnswer } from './desk.js'
+import { isSameRow, rowOf } from './states.js'
+import { Words } from './words.js'
 
 // The window isn't ready for what was pressed.
 export class NotNow extends Error {}
@@ -23,10 +26,13 @@ export class Review extends EventTarget {
     this.page = 0 // the open page, from 1
     this.image = null // its pixels, or why they couldn't be read
     this.wanted = null // what is being opened
-    this.rows = new Map() // each document told, by its number
-    this.times = new Map() // when it was told
+    this.rows = new Map() // what stands of each document, by its number
+    this.docs = new Map() // the documents that were told whole, as long as they stand so
+    this.times = new Map() // when they were
+    this.changes = new Map() // for each document that was seen to change, which change of this window it was
+    this.latest = 0
     this.seen = new Map() // the pages that were shown of each document
-    this.words = new Map()
+    this.words = new Words(desk)
     this.marked = new Set() // the documents that were marked for a call
     this.isShown = false // the open page stands on the screen, so that calls may be made
     this.unsure = new Set() // the documents with a call that may have been made or not
@@ -41,36 +47,31 @@ export class Review extends EventTarget {
     this.dispatchEvent(new CustomEvent(name, { detail }))
   }
 
-  // No route lists the documents. The last one is found by doubling and halving.
-  async countDocuments() {
-    let low = 0
-    let high = 1
-    while (await this.isThere(high)) [low, high] = [high, high * 2]
-    while (high - low > 1) {
-      const middle = (low + high) >> 1
-      if (await this.isThere(middle)) low = middle
-      else high = middle
-    }
-    this.count = low
-  }
-
-  async isThere(number) {
-    try {
-      await this.lookAt(number)
-      return true
-    } catch (why) {
-      if (why.rule === 'NoDocument') return false
-      throw why
-    }
-  }
-
   async lookAt(number, isBehind = false) {
     const doc = await this.desk.see(`/docs/${number}`, isBehind)
-    this.rows.set(number, doc)
+    this.noteRow(rowOf(doc, this.rows.get(number)))
+    this.docs.set(number, doc)
     this.times.set(number, performance.now())
     this.tell('row', doc)
     if (this.unsure.delete(number)) this.tell('unsure', { docs: [...this.unsure], seen: number })
     return doc
+  }
+
+  // What was told of many documents, each later than what was told of it before.
+  noteStates(rows) {
+    const changed = rows.filter((row) => this.noteRow(row)).map(({ doc }) => doc)
+    this.count = Math.max(this.count, ...changed)
+    if (changed.length > 0) this.tell('states', changed)
+  }
+
+  // Whether this wasn't known. A document that was told whole otherwise isn't so any more.
+  noteRow(row) {
+    const before = this.rows.get(row.doc)
+    if (before !== undefined && isSameRow(before, row)) return false
+    this.rows.set(row.doc, row)
+    this.docs.delete(row.doc)
+    if (before !== undefined) this.changes.set(row.doc, this.latest += 1)
+    return true
   }
 
   // Opens a document at a page. Where another is asked for meanwhile, the last one asked for is opened.
@@ -87,7 +88,7 @@ export class Review extends EventTarget {
     if (number === undefined || number === this.doc?.doc) return
     this.warn(number)
     const isAhead = this.pages.known(number, 1) !== undefined
-    await this.go({ number, page: 1, known: isAhead ? this.rows.get(number) ?? null : null, isStep: true })
+    await this.go({ number, page: 1, known: isAhead ? this.docs.get(number) ?? null : null, isStep: true })
   }
 
   // What was typed and not sent is left at the second press alone.
@@ -241,17 +242,13 @@ export class Review extends EventTarget {
     throw new NotNow(`Document ${doc} is confirmed by staff ${confirmer}, and this would undo it. Do it again to go on.`)
   }
 
-  // the words of a page; those of pages that aren't open aren't kept
-  async readWords(doc = this.doc.doc, page = this.page, isBehind = false) {
-    const path = `/docs/${doc}/pages/${page}/words`
-    if (this.words.has(path)) return this.words.get(path)
-    const words = await this.desk.see(path, isBehind)
-    if (!isBehind) this.words.set(path, words)
-    return words
+  // the words of a page, of the open one or another
+  readWords(doc = this.doc.doc, page = this.page, isBehind = false) {
+    return this.words.read(doc, page, isBehind)
   }
 
   // the words of the open page where they were asked for before
   knownWords() {
-    return this.words.get(`/docs/${this.doc.doc}/pages/${this.page}/words`) ?? null
+    return this.words.known(this.doc.doc, this.page)
   }
 }

@@ -17,6 +17,18 @@ export function progressOf(doc) {
 
 export const signOf = (doc) => SIGNS[progressOf(doc)]
 
+// What stands of a document without its boxes, fields and entry, as a desk tells it of many. A document that was told whole
+// has no word of a production: it stands in the one that was told before, for good.
+export function rowOf(doc, before) {
+  const { parent, pages, responsive, treatment, designation, editor, confirmer } = doc
+  return {
+    doc: doc.doc, parent, pages, responsive, treatment, designation, editor, confirmer, boxes: doc.boxes.length, held: doc.held.length,
+    entry: doc.entry !== null, production: before?.production ?? null,
+  }
+}
+
+export const isSameRow = (a, b) => Object.keys(a).every((name) => a[name] === b[name])
+
 // a few words for a row of the list
 export function inShort(doc) {
   if (doc.editor === 0) return 'not called'

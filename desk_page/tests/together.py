@@ -1,6 +1,6 @@
 #!/usr/bin/env python3
 """Several people at the page, and much at once: two windows at one document, held fields by their numbers, calls for many
-documents and the last one taken back, a search that is stopped, filters, links, the place that is kept, zoom and turns, the
+documents and the last one taken back, the next one that isn't settled, filters, links, the place that is kept, zoom and turns, the
 system's colours, the names of all controls. Over the program, where it is given, else over the stand-in.
 
     together.py SCRATCH SHOTS [PROGRAM]     pictures of the screens go into the folder SHOTS
@@ -243,24 +243,20 @@ def try_list(marlow, office, shots):
     check("another person of the tab has a place of their own", marlow.text("title") == "Document 1", marlow.text("title"))
 
 
-SLOW = """window.whole ??= window.fetch
-window.fetch = async (...words) => { await new Promise((go) => setTimeout(go, 300)); return whole(...words) }"""
-
-
-def try_search(person, office):
+def try_unsettled(person, office):
     for number in range(1, 13):
         office.ask(MARLOW, "POST", f"/docs/{number}/back", {})
         office.ask(MARLOW, "POST", f"/docs/{number}/call", dict(PRODUCE, treatment="Redact" if told(office, number)["boxes"] else "Produce"))
         for box in told(office, number)["boxes"]:
             office.ask(MARLOW, "POST", f"/docs/{number}/unbox", dict(num=box["num"]))
         office.ask(MARLOW, "POST", f"/docs/{number}/call", PRODUCE)
-    person.go(office.url)
-    person.js(SLOW)
-    person.come(ELLIS)
-    person.says("U says how far it is", lambda: person.key("u"), "of 11 documents. Escape stops.")
-    person.says("and stops at Escape", lambda: person.key("Escape"), "Stopped: the ")
-    person.js("window.fetch = window.whole")
-    person.says("else it tells that all are settled", lambda: person.key("u"), "Every other document is settled.")
+    person.enter(office.url, ELLIS)
+    office.ask(MARLOW, "POST", "/docs/6/call", dict(PRODUCE, treatment="Withhold-WP"))
+    person.key("u")
+    person.title(6)
+    check("U opens one that isn't settled, though the list didn't tell it yet", "Withhold WP" in person.text("state"), person.text("state"))
+    office.ask(MARLOW, "POST", "/docs/6/call", PRODUCE)
+    person.says("and tells where all are settled", lambda: person.key("u"), "Every other document is settled.")
 
 
 # ---- the view
@@ -375,7 +371,7 @@ def main():
         try_many(marlow, office, shots)
         try_last(ellis, marlow, office)
         try_list(marlow, office, shots)
-        try_search(ellis, office)
+        try_unsettled(ellis, office)
         try_view(ellis, shots)
         try_colours(ellis, shots)
         try_names(ellis)

@@ -30,14 +30,15 @@ def emptied(folder):
         os.mkdir(folder)
 
 
-def run(command):
-    """The seconds of processor time, of its user part and of wall time, and the peak memory in MB."""
+def run(command, due=0, folder=None):
+    """The seconds of processor time, of its user part and of wall time, and the peak memory in MB, of a command that has to end with
+    this status, in a folder."""
     start = time.monotonic()
-    child = subprocess.Popen(command, stdout=subprocess.DEVNULL)
+    child = subprocess.Popen(command, stdout=subprocess.DEVNULL, cwd=folder)
     _, status, used = os.wait4(child.pid, 0)
     wall = time.monotonic() - start
     child.returncode = os.waitstatus_to_exitcode(status)
-    if child.returncode != 0:
+    if child.returncode != due:
         sys.exit(f"{os.path.basename(sys.argv[0])}: this failed: {' '.join(command)}")
     return used.ru_utime + used.ru_stime, used.ru_utime, wall, used.ru_maxrss / 1024
 

@@ -1,12 +1,12 @@
 // What is pressed, by the mouse or by keys, and what it does.
 import { Keys, listKeys } from './keys.js'
-import { act, asItStands, behind, say, the } from './messages.js'
+import { act, asItStands, say, the } from './messages.js'
 import { forgetLink, placeIn } from './place.js'
 import { NotNow } from './review.js'
 import { progressOf } from './states.js'
 import { stopWalk, walk } from './walk.js'
 
-export function listen({ review, overview, paper, boxes, documents, listing, list, finder, call, held, second, many, last, place }) {
+export function listen({ review, overview, paper, boxes, documents, listing, list, finder, call, second, many, last, place }) {
   const on = (id, work) => the(id).addEventListener('click', act(work))
   const turn = (by) => review.turn(review.page + by)
   const step = (by) => review.step(listing.next(review.doc.doc, by))
@@ -87,7 +87,6 @@ export function listen({ review, overview, paper, boxes, documents, listing, lis
     leaveField: () => the('sheet').focus(),
   }, boxes, act)
   documents.begin()
-  behind(() => held.readNames())()
 }
 
 function focusOn(field) {

@@ -22,11 +22,13 @@ import { Me, MyName } from './me.js'
 import { act, behind, keepUnsure, reasonOf, say, the } from './messages.js'
 import { Names } from './names.js'
 import { Overview } from './overview.js'
+import { OutgoingPages } from './outgoing_pages.js'
 import { Pages } from './pages.js'
 import { Paper } from './paper.js'
 import { People } from './people.js'
 import { Place } from './place.js'
 import { Productions } from './productions.js'
+import { makeProductionsDialog } from './productions_dialog.js'
 import { Receiver } from './receiver.js'
 import { NotNow, Review } from './review.js'
 import { Search } from './search.js'
@@ -36,6 +38,7 @@ import { inFull, inShort, isSameRow, lacksOf, progressOf, rowOf, signOf } from '
 // ---- the panels
 
 const decoder = new Decoder()
+const productionsDialog = makeProductionsDialog()
 
 function build(review, overview, place) {
   const { looks } = review
@@ -50,11 +53,11 @@ function build(review, overview, place) {
     panel: the('finder'), place, marks: new Marks(review, paper, boxes, search, { behind }), names, documents, act, behind,
   })
   const call = new CallForm(review, { form: the('call'), known: the('designations'), act })
-  const held = new HeldFields(review, { form: the('hold'), list: the('held'), known: the('field_names'), act })
+  const held = new HeldFields(review, { form: the('hold'), list: the('held'), act, behind })
   const entry = new EntryForm(review, { form: the('entry'), act })
   const second = new SecondReview(review, {
     dialog: the('ask'), summary: the('asked'), yes: the('yes'), no: the('no'),
-    confirm: the('confirm'), back: the('back'), heldInWords: (doc) => held.inWords(doc), act,
+    confirm: the('confirm'), back: the('back'), heldInLines: (doc) => held.inLines(doc), act,
   })
   const many = new Many(review, {
     dialog: the('many'), form: the('calls'), family: the('of_family'), marked: the('of_marked'), told: the('many_told'),
@@ -62,15 +65,11 @@ function build(review, overview, place) {
   })
   const last = new LastCall(review)
   new Family(review, { place: the('family'), act })
-  new People(review.desk, {
+  new People(review, {
     dialog: the('people'), form: the('person'), handed: the('handed'), newKey: the('new_key'), show: the('show_people'),
     close: the('close_people'), act,
   })
-  new Productions(review, {
-    dialog: the('productions'), form: the('freeze'), find: the('find'), told: the('frozen'), items: the('items'),
-    fields: the('chosen_fields'), show: the('show_productions'), close: the('close_productions'),
-    known: the('known_productions'), names: () => held.offered, act,
-  })
+  new Productions(review, productionsDialog, { pages: new OutgoingPages(review, { decoder, act }), show: the('show_productions'), act })
   review.addEventListener('doc', ({ detail }) => showHead(detail))
   review.addEventListener('unsure', ({ detail }) => keepUnsure(detail))
   review.addEventListener('aged', behind(() => review.refresh()))
@@ -83,7 +82,7 @@ function build(review, overview, place) {
   ]
   review.addEventListener('page', () => place.keepLinkSoon(review.doc.doc, review.page))
   new Ahead(review, (number, by) => listing.next(number, by))
-  return { review, overview, paper, boxes, documents, listing, list, finder, call, held, second, many, last, place }
+  return { review, overview, paper, boxes, documents, listing, list, finder, call, second, many, last, place }
 }
 
 function buildList(review, overview, search, place) {

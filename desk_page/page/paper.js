@@ -12,6 +12,9 @@ const MOST_SIDE = 16384
 // what the choice of a size gives, in points of the screen for a pixel of the page
 const STEPS = [0.125, 0.25, 0.33, 0.5, 0.67, 1, 1.5, 2, 3, 4]
 
+// the largest scale of a canvas's cells to a page's pixels
+export const mostScale = (width, height) => Math.min(1, MOST_SIDE / Math.max(width, height), Math.sqrt(MOST_CELLS / (width * height)))
+
 export function shape(name, attributes, text) {
   const made = document.createElementNS(SVG, name)
   for (const [key, value] of Object.entries(attributes)) made.setAttribute(key, value)
@@ -94,7 +97,7 @@ export class Paper {
   layoutOf(image, turns) {
     const { width, height } = image
     const points = window.devicePixelRatio
-    const most = Math.min(1, MOST_SIDE / Math.max(width, height), Math.sqrt(MOST_CELLS / (width * height)))
+    const most = mostScale(width, height)
     const wanted = this.wantedScale(image, turns)
     const fine = Math.min(wanted * points, most)
     const across = Math.max(1, Math.round(width * fine))

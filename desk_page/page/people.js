@@ -1,6 +1,8 @@
-// The lead takes people in. The page makes a key, shows it once, and sends its SHA-256: the desks never have the key before
-// its owner comes with it, and nobody can read it out of the matter.
+// Who is there, and with which role. The lead takes people in: the page makes a key, shows it once, and sends its SHA-256, so
+// that the desks never have the key before its owner comes with it, and nobody can read it out of the matter.
 import { digestOfText } from './digest.js'
+import { made } from './elements.js'
+import { learnStaff } from './staff.js'
 
 const LETTERS = 'abcdefghijkmnpqrstuvwxyz23456789' // 32, without l and o, which look like 1 and 0
 const GROUPS = 5 // of five letters: 125 bits
@@ -13,15 +15,34 @@ function makeKey() {
 }
 
 export class People {
-  constructor(desk, { dialog, form, handed, newKey, show, close, act }) {
-    Object.assign(this, { desk, form, handed, newKey })
-    show.addEventListener('click', () => dialog.showModal())
+  constructor({ desk, looks }, { dialog, form, handed, newKey, show, close, act }) {
+    Object.assign(this, { desk, looks, form, handed, newKey })
+    this.rows = made('tbody')
+    dialog.prepend(made('h2', {}, 'People'), made('table', { id: 'staff', class: 'listed' },
+      made('thead', {}, made('tr', {}, ...['Number', 'Name', 'Role'].map((name) => made('th', {}, name)))), this.rows))
+    show.addEventListener('click', act(() => {
+      dialog.showModal()
+      return this.list().catch((why) => this.fail(why))
+    }))
     close.addEventListener('click', () => dialog.close())
     dialog.addEventListener('close', () => this.clear())
     form.addEventListener('submit', act((event) => {
       event.preventDefault()
       return this.add()
     }))
+  }
+
+  async list() {
+    const people = await this.looks.staff()
+    learnStaff(people)
+    this.rows.replaceChildren(...people.map(({ staff, name, role }) =>
+      made('tr', {}, ...[staff, name, role].map((text) => made('td', {}, String(text))))))
+  }
+
+  // the dialog stands before what is said on the page
+  fail(why) {
+    this.tell(`✗ ${why.message}`)
+    throw why
   }
 
   clear() {
@@ -43,10 +64,9 @@ export class People {
       const { staff } = await this.desk.make('/staff', { name: name.value, role: role.value, digest }, UNKNOWN)
       this.tell(`${name.value} is staff ${staff}. Hand this key over; it is shown this once:`, key)
     } catch (why) {
-      // the dialog stands before what is said on the page
-      this.tell(`✗ ${why.message}`)
-      throw why
+      this.fail(why)
     }
     this.form.reset()
+    await this.list().catch(() => {}) // the key stays shown, and the list comes when the dialog is opened again
   }
 }

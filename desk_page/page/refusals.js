@@ -1,5 +1,6 @@
 // Refusals in words, for the one who made the call: what is wrong, and what to do. The names are those of docs/STATUSES.md
 // and docs/FORMATS.md (bp_web).
+import { whoIs } from './staff.js'
 
 const MEANINGS = {
   KeyUnknown: 'Nobody of the staff has this key. See that it was typed whole; else the lead has to give you one.',
@@ -34,7 +35,7 @@ const MEANINGS = {
   FieldChoice: 'A field is chosen twice, or has the name of a column that each volume has.',
   TermRefused: 'A search takes 1 to 8 words in turn, each of 1 to 200 bytes and without signs that don’t print.',
   NoProduction: 'No production has this ID. Capital and small letters count.',
-  StaffThere: 'The key belongs to staff {a} already. Take another key.',
+  StaffThere: 'The key belongs to {who} already. Take another key.',
   MatterFull: 'The matter is full: it takes no more of this kind.',
   HeadRefused: 'The desk couldn’t read the request. Tell the one who looks after the desks.',
   BodyRefused: 'The desk couldn’t read what was sent. Tell the one who looks after the desks.',
@@ -50,7 +51,7 @@ const MEANINGS = {
 // What a refusal of the desk says: { name, a, .. }.
 export function inWords({ name, a }) {
   const meaning = MEANINGS[name] ?? 'The desk refused this.'
-  return `${meaning.replace('{a}', a.toLocaleString('en'))} (${name})`
+  return `${meaning.replace('{a}', a.toLocaleString('en')).replace('{who}', whoIs(a))} (${name})`
 }
 
 // Answers that nginx made because none of a desk came, by their status.

@@ -5,6 +5,7 @@
 // looked at again.
 import { changeInWords, isAlike } from './changes.js'
 import { NoAnswer } from './desk.js'
+import { knowStaff, whoIs } from './staff.js'
 import { isSameRow, rowOf } from './states.js'
 import { Words } from './words.js'
 
@@ -49,6 +50,7 @@ export class Review extends EventTarget {
 
   async lookAt(number, isBehind = false) {
     const doc = await this.desk.see(`/docs/${number}`, isBehind)
+    await knowStaff(this.looks, doc.editor, doc.confirmer)
     this.noteRow(rowOf(doc, this.rows.get(number)))
     this.docs.set(number, doc)
     this.times.set(number, performance.now())
@@ -239,7 +241,7 @@ export class Review extends EventTarget {
     this.undoing = null
     if (confirmer === 0 || isWarned || what === 'confirm' || what === 'back') return
     this.undoing = doc
-    throw new NotNow(`Document ${doc} is confirmed by staff ${confirmer}, and this would undo it. Do it again to go on.`)
+    throw new NotNow(`Document ${doc} is confirmed by ${whoIs(confirmer)}, and this would undo it. Do it again to go on.`)
   }
 
   // the words of a page, of the open one or another

@@ -3,9 +3,9 @@ import { TREATMENTS, inFull } from './states.js'
 import { NotNow } from './review.js'
 
 export class SecondReview {
-  // `heldInWords` says what is held back of a document
-  constructor(review, { dialog, summary, yes, no, confirm, back, heldInWords, act }) {
-    Object.assign(this, { review, dialog, summary, yes, heldInWords, work: null })
+  // `heldInLines` tells what is held back of a document, by name and value
+  constructor(review, { dialog, summary, yes, no, confirm, back, heldInLines, act }) {
+    Object.assign(this, { review, dialog, summary, yes, heldInLines, work: null })
     confirm.addEventListener('click', act(() => this.askConfirm()))
     back.addEventListener('click', act(() => this.askBack()))
     no.addEventListener('click', () => dialog.close())
@@ -25,16 +25,16 @@ export class SecondReview {
     }))
     this.yes.textContent = yes
     this.work = work
-    this.dialog.showModal()
+    if (!this.dialog.open) this.dialog.showModal()
     this.yes.focus()
   }
 
   // what is to be confirmed, for one more look
-  lines(doc) {
+  async lines(doc) {
     const lines = [inFull(doc)]
     const boxes = doc.boxes.map(({ num, page, basis }) => `${num} on page ${page} (${basis})`)
     if (boxes.length > 0) lines.push(`Boxes: ${boxes.join(', ')}.`)
-    if (doc.held.length > 0) lines.push(`Held back: ${this.heldInWords(doc)}.`)
+    lines.push(...(await this.heldInLines(doc)).map((line) => `Held back: ${line}`))
     if (doc.entry !== null) {
       const { date, author, recipients, description } = doc.entry
       lines.push(`Log entry: ${date}, ${author} to ${recipients}: ${description}`)
@@ -49,11 +49,13 @@ export class SecondReview {
     return Array.from({ length: doc.pages }, (_, k) => k + 1).filter((page) => !seen.has(page))
   }
 
-  askConfirm() {
+  async askConfirm() {
     const { doc, isShown } = this.review
     if (doc === null || !isShown) throw new NotNow('The document isn’t on the screen yet. Press again.')
     const title = `Confirm document ${doc.doc}: ${TREATMENTS[doc.treatment]}?`
-    this.ask(title, this.lines(doc), 'Confirm', () => this.confirm(doc))
+    const lines = await this.lines(doc)
+    // another document may have been opened meanwhile
+    if (this.review.doc.doc === doc.doc) this.ask(title, lines, 'Confirm', () => this.confirm(doc))
   }
 
   async confirm(doc) {

@@ -1,4 +1,5 @@
 // What stands of a document, in words and with a sign; nothing of it is told by colour alone.
+import { whoIs } from './staff.js'
 
 export const TREATMENTS = {
   Produce: 'Produce', Redact: 'Redact', 'Withhold-AC': 'Withhold AC', 'Withhold-WP': 'Withhold WP',
@@ -40,8 +41,8 @@ export function inShort(doc) {
 export function inFull(doc) {
   if (doc.editor === 0) return 'Not called yet.'
   const responsive = doc.responsive ? 'responsive' : 'not responsive'
-  const called = `${TREATMENTS[doc.treatment]}, ${responsive}; last edited by staff ${doc.editor}`
-  if (doc.confirmer !== 0) return `${called}, confirmed by staff ${doc.confirmer}.`
+  const called = `${TREATMENTS[doc.treatment]}, ${responsive}; last edited by ${whoIs(doc.editor)}`
+  if (doc.confirmer !== 0) return `${called}, confirmed by ${whoIs(doc.confirmer)}.`
   return progressOf(doc) === 'first' ? `${called}, not confirmed.` : `${called}.`
 }
 

@@ -183,7 +183,7 @@ class Chromium:
         """A key pressed and let go. Modifiers: 1 Alt, 2 Ctrl, 8 Shift."""
         text = {"Enter": "\r"}.get(key, key if len(key) == 1 else "")
         codes = {"Enter": 13, "Escape": 27, "Delete": 46, "ArrowLeft": 37, "ArrowUp": 38, "ArrowRight": 39, "ArrowDown": 40,
-                 "Tab": 9, " ": 32}
+                 "Tab": 9, " ": 32, "Backspace": 8}
         same = dict(key=key, modifiers=modifiers, windowsVirtualKeyCode=codes.get(key, ord(key[0].upper())))
         self("Input.dispatchKeyEvent", type="keyDown", **same, **({"text": text} if text and modifiers != 2 else {}))
         self("Input.dispatchKeyEvent", type="keyUp", **same)

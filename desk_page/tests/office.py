@@ -137,12 +137,7 @@ class Office:
              "-keyout", "key.pem", "-out", "cert.pem"], cwd=self.folder, check=True, capture_output=True)
 
     def put_page(self):
-        page = os.path.join(self.folder, "page")
-        shutil.copytree(os.path.join(HERE, "..", "page"), page)
-        fields = subprocess.run([sys.executable, os.path.join(HERE, "..", "field_names.py"), os.path.join(BATCH, "load.dat")],
-                                capture_output=True, check=True).stdout
-        with open(os.path.join(page, "fields.json"), "wb") as file:
-            file.write(fields)
+        shutil.copytree(os.path.join(HERE, "..", "page"), os.path.join(self.folder, "page"))
 
     def site(self):
         """The configuration with what an office changes of it."""

@@ -124,6 +124,13 @@ class Person(Chromium):
             self.key("Escape")
         self.does(lambda: self.press(keys), "The call stands.")
 
+    def hold(self, name, basis):
+        self.key("h")
+        choices = f"const {{ field, basis }} = document.getElementById('hold').elements; field.value = {name!r}; basis.value = {basis!r}"
+        self.js(f"(() => {{ {choices} }})()")
+        self.click("#hold > button")
+        self.key("Escape")
+
     def size(self, value):
         self.js(f"(() => {{ const it = document.getElementById('size'); it.value = {value!r};"
                 " it.dispatchEvent(new Event('change')) })()")

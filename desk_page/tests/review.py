@@ -14,11 +14,6 @@ import time
 from office import BATCH, ELLIS, LEAD, MARLOW, TOP, Office
 from person import CTRL, READ, Person, canvas_is, check, finish
 
-with open(os.path.join(BATCH, "load.dat"), encoding="utf-8-sig") as dat:
-    FIELDS = [name.strip("þ") for name in dat.readline().rstrip("\r\n").split("\x14")]
-AUTHOR = [name for name in FIELDS if name not in ("BEGDOC", "ENDDOC", "BEGATTACH", "ENDATTACH")].index("AUTHOR") + 1
-
-
 # ---- what is tried
 
 
@@ -153,25 +148,33 @@ def words_taken():
     return [f"takes {count(box)} words" for box in ((1420, 460, 680, 60), (325, 950, 1900, 180))]
 
 
-def hold(person, name, basis):
-    person.key("h")
-    person.type(name)
-    person.js(f"document.querySelector('#hold').elements.basis.value = {basis!r}")
-    person.key("Enter")
+def try_fields(person, shots):
+    """Fields as the batch has them; a held one is told by its name, with the value that it holds back."""
+    values = values_of(5)
+    person.until("document.querySelectorAll('#all_fields tbody tr').length > 0")
+    shown = person.js("Array.from(document.querySelectorAll('#all_fields tbody tr'), (it) => Array.from(it.cells, (cell) => cell.textContent))")
+    check("each field and value of the document", shown == [list(pair) for pair in values.items()], shown)
+    choices = person.js("Array.from(document.getElementById('hold').elements.field.options, (it) => it.value)")
+    check("what may be held back are the matter's fields", choices == ["", *values], choices)
+    person.says("a field has to be chosen", lambda: person.hold("", "PI"), "Choose a field first")
+    person.says("a field held back", lambda: person.hold("AUTHOR", "AC"), "AUTHOR is held back. Held now: AUTHOR (AC).")
+    person.until("document.querySelectorAll('#held button').length === 1")
+    check("by its name and value in the list", person.text("held") == f"AUTHOR AC, attorney-client: {values['AUTHOR']}Free", person.text("held"))
+    person.says("and freed", lambda: person.click("#held button"), "AUTHOR is freed. Held still: no field.")
+    person.does(lambda: person.hold("AUTHOR", "PI"), "AUTHOR is held back")
+    person.says("once more it changes nothing", lambda: person.hold("AUTHOR", "PI"), "Nothing changed: AUTHOR was held back for PI before")
+    person.click("#all_fields summary")
+    person.shot(os.path.join(shots, "fields.png"))
+    person.click("#all_fields summary")
+    person.key("Escape")
 
 
-def try_fields(person):
-    """A held field is told by its number; its name stands beside it where the desk told it here."""
-    person.says("a field that isn't there", lambda: hold(person, "Author", "PI"), "no field of this name")
-    person.js("document.querySelector('#hold').elements.field.value = ''")
-    person.key("Escape")
-    person.says("a field held back", lambda: hold(person, "AUTHOR", "AC"), f"AUTHOR is held back, as field {AUTHOR}.")
-    check("by its number and name in the list", f"Field {AUTHOR}, AUTHOR: AC" in person.text("held"), person.text("held"))
-    person.says("and freed", lambda: person.click("#held button"), f"AUTHOR is freed: it was field {AUTHOR}.")
-    person.does(lambda: hold(person, "AUTHOR", "PI"), "AUTHOR is held back")
-    person.key("Escape")
-    person.says("once more it changes nothing", lambda: hold(person, "AUTHOR", "PI"), "Nothing changed: AUTHOR was held back for PI before")
-    person.key("Escape")
+def values_of(number):
+    """The fields of a document by the batch's DAT."""
+    with open(os.path.join(BATCH, "load.dat"), encoding="utf-8-sig") as file:
+        rows = [[value.strip("þ").replace("®", "\n") for value in line.rstrip("\r\n").split("\x14")] for line in file if line.strip()]
+    apart = ("BEGDOC", "ENDDOC", "BEGATTACH", "ENDATTACH")
+    return {name: value for name, value in zip(rows[0], rows[number]) if name not in apart}
 
 
 def try_note(person, shots):
@@ -222,7 +225,7 @@ def try_second(person, office, shots):
             person.shot(os.path.join(shots, "confirm.png"))
             check("every page was looked at", "looked" not in person.text("asked"), person.text("asked"))
         person.says(f"document {number} confirmed", lambda: person.key("Enter"), f"Document {number} is confirmed.")
-    check("by the second person", "confirmed by staff 3" in person.text("state"), person.text("state"))
+    check("by the second person", "last edited by Ellis, confirmed by Marlow" in person.text("state"), person.text("state"))
     person.says("a call on what is confirmed waits for a second press", lambda: person.key("r"), "would undo it")
     for page in (3, 2):
         person.turn(page, 4, "ArrowLeft")
@@ -231,7 +234,7 @@ def try_second(person, office, shots):
     x, y = person.at(1200, 1000)
     person.says("a click that trembles moves no box", lambda: person.drag((x, y), (x + 2, y + 1)), "Box 1 is chosen")
     person.says("a box that is moved waits too", lambda: person.drag((x, y), (x + 40, y)), "would undo it")
-    check("and stands where it stood", "confirmed by staff 3" in person.text("state") and person.told_box(1) == (430, 662), person.boxes())
+    check("and stands where it stood", "confirmed by Marlow" in person.text("state") and person.told_box(1) == (430, 662), person.boxes())
     person.open(11)
     person.key("s")
     person.until("document.getElementById('ask').open")
@@ -356,10 +359,10 @@ def try_secrets(person, key, office):
     check("nothing that the browser or its policy refused", not person.log, person.log)
 
 
-def ask_production(person, words):
-    """Presses Freeze, and waits for what the dialog tells."""
+def ask_production(person, button, words):
+    """Presses Plan or Freeze, and waits for what the dialog tells."""
     try:
-        person.does(lambda: person.click("#freeze > button"), words, "frozen")
+        person.does(lambda: person.click(button), words, "frozen")
         return True
     except RuntimeError:
         return False
@@ -367,18 +370,12 @@ def ask_production(person, words):
 
 def open_productions(person):
     person.click("#show_productions")
-    person.until("document.getElementById('productions').open")
+    person.until("document.getElementById('productions').open && document.querySelectorAll('#chosen_fields input').length > 0")
 
 
-def try_productions(person, ellis, office, shots):
-    """The lead has the decisions frozen; what is in the way is told, and a reviewer may not."""
-    open_productions(ellis)
-    for name, text in (("id", "R-1"), ("volume", "V"), ("prefix", "P")):
-        ellis.click(f"#freeze [name={name}]")
-        ellis.type(text)
-    ask_production(ellis, "Press Freeze again")
-    check("a reviewer's request is refused", ask_production(ellis, "Your role may not do this"), ellis.text("frozen"))
-    ellis.key("Escape")
+def try_productions(person, office, shots):
+    """The lead has the decisions planned and frozen; what is in the way is told."""
+    plan = lambda words: ask_production(person, "#freeze [name=plan]", words)
     person.enter(office.url, LEAD)
     open_productions(person)
     for name, text in (("id", "R-1"), ("volume", "vol001"), ("prefix", "abc")):
@@ -386,40 +383,39 @@ def try_productions(person, ellis, office, shots):
         person.type(text)
     person.click("#freeze [value=AUTHOR]")
     office.ask(MARLOW, "POST", "/docs/11/back", {})
-    check("a freeze waits for a second press", ask_production(person, "Freeze documents 1 to 12 as R-1? It can’t be taken back"), person.text("frozen"))
-    check("a document that isn't settled is named", ask_production(person, "Document 11 isn’t settled"), person.text("frozen"))
+    check("a document that isn't settled is named", plan("Document 11 isn’t settled"), person.text("frozen"))
     person.shot(os.path.join(shots, "unsettled.png"))
-    person.click("#frozen button")
+    person.click("#unsettled button")
     person.until("!document.getElementById('productions').open && document.getElementById('title').textContent === 'Document 11'")
     check("and opened", person.text("state") == "○ Not called yet.", person.text("state"))
     office.ask(ELLIS, "POST", "/docs/11/call", dict(responsive=True, treatment="Produce", designation=""))
     open_productions(person)
     change = lambda name, value: person.js(f"(() => {{ document.querySelector('#freeze').elements.{name}.value = {value!r} }})()")
     change("from", "-1")
-    check("what is no number is told", ask_production(person, "are whole numbers"), person.text("frozen"))
+    check("what is no number is told", plan("are whole numbers"), person.text("frozen"))
     change("from", "1")
     change("width", "300")
-    ask_production(person, "Press Freeze again")
-    check("a number that is too wide is refused in words", ask_production(person, "4 to 10 digits"), person.text("frozen"))
+    check("a number that is too wide is refused in words", plan("4 to 10 digits"), person.text("frozen"))
     change("width", "8")
-    change("from", "2")
-    ask_production(person, "Press Freeze again")
-    check("a family that is cut is named", ask_production(person, "document 2 is of it"), person.text("frozen"))
-    change("from", "1")
-    check("other words wait for a second press again", ask_production(person, "Press Freeze again"), person.text("frozen"))
+    check("a plan stands", plan("R-1 would be 10 documents, ABC00000001 to ABC00000023. Nothing is frozen."), person.text("frozen"))
+    freeze = lambda words: ask_production(person, "#freeze_it", words)
+    check("a freeze waits for a second press", freeze("Freeze documents 1 to 12 as R-1? It can’t be taken back"), person.text("frozen"))
+    person.click("#freeze [name=volume]")
+    person.type("X")
+    check("other words want another plan", not person.js("document.getElementById('planned').checkVisibility()"))
+    person.key("Backspace")
+    plan("Nothing is frozen.")
+    freeze("Press Freeze again")
+    time.sleep(READ)
     due = "R-1 stands: 10 documents, ABC00000001 to ABC00000023. "
-    check("the production stands", ask_production(person, due), person.text("frozen"))
+    check("the production stands", freeze("It is as it was planned."), person.text("frozen"))
+    check("and that is told", person.text("frozen").startswith(due), person.text("frozen"))
     rows = person.js("Array.from(document.querySelectorAll('#items tbody tr'), (it) => Array.from(it.cells, (cell) => cell.textContent).join(' '))")
     check("with each document's labels", len(rows) == 10 and rows[2] == "3 Withhold AC ABC00000006" and
           rows[3] == "4 Produce ABC00000007", rows)
     person.shot(os.path.join(shots, "production.png"), "#productions")
-    ask_production(person, "Press Freeze again")
-    check("asked once more it is the same", ask_production(person, due), person.text("frozen"))
-    for name, words in (("R-9", "No production has this ID"), ("R-1", due)):
-        person.js("document.querySelector('#find').elements.id.value = ''")
-        person.click("#find [name=id]")
-        person.type(name)
-        person.says(f"a look at {name}", lambda: person.click("#find button"), words, "frozen")
+    check("asked once more it is the same", plan(due), person.text("frozen"))
+    person.says("it is listed, and looked at", lambda: person.click("#kept button"), due, "frozen")
     person.key("Escape")
 
 
@@ -446,6 +442,9 @@ def try_people(person, office, shots):
     person.until("document.getElementById('new_key').textContent !== ''")
     told, key = person.text("handed"), person.text("new_key")
     check("a person taken in", told.startswith("Osei is staff 4. ") and len(key) == 29, told + key)
+    person.until("document.querySelectorAll('#staff tbody tr').length === 4")
+    staff = person.js("Array.from(document.querySelectorAll('#staff tbody tr'), (it) => Array.from(it.cells, (cell) => cell.textContent))")
+    check("who is there, with their roles", staff == [["1", "lead", "Lead"], ["2", "Ellis", "Reviewer"], ["3", "Marlow", "Second"], ["4", "Osei", "Reviewer"]], staff)
     person.shot(os.path.join(shots, "people.png"))
     person.key("Escape")
     person.until("!document.getElementById('people').open")
@@ -507,7 +506,7 @@ def main():
         try_mistakes(ellis, shots)
         try_deciding(ellis)
         try_boxes(ellis, shots)
-        try_fields(ellis)
+        try_fields(ellis, shots)
         try_note(ellis, shots)
         try_unsent(ellis)
         try_keys_list(ellis, shots)
@@ -517,7 +516,7 @@ def main():
         try_second(marlow, office, shots)
         try_large_letters(office, shots)
         try_people(marlow, office, shots)
-        try_productions(marlow, ellis, office, shots)
+        try_productions(marlow, office, shots)
         try_without_desk(marlow, office)
         try_secrets(marlow, MARLOW, office)
         if office.program:

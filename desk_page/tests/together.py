@@ -1,7 +1,7 @@
 #!/usr/bin/env python3
-"""Several people at the page, and much at once: two windows at one document, held fields by their numbers, calls for many
-documents and the last one taken back, the next one that isn't settled, filters, links, the place that is kept, zoom and turns, the
-system's colours, the names of all controls. Over the program, where it is given, else over the stand-in.
+"""Several people at the page, and much at once: two windows at one document, held fields by name and value, people by name, calls
+for many documents and the last one taken back, the next one that isn't settled, filters, links, the place that is kept, zoom and turns,
+the system's colours, the names of all controls. Over the program, where it is given, else over the stand-in.
 
     together.py SCRATCH SHOTS [PROGRAM]     pictures of the screens go into the folder SHOTS
 """
@@ -13,6 +13,7 @@ import time
 from office import ELLIS, LEAD, MARLOW, Office
 from person import READ, Person, canvas_is, check, finish, nameless, scan
 
+OSEI = "the key of Osei"
 PRODUCE = dict(responsive=True, treatment="Produce", designation="")
 
 
@@ -32,9 +33,9 @@ def try_two_windows(ellis, marlow, office, shots):
     before = told(office, 3)
     marlow.press("n")
     marlow.says("a call over another's is asked for again, and who it was is said", lambda: marlow.press("p"),
-                "Nothing was sent: Document 3 was changed since you looked, last by staff 2 (call)")
+                "Nothing was sent: Document 3 was changed since you looked, last by Ellis (call)")
     check("the desk has the first call", told(office, 3) == before, told(office, 3))
-    check("the window shows it", "Withhold AC, responsive; last edited by staff 2" in marlow.text("state"), marlow.text("state"))
+    check("the window shows it", "Withhold AC, responsive; last edited by Ellis" in marlow.text("state"), marlow.text("state"))
     form = marlow.js("(() => { const { responsive, treatment } = document.getElementById('call').elements;"
                      " return [responsive.value, treatment.value] })()")
     check("and so does its form", form == ["yes", "Withhold-AC"], form)
@@ -46,12 +47,12 @@ def try_two_windows(ellis, marlow, office, shots):
     # each other edit too: Ellis' window still shows the call of Ellis
     for what, work in (
         ("a log entry", lambda: (ellis.js("document.querySelector('#entry').elements.date.value = '2020'"), ellis.click("#entry button"))),
-        ("a field", lambda: (ellis.js("document.querySelector('#hold').elements.field.value = 'AUTHOR'"), ellis.click("#hold form, #hold > button"))),
+        ("a field", lambda: (ellis.js("document.querySelector('#hold').elements.field.value = 'AUTHOR'"), ellis.click("#hold > button"))),
     ):
         time.sleep(READ)
         office.ask(MARLOW, "POST", "/docs/3/call", dict(PRODUCE, designation=what.upper()))
         before = told(office, 3)
-        ellis.says(f"{what} isn't put on a document that was changed", work, "last by staff 3")
+        ellis.says(f"{what} isn't put on a document that was changed", work, "last by Marlow")
         check("nothing was", told(office, 3) == before, told(office, 3))
     ellis.js("for (const id of ['entry', 'hold']) document.getElementById(id).reset()")
     try_fast_keys(marlow, office)
@@ -67,7 +68,7 @@ def try_fast_keys(marlow, office):
     marlow.press("yr")
     marlow.until(f"heard.said.length >= {said + 2}")
     check("of two calls pressed at once over another's none is sent", told(office, 8) == before and
-          all("last by staff 2" in text for text in marlow.heard()[said:]), (told(office, 8), marlow.heard()[said:]))
+          all("last by Ellis" in text for text in marlow.heard()[said:]), (told(office, 8), marlow.heard()[said:]))
     time.sleep(READ)
     marlow.does(lambda: marlow.press("r"), "The call stands.")
     marlow.press("pj")
@@ -97,33 +98,45 @@ def try_box_of_two(ellis, marlow, office):
 
 
 def try_held(ellis, marlow, office, shots):
-    """Another matter's list of names beside the page gives no name to what is held."""
-    with open(os.path.join(office.folder, "page", "fields.json"), "w", encoding="utf-8") as file:
-        json.dump(["DOCDATE", "DOCTYPE", "RECIPIENT", "AUTHOR"], file)
+    """What is held is told by name and with its value, in a window that held nothing of it; and what hold and free did as the desk tells it."""
     office.ask(ELLIS, "POST", "/docs/10/call", dict(PRODUCE, treatment="Redact"))
-    office.ask(ELLIS, "POST", "/docs/10/hold", dict(field="AUTHOR", basis="PI"))
-    number = told(office, 10)["held"][0]["field"]
+    for name, basis in (("AUTHOR", "PI"), ("TITLE", "AC")):
+        office.ask(ELLIS, "POST", "/docs/10/hold", dict(field=name, basis=basis))
+    office.ask(ELLIS, "POST", "/docs/10/entry", dict(date="2019", author="Ng", recipients="Berg", description="Note"))
+    values = {row["name"]: row["value"] for row in office.ask(LEAD, "GET", "/docs/10/values")}
     marlow.enter(office.url, MARLOW)
     marlow.open(10)
-    check("a held field is shown by its number", marlow.text("held") == f"Field {number}: PI, personal informationFree", marlow.text("held"))
+    marlow.until("document.querySelectorAll('#held button').length === 2")
+    check("held fields are told by name and value", marlow.text("held") == f"AUTHOR PI, personal information: {values['AUTHOR']}Free"
+          f"TITLE AC, attorney-client: {values['TITLE']}Free", marlow.text("held"))
     marlow.ask_confirm()
-    check("the dialog lists what is held", f"Held back: field {number} (PI)." in marlow.text("asked"), marlow.text("asked"))
+    for name, basis in (("AUTHOR", "PI"), ("TITLE", "AC")):
+        check("the dialog to confirm lists each with its value", f"Held back: {name} ({basis}): {values[name]}" in marlow.text("asked"), marlow.text("asked"))
+    check("and people by name", "last edited by Ellis, not confirmed" in marlow.text("asked"), marlow.text("asked"))
     marlow.shot(os.path.join(shots, "confirm-held.png"))
     marlow.key("Escape")
-    free = "#held button"
-    marlow.says("to free it a name is wanted", lambda: marlow.click(free), f"Type the name of field {number} below")
-    field = lambda text: marlow.js(f"document.querySelector('#hold').elements.field.value = {text!r}")
-    field("DOCDATE")
-    marlow.says("a name that isn't held frees nothing, and that is said", lambda: marlow.click(free), "Nothing was freed: DOCDATE isn’t held here")
-    check("it is held still", len(told(office, 10)["held"]) == 1, told(office, 10)["held"])
-    office.ask(MARLOW, "POST", "/docs/10/hold", dict(field="DOCDATE", basis="AC"))
-    marlow.does(lambda: marlow.key("l"), "as it stands now")
-    row = next(k for k, it in enumerate(told(office, 10)["held"], 1) if it["field"] == number)
-    field("DOCDATE")
-    marlow.says("another field that was freed is named", lambda: marlow.click(f"#held li:nth-child({row}) button"), f"DOCDATE isn’t field {number}. Freed was field")
-    field("AUTHOR")
-    marlow.says("the right one is freed", lambda: marlow.click(free), f"AUTHOR is freed: it was field {number}.")
-    check("by the desk too", told(office, 10)["held"] == [], told(office, 10)["held"])
+    marlow.says("one is freed", lambda: marlow.click("[aria-label='Free TITLE']"), "TITLE is freed. Held still: AUTHOR (PI).")
+    office.ask(ELLIS, "POST", "/docs/10/hold", dict(field="DOCDATE", basis="WP"))
+    marlow.says("nothing is freed of what was changed meanwhile", lambda: marlow.click("[aria-label='Free AUTHOR']"), "was changed since you looked")
+    marlow.until("document.querySelectorAll('#held button').length === 2")
+    check("and it is shown as it is", marlow.text("held").startswith("AUTHOR PI") and "DOCDATE WP" in marlow.text("held"), marlow.text("held"))
+    time.sleep(READ)
+    marlow.says("the other is freed", lambda: marlow.click("[aria-label='Free AUTHOR']"), "AUTHOR is freed. Held still: DOCDATE (WP).")
+    held = [row["name"] for row in office.ask(LEAD, "GET", "/docs/10/values") if row["held"]]
+    check("by the desk too", held == ["DOCDATE"], held)
+    office.ask(MARLOW, "POST", "/docs/10/free", dict(field="DOCDATE"))
+
+
+def try_new_people(ellis, office):
+    """A number that isn't known yet has the names asked for anew."""
+    office.take_in("Osei", "Lead", OSEI)
+    office.ask(OSEI, "POST", "/docs/11/call", dict(PRODUCE, designation="OSEI"))
+    ellis.open(11)
+    check("somebody who came in since is told by name", "last edited by Osei" in ellis.text("state"), ellis.text("state"))
+    office.take_in("Osei", "Reviewer", OSEI + " again")
+    office.ask(OSEI + " again", "POST", "/docs/11/call", PRODUCE)
+    ellis.does(lambda: ellis.key("l"), "as it stands now")
+    check("two of one name with their numbers", "last edited by Osei (staff 5)" in ellis.text("state"), ellis.text("state"))
 
 
 # ---- many at once
@@ -148,7 +161,7 @@ def try_many(marlow, office, shots):
     marlow.shot(os.path.join(shots, "many.png"))
     office.ask(ELLIS, "POST", "/docs/2/call", dict(PRODUCE, treatment="Withhold-WP"))
     press_many(marlow, "2 documents called, 1 refused")
-    check("what was changed meanwhile is listed", "Document 2 was changed since you looked, last by staff 2" in marlow.text("many_refused"),
+    check("what was changed meanwhile is listed", "Document 2 was changed since you looked, last by Ellis" in marlow.text("many_refused"),
           marlow.text("many_refused"))
     marlow.shot(os.path.join(shots, "many-refused.png"))
     check("the others are called", [told(office, k)["treatment"] for k in (1, 2, 3)] == ["Produce", "Withhold-WP", "Produce"])
@@ -186,7 +199,7 @@ def try_last(ellis, marlow, office):
     ellis.says("and there is none more", lambda: ellis.key("z"), "made no call that could be taken back")
     ellis.does(lambda: ellis.press("a"), "The call stands.")
     office.ask(MARLOW, "POST", "/docs/12/call", PRODUCE)
-    ellis.says("nor where another called it since", lambda: ellis.key("z"), "last by staff 3")
+    ellis.says("nor where another called it since", lambda: ellis.key("z"), "last by Marlow")
 
 
 # ---- the list, links, places
@@ -368,6 +381,7 @@ def main():
         marlow.enter(office.url, MARLOW)
         try_two_windows(ellis, marlow, office, shots)
         try_held(ellis, marlow, office, shots)
+        try_new_people(ellis, office)
         try_many(marlow, office, shots)
         try_last(ellis, marlow, office)
         try_list(marlow, office, shots)

@@ -85,7 +85,6 @@ def serve_page():
     run("openssl", "req", "-x509", "-newkey", "rsa:2048", "-nodes", "-days", "30", "-subj", f"/CN={NAME}", "-addext", f"subjectAltName=DNS:{NAME}",
         "-keyout", "/etc/ssl/private/review.key", "-out", "/etc/ssl/certs/review.pem", due=0)
     run("cp", "-r", "/usr/share/tivrenan/desk_page", "/srv/desk_page", due=0)
-    run("mkdir", "-p", "/srv/desk_page/fields", due=0)
     # as GUIDE says
     text = run("sed", r"s#<\(review[.]office[.]example\|/[a-z_/.]*\)>#\1#", "/usr/share/doc/tivrenan/examples/nginx/tivrenan-matters.conf", due=0).stdout
     own = """upstream wall {

@@ -159,7 +159,9 @@ export class Productions {
     if (isKept) return this.show(await this.review.looks.plan(request))
     this.stop.disabled = false
     try {
-      return this.showPlan(await Plan.of(this.review, request, (text) => this.far(text)))
+      const plan = await Plan.of(this.review, request, (text) => this.far(text))
+      if (JSON.stringify(this.request()) !== JSON.stringify(request)) throw new NotNow('Other words were given meanwhile. Press Plan again.')
+      return this.showPlan(plan)
     } catch (why) {
       if (why instanceof Refused && OF_DOCUMENT.includes(why.rule)) await this.showObstacles(request)
       throw why

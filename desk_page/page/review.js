@@ -50,10 +50,10 @@ export class Review extends EventTarget {
 
   async lookAt(number, isBehind = false) {
     const doc = await this.desk.see(`/docs/${number}`, isBehind)
-    await knowStaff(this.looks, doc.editor, doc.confirmer)
     this.noteRow(rowOf(doc, this.rows.get(number)))
     this.docs.set(number, doc)
     this.times.set(number, performance.now())
+    await knowStaff(this.looks, doc.editor, doc.confirmer)
     this.tell('row', doc)
     if (this.unsure.delete(number)) this.tell('unsure', { docs: [...this.unsure], seen: number })
     return doc

@@ -174,15 +174,29 @@ class Person(Chromium):
                     self.key(name, SHIFT * is_size | CTRL)
 
 
-def scan(number, page):
-    """The pixels of a page as libtiff reads them: width, height, rows of text with 1 for black."""
+def scan_path(number, page):
+    """The file of a page of the batch."""
     with open(os.path.join(BATCH, "load.opt"), encoding="utf-8-sig") as file:
         lines = [line.rstrip("\r\n").split(",") for line in file if line.strip()]
     starts = [k for k, line in enumerate(lines) if line[3] == "Y"]
-    path = os.path.join(BATCH, lines[starts[number - 1] + page - 1][2].replace("\\", "/"))
-    pnm = subprocess.run(["tifftopnm", "-quiet", path], capture_output=True, check=True).stdout
-    _, sides, rows = pnm.split(b"\n", 2)
+    return os.path.join(BATCH, lines[starts[number - 1] + page - 1][2].replace("\\", "/"))
+
+
+def read_page(path):
+    """A page as libtiff reads it: its sides and its packed rows, with the unused bits of each row 0."""
+    told = subprocess.run(["tifftopnm", "-quiet", "-byrow", path], capture_output=True, check=True).stdout
+    _, sides, rows = told.split(b"\n", 2)
     width, height = map(int, sides.split())
+    stride, unused = (width + 7) // 8, -width % 8
+    masked = bytearray(rows[: stride * height])
+    for at in range(stride - 1, len(masked), stride):
+        masked[at] &= 0xFF << unused & 0xFF
+    return width, height, bytes(masked)
+
+
+def scan(number, page):
+    """The pixels of a page as libtiff reads them: width, height, rows of text with 1 for black."""
+    width, height, rows = read_page(scan_path(number, page))
     stride = (width + 7) // 8
     row = lambda k: f"{int.from_bytes(rows[k * stride:(k + 1) * stride], 'big'):0{stride * 8}b}"[:width]
     return width, height, [row(k) for k in range(height)]

@@ -14,11 +14,17 @@ import subprocess
 import sys
 import time
 
-from office import BATCH, ELLIS, LEAD, MARLOW, TOP, Office
-from person import READ, Person, check, finish, nameless
+import batch
+from office import ELLIS, LEAD, MARLOW, Office
+from person import READ, Person, check, finish, nameless, read_page, scan_path
 from small_batch import SMALL, make_small_batch
 
 HERE = os.path.dirname(os.path.abspath(__file__))
+sys.path.insert(0, os.path.join(HERE, "..", "..", "trials"))
+sys.dont_write_bytecode = True
+import fuzz_pages  # noqa: E402
+import t6_model  # noqa: E402
+
 ENTRIES = {3: dict(date="2019-03-04", author="Ng", recipients="Ortiz, Berg", description='Letter asking "counsel" for advice on the lease'),
            10: dict(date="2019-05-02", author="Berg", recipients="Ng", description="Note quoting counsel")}
 
@@ -129,11 +135,8 @@ def try_in_the_way(person, office, shots):
     check("and a document is opened", person.text("state") == "○ Not called yet.", person.text("state"))
 
 
-def words_of(number):
-    with open(os.path.join(BATCH, "load.dat"), encoding="utf-8-sig") as file:
-        lines = [line.rstrip("\r\n") for line in file if line.strip()]
-    split = lambda line: [value.strip("þ").replace("®", "\n") for value in line.split("\x14")]
-    return dict(zip(split(lines[0]), split(lines[number])))
+def value_of(number, field):
+    return batch.VALUES[number - 1][batch.FIELDS.index(field)]
 
 
 def try_plan(person, office, shots):
@@ -154,8 +157,8 @@ def try_plan(person, office, shots):
         ["5", "Redact", "ABC00000008 to ABC00000011", "", "9 boxes (PI 6, TS 3), AUTHOR (PI)"]], documents)
     held = rows(person, "#planned_held")
     check("held fields by name and value", held == [
-        ["5", "ABC00000008", "AUTHOR", words_of(5)["AUTHOR"], "PI", "WITHHELD - PI"],
-        ["10", "ABC00000016", "TITLE", words_of(10)["TITLE"], "WP", "not in it"]], held)
+        ["5", "ABC00000008", "AUTHOR", value_of(5, "AUTHOR"), "PI", "WITHHELD - PI"],
+        ["10", "ABC00000016", "TITLE", value_of(10, "TITLE"), "WP", "not in it"]], held)
     log = rows(person, "#planned_log")
     check("the log as it will be", log == [
         ["ABC00000006", "ABC00000006", "Withheld", "AC", *ENTRIES[3].values()],
@@ -190,10 +193,6 @@ PIXELS = """(async () => {
 def drawn(person, place):
     person.until(f"(({{ place, state }}) => place === '{place}' && state === 'whole')(document.getElementById('outgoing_ink').dataset)")
     return person.js(PIXELS)
-
-
-def shown(person):
-    return person.js("document.getElementById('outgoing_name').textContent")
 
 
 def try_pages(person, office, shots):
@@ -314,8 +313,8 @@ def try_freeze(person, office, shots):
                                                      str(office.last - 2), "Look"]], rows(person, "#kept"))
     person.click("#kept button")
     person.until("document.querySelectorAll('#items tbody tr').length > 0")
-    told = office.ask(LEAD, "GET", "/productions/R-1")["items"]
-    check("and looked at", [row[0] for row in rows(person, "#items")] == [str(item["doc"]) for item in told], rows(person, "#items"))
+    frozen = office.ask(LEAD, "GET", "/productions/R-1")["items"]
+    check("and looked at", [row[0] for row in rows(person, "#items")] == [str(item["doc"]) for item in frozen], rows(person, "#items"))
     person.shot(os.path.join(shots, "plan-production.png"), "#productions")
     plan(person, "R-1 stands: ")
     check("a plan with its words tells that it stands", not person.js("document.getElementById('planned').checkVisibility()"))
@@ -359,7 +358,7 @@ FITS = """(() => { const it = document.getElementById('%s'); const on = it.getBo
 
 def try_difference(person):
     """A production that isn't as it was planned is told so: the plan beside one with other labels, and one document less."""
-    told = person.js("""(async () => {
+    found = person.js("""(async () => {
       const { Plan } = await import('./plan.js')
       const planned = { id: 'R-1', volume: 'V', prefix: 'A', width: 4, first: 1, last: 3,
         items: [{ doc: 1, first: 1, last: 2, treatment: 'Produce' }, { doc: 2, first: 3, last: 3, treatment: 'Produce' }] }
@@ -367,26 +366,42 @@ def try_difference(person):
       const frozen = { ...planned, last: 2, items: [{ doc: 1, first: 1, last: 2, treatment: 'Redact' }] }
       return [plan.differences(planned), plan.differences(frozen)]
     })()""")
-    check("a production like the plan has no difference", told[0] == [], told[0])
-    check("another has each told", told[1] == [
+    check("a production like the plan has no difference", found[0] == [], found[0])
+    check("another has each told", found[1] == [
         "The last is 2, and was planned as 3.",
         "Document 1 is in it as Redact, A0001 to A0002, and was planned as one that is in it as Produce, A0001 to A0002.",
-        "Document 2 isn’t in it, and was planned as one that is in it as Produce, A0003 to A0003."], told[1])
+        "Document 2 isn’t in it, and was planned as one that is in it as Produce, A0003 to A0003."], found[1])
 
 
 # ---- the volume
 
 
-def page_of(path):
-    """The page as libtiff reads it: its sides, and the SHA-256 of its packed rows with the unused bits 0."""
-    told = subprocess.run(["tifftopnm", "-quiet", "-byrow", path], capture_output=True, check=True).stdout
-    _, sides, packed = told.split(b"\n", 2)
-    width, height = map(int, sides.split())
-    stride, unused = (width + 7) // 8, -width % 8
-    masked = bytearray(packed[: stride * height])
-    for at in range(stride - 1, len(masked), stride):
-        masked[at] &= 0xFF << unused & 0xFF
-    return [width, height, hashlib.sha256(masked).hexdigest()]
+def told(width, height, packed):
+    return [width, height, hashlib.sha256(packed).hexdigest()]
+
+
+def by_model(office, number, page, label):
+    """A page that goes out, by the plain model of trials/fuzz_pages.py; page 0 is the sheet of a withheld document."""
+    doc = office.ask(LEAD, "GET", f"/docs/{number}")
+    if page == 0:
+        made = fuzz_pages.slip(doc["treatment"][-2:], label, doc["designation"])
+    else:
+        width, height, rows = read_page(scan_path(number, page))
+        stride = (width + 7) // 8
+        scanned = fuzz_pages.Page(width, height, [t6_model.edges_of(rows[at : at + stride], width) for at in range(0, len(rows), stride)])
+        stamps = [tuple(box[name] for name in ("left", "top", "width", "height", "basis")) for box in doc["boxes"] if box["page"] == page]
+        made = fuzz_pages.banded(fuzz_pages.covered(scanned, stamps, "lettered"), label, doc["designation"])
+    return told(made.width, made.height, made.packed())
+
+
+def try_model(office, pages):
+    """Where no program is there to write a volume, each page beside a plain model."""
+    frozen = office.ask(LEAD, "GET", "/productions/R-1")["items"]
+    places = [(item["doc"], 0 if item["treatment"].startswith("Withhold") else number - item["first"] + 1, number)
+              for item in frozen for number in range(item["first"], item["last"] + 1)]
+    wrong = [number for k, (doc, page, number) in enumerate(places) if pages[k] != by_model(office, doc, page, f"ABC{number:08}")]
+    check(f"each of {len(places)} drawn pages is as by trials/fuzz_pages.py, pixel by pixel", len(pages) == len(places) and wrong == [], wrong)
+    print("the volume: not tried, as the program isn't built")
 
 
 def try_volume(office, pages, log):
@@ -394,7 +409,7 @@ def try_volume(office, pages, log):
     office.run("press", "R-1")
     folder = os.path.join(office.folder, "out", "VOL001", "IMAGES", "0001")
     names = sorted(os.listdir(folder))
-    due = [page_of(os.path.join(folder, name)) for name in names]
+    due = [told(*read_page(os.path.join(folder, name))) for name in names]
     wrong = [name for name, page, image in zip(names, pages, due) if page != image]
     check(f"each of {len(due)} drawn pages is the volume's, pixel by pixel", len(pages) == len(due) and wrong == [], wrong)
     printed = office.run("log", "R-1")
@@ -410,8 +425,8 @@ def try_log_text(person, log, printed, written):
 
 def main():
     scratch, shots = sys.argv[1:3]
-    told = subprocess.run([os.path.join(HERE, "glyphs.py"), "check"], check=False)
-    check("the page's glyphs are the program's own table", told.returncode == 0)
+    glyphs = subprocess.run([os.path.join(HERE, "glyphs.py"), "check"], check=False)
+    check("the page's glyphs are the program's own table", glyphs.returncode == 0)
     office = Planned(scratch, sys.argv[3] if len(sys.argv) > 3 else None)
     people = []
     try:
@@ -432,7 +447,9 @@ def main():
         try_freeze(person, office, shots)
         try_difference(person)
         check("nothing that the browser or its policy refused", not any(it.log for it in people), [it.log for it in people])
-        if office.program:
+        if not office.program:
+            try_model(office, pages)
+        else:
             try_log_text(person, log, *try_volume(office, pages, log))
     finally:
         for it in people:

@@ -11,7 +11,8 @@ import subprocess
 import sys
 import time
 
-from office import BATCH, ELLIS, LEAD, MARLOW, TOP, Office
+import batch
+from office import ELLIS, LEAD, MARLOW, TOP, Office
 from person import CTRL, READ, Person, canvas_is, check, finish
 
 # ---- what is tried
@@ -137,12 +138,7 @@ def try_boxes(person, shots):
 
 def words_taken():
     """By the batch: how many words of page 1 of document 5 each box touches."""
-    import csv
-    with open(os.path.join(BATCH, "load.opt"), encoding="utf-8-sig") as file:
-        lines = [line.split(",") for line in file if line.strip()]
-    image = lines[[k for k, line in enumerate(lines) if line[3] == "Y"][4]][0]
-    with open(os.path.join(BATCH, "words.csv"), encoding="utf-8-sig", newline="") as file:
-        words = [tuple(map(int, row[2:6])) for row in csv.reader(file) if row[0] == image]
+    words = [word[1:5] for word in batch.WORDS[4][0]]
     touch = lambda a, b: all(a[k] < b[k] + b[k + 2] and b[k] < a[k] + a[k + 2] for k in (0, 1))
     count = lambda box: sum(touch(box, word) for word in words)
     return [f"takes {count(box)} words" for box in ((1420, 460, 680, 60), (325, 950, 1900, 180))]
@@ -150,7 +146,7 @@ def words_taken():
 
 def try_fields(person, shots):
     """Fields as the batch has them; a held one is told by its name, with the value that it holds back."""
-    values = values_of(5)
+    values = dict(zip(batch.FIELDS, batch.VALUES[4]))
     person.until("document.querySelectorAll('#all_fields tbody tr').length > 0")
     shown = person.js("Array.from(document.querySelectorAll('#all_fields tbody tr'), (it) => Array.from(it.cells, (cell) => cell.textContent))")
     check("each field and value of the document", shown == [list(pair) for pair in values.items()], shown)
@@ -167,14 +163,6 @@ def try_fields(person, shots):
     person.shot(os.path.join(shots, "fields.png"))
     person.click("#all_fields summary")
     person.key("Escape")
-
-
-def values_of(number):
-    """The fields of a document by the batch's DAT."""
-    with open(os.path.join(BATCH, "load.dat"), encoding="utf-8-sig") as file:
-        rows = [[value.strip("þ").replace("®", "\n") for value in line.rstrip("\r\n").split("\x14")] for line in file if line.strip()]
-    apart = ("BEGDOC", "ENDDOC", "BEGATTACH", "ENDATTACH")
-    return {name: value for name, value in zip(rows[0], rows[number]) if name not in apart}
 
 
 def try_note(person, shots):

@@ -5,7 +5,6 @@ the system's colours, the names of all controls. Over the program, where it is g
 
     together.py SCRATCH SHOTS [PROGRAM]     pictures of the screens go into the folder SHOTS
 """
-import json
 import os
 import sys
 import time

@@ -40,7 +40,7 @@ export function listen({ review, overview, paper, boxes, documents, listing, lis
     j: () => step(1),
     k: () => step(-1),
     u: () => openUnsettled(review, overview),
-    f: () => { finder.close(); the('filter').focus() },
+    f: () => inList(finder, the('filter')),
     i: () => list.open(),
     '/': () => finder.open(),
     '.': () => finder.step(1),
@@ -49,7 +49,7 @@ export function listen({ review, overview, paper, boxes, documents, listing, lis
     x: () => many.open(),
     z: () => last.takeBack(),
     v: () => paper.turn(),
-    o: () => focusOn(the('go').elements.number),
+    o: () => inList(finder, the('go').elements.number),
     l: () => lookAgain(review),
     ArrowRight: () => turn(1),
     ArrowLeft: () => turn(-1),
@@ -87,6 +87,12 @@ export function listen({ review, overview, paper, boxes, documents, listing, lis
     leaveField: () => the('sheet').focus(),
   }, boxes, act)
   documents.begin()
+}
+
+// a field above the list of documents, in whose place hits may stand
+function inList(finder, field) {
+  finder.close()
+  focusOn(field)
 }
 
 function focusOn(field) {

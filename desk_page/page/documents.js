@@ -83,16 +83,17 @@ export class Documents {
     row.className = `row${isOpen ? ' open' : ''}${isMember ? ' member' : ''}`
     row.setAttribute('aria-selected', isOpen)
     if (it === undefined) return
-    const name = this.names.of(number, 'name')
-    const rest = [this.names.of(number, 'date'), this.names.of(number, 'author')].filter((text) => text !== '')
-    const pages = it.pages === 1 ? '1 page' : `${it.pages} pages`
-    row.title = [`${number} ${name}`.trim(), ...rest].join(' · ')
+    const [name, date, author] = PARTS.map((part) => this.names.of(number, part))
+    const pages = (it.pages === 1 ? '1 page' : `${it.pages} pages`) + (isMember ? ` · with ${it.parent}` : '')
+    const rest = piece('rest', [date, author, pages].filter((text) => text !== '').join(' · '))
+    const state = piece('state', inShort(it) + (it.production === null ? '' : ` · in ${it.production}`))
+    row.classList.toggle('named', this.names.isNamed)
+    row.title = [`${number} ${name}`.trim(), date, author].filter((text) => text !== '').join(' · ')
     row.replaceChildren(
       piece('sign', signOf(it)),
       piece('number', `${number}${this.review.marked.has(number) ? ' ✓ marked' : ''}`),
       piece('name', name === '' ? '' : ` ${name}`),
-      piece('state', inShort(it) + (it.production === null ? '' : ` · in ${it.production}`)),
-      piece('rest', [...rest, pages + (isMember ? ` · with ${it.parent}` : '')].join(' · ')),
+      ...(this.names.isNamed ? [state, rest] : [' · ', rest, state]),
     )
     row.children[0].setAttribute('aria-hidden', 'true')
   }

@@ -190,7 +190,7 @@ export class Finder {
 
   firstFrom(by) {
     const { doc, page } = this.review
-    const isAfter = (hit) => hit.doc > doc.doc || (hit.doc === doc.doc && hit.page >= page)
+    const isAfter = (hit) => hit.doc > doc.doc || (hit.doc === doc.doc && Math.max(hit.page, 1) >= page)
     const first = this.search.hits.findIndex(isAfter)
     if (first < 0) return by > 0 ? 0 : this.search.hits.length - 1
     return by > 0 ? first : Math.max(first - 1, 0)

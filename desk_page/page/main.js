@@ -121,12 +121,14 @@ function showHead(doc) {
   const lacks = lacksOf(doc)
   the('lacks').textContent = lacks.length === 0 ? '' : `Needs ${lacks.join(', ')}.`
   the('outdated').hidden = true
+  the('lacks').hidden = false
 }
 
 // what was told of many documents later than the open one was
 function showOutdated({ doc, rows }) {
   const now = doc === null ? null : rows.get(doc.doc)
   the('outdated').hidden = now === null || isSameRow(rowOf(doc, now), now)
+  the('lacks').hidden = !the('outdated').hidden
   if (!the('outdated').hidden) the('outdated').textContent = `It isn’t so any more: ${inShort(now)}. Look again (L).`
 }
 

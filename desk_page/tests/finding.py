@@ -22,6 +22,9 @@ ROOM = 8  # pixels that a mark may be wider than its word at each side
 # the hits that are drawn as rows: number, head, the marked words, and all of the line
 ROWS = """Array.from(document.querySelectorAll('#hits_tall .row'), (it) => [Number(it.dataset.number),
   it.querySelector('.number').textContent, it.querySelector('mark').textContent, it.querySelector('.line').textContent])"""
+IN_SIGHT = """[...document.querySelectorAll('#hits_tall .row')].filter((it) => {
+  const [at, on] = [it.getBoundingClientRect(), document.getElementById('hits').getBoundingClientRect()]
+  return at.bottom > on.top && at.top < on.bottom })"""
 MARKS = """Array.from(document.querySelectorAll('#over .hit'), (it) =>
   [...['x', 'y', 'width', 'height'].map((name) => Number(it.getAttribute(name))), it.classList.contains('current')])"""
 
@@ -73,8 +76,7 @@ def is_phone(text):
 
 def try_lines(person, words, found):
     """Each row in sight has its document and place, and the line around it."""
-    person.until("[...document.querySelectorAll('#hits_tall mark')].length > 0")
-    person.rest()
+    person.until(f"({IN_SIGHT}).length > 0 && ({IN_SIGHT}).every((it) => it.querySelector('mark').textContent !== '…')")
     count = len(words.split())
     rows = [row for row in person.js(ROWS) if row[2] != "…"]
     wrong = []
@@ -88,9 +90,7 @@ def try_lines(person, words, found):
         shown = line.strip().replace("\n", " ").removeprefix("… ").removesuffix(" …")
         if (head, mark) != due[:2] or shown.replace("  ", " ") not in due[2].replace("\n", " ") or mark not in shown:
             wrong.append((number, head, mark, line, due))
-    in_sight = person.js("(() => { const on = document.getElementById('hits').getBoundingClientRect();"
-                         " return [...document.querySelectorAll('#hits_tall .row')].filter((it) => { const at = it.getBoundingClientRect();"
-                         " return at.bottom > on.top && at.top < on.bottom }).length })()")
+    in_sight = person.js(f"({IN_SIGHT}).length")
     check(f"find {words}: each hit in sight with its line", not wrong and len(rows) >= min(in_sight, len(found)) > 0, (wrong[:2], len(rows), in_sight))
 
 
@@ -252,7 +252,7 @@ def try_keys(person):
     person.key("Escape")
     person.key("/")
     person.tab_to("#hits")
-    person.does(lambda: person.key("ArrowDown"), "Hit 1 of")
+    person.does(lambda: person.key("ArrowDown"), "Hit ")
     check("keys alone: find, list, filter, hits", True)
     check("every control has a name", nameless(person) == [], nameless(person))
 

@@ -47,6 +47,7 @@ def arrange(person, said="The list is sorted by", **values):
 
 
 def asked(person, end):
+    person.js("0")  # what was asked for is told with an answer
     return sum(request["url"].endswith(end) for request in person.requests)
 
 
@@ -57,7 +58,7 @@ def try_names(person, shots):
     person.rest()
     due = [[number, COLUMN["TITLE"][number - 1]] for number in range(1, 13)]
     shown = [row[:2] for row in rows(person)]
-    check("a document has the name of its title", shown == due[: len(shown)] and len(shown) > 8, shown)
+    check("a document in sight has the name of its title", shown[:10] == due[:10], shown)
     number, _, state, rest = rows(person)[2]
     check("with its date, its author and its pages", (number, state) == (3, "not called") and
           rest == f"{COLUMN['DOCDATE'][2]} · {COLUMN['AUTHOR'][2]} · 5 pages · with 1", rest)
@@ -219,8 +220,7 @@ def try_cost(person):
     time.sleep(15)
     check("and none while the tab is hidden", asked(person, "/states/1") == before, asked(person, "/states/1") - before)
     person.js("delete document.hidden; document.dispatchEvent(new Event('visibilitychange'))")
-    person.js("0")
-    told_within("then again at once", person, lambda: (person.js("0"), asked(person, "/states/1") > before)[1], lambda: "")
+    told_within("then again at once", person, lambda: asked(person, "/states/1") > before, lambda: "")
 
 
 def try_names_of_controls(person):
@@ -234,6 +234,7 @@ def try_names_of_controls(person):
     person.key("i")
     person.tab_to("[name=order]")
     person.key("ArrowDown")
+    person.tab_to("#list_dialog form button:not([type])")
     person.does(lambda: person.key("Enter"), "The list is sorted by name.")
     check("keys alone sort the list", [row[0] for row in rows(person)][0] == order_of("TITLE")[0], rows(person)[0])
 
@@ -242,7 +243,7 @@ def try_names_of_controls(person):
 
 
 SLOW = """window.whole ??= window.fetch
-window.fetch = async (...words) => { await new Promise((go) => setTimeout(go, 400)); return whole(...words) }"""
+window.fetch = async (...words) => { await new Promise((go) => setTimeout(go, 1500)); return whole(...words) }"""
 
 
 def settle_all(office):
@@ -273,8 +274,11 @@ def try_many(scratch):
         person.says("so does an order that wants each document's fields", lambda: arrange(person, "Asked for the fields of", order="date"), "Asked for the fields of")
         person.says("Escape stops it", lambda: person.key("Escape"), "the others stand last.")
         person.js("window.fetch = window.whole")
-        check("what was told stands first", [row[0] for row in rows(person)][:2] == [2, 5] or rows(person)[0][3].startswith("2019-02-28"), rows(person)[:2])
-        arrange(person, order="date")
+        check("what was told stands first", rows(person)[0][0] == 2 and rows(person)[0][3].startswith(min(COLUMN["DOCDATE"])), rows(person)[:2])
+        arrange(person, "Asked for the fields of", order="date")
+        person.until("document.getElementById('said').textContent.includes('The list is sorted by date.')", seconds=300)
+        person.js("document.getElementById('documents').scrollTop = 0")
+        person.until("document.getElementById('document_2') !== null")
         first = [row[0] for row in rows(person)][:5]
         check("and at its end the list is sorted", first == [2 + 12 * k for k in range(5)], first)
         check("nothing that the browser or its policy refused", not person.log, person.log)

@@ -8,7 +8,7 @@ system's for temporary files where none is named, as one doesn't read each file 
     the tables   `init` over it, which reads its rows and is refused
     a commit     SetCall at a desk, each of which changes a document, less SeeDoc, which commits nothing
     an import    of a page, whole
-Of each the milliseconds of the processor and on the clock, the least of all rounds, and where a command runs the most memory in MB.
+Of each the milliseconds of the processor and on the clock, the least of all rounds.
 Needs examples/letter.tif, and the port 48201 free. ROUNDS is 5, CALLS of a round 200, PAGES 300 where none is named."""
 import hashlib
 import os
@@ -44,9 +44,9 @@ class Matter:
         os.rename(f"{folder}/matter.db", f"{folder}/whole.db")
 
     def costs(self, *words, due=0):
-        """Milliseconds of the processor and on the clock, and MB."""
-        processor, _, wall, memory = run([self.program, *words], due, self.folder)
-        return [1000 * processor, 1000 * wall, memory]
+        """Milliseconds of the processor and on the clock."""
+        processor, _, wall, _ = run([self.program, *words], due, self.folder)
+        return [1000 * processor, 1000 * wall]
 
     def clear(self):
         for name in ("matter.db", "matter.db-wal", "matter.db-shm"):
@@ -159,7 +159,7 @@ def main(words):
     finally:
         shutil.rmtree(room, ignore_errors=True)
     seen["a commit"] = [[call - look for call, look in zip(*both)] for both in zip(seen["a call"], seen["a look"])]
-    print(f"the matter has {pages} pages in {size:.0f} MB; ms of the processor, on the clock, and MB: older, newer, newer / older")
+    print(f"the matter has {pages} pages in {size:.0f} MB; ms of the processor, and on the clock: older, newer, newer / older")
     for what, (older, newer) in seen.items():
         told = [f"{a:10.2f} {b:10.2f} {b / a if a else 0:6.2f}" for a, b in zip(older, newer)]
         print(f"{what:22}{'   '.join(told)}")

@@ -1,11 +1,11 @@
 #!/bin/sh
 # Tries the review page: its reader of pages beside libtiff, nginx by the page's configuration, a whole review in a headless
 # Chromium, several people at once, a production from its plan on, a receiver, a matter of 10,000 documents, how fast the next
-# one comes. Over the program, where it is built, else over a stand-in for the desks.
-# Words: which of decoder, nginx, review, together, list, find, plan, receiver, many, speed; none for all. Pictures of the screens
-# go to desk_page/tests/out. PROGRAM names a program that was built elsewhere. Needs of Debian chromium, nginx, openssl, python3,
-# netpbm, libtiff-tools and git; where one of them isn't installed it says so, tries nothing and ends with status 0. Ends with
-# 1 where something is not as due.
+# one comes. Over the program, where it is built, else over a stand-in for the desks, which is compared with the program.
+# Words: which of the parts; none for all. Pictures of the screens go to desk_page/tests/out. PROGRAM names a program that was
+# built elsewhere. Needs of Debian chromium, nginx, openssl, python3, netpbm, libtiff-tools and git; where one of them isn't
+# installed it says so, tries nothing and ends with status 0. Ends with 1 where something is not as due.
+parts="decoder nginx review together list find plan receiver looks many speed"
 set -eu
 here=$(CDPATH='' cd -- "$(dirname -- "$0")" && pwd)
 top=$(CDPATH='' cd -- "$here/../.." && pwd)
@@ -38,22 +38,19 @@ trap 'rm -rf "$scratch"' EXIT
 shots=$here/out
 mkdir -p "$shots"
 failed=0
-[ $# -gt 0 ] || set -- decoder nginx review together list find plan receiver many speed
+# shellcheck disable=SC2086 # the parts are words
+[ $# -gt 0 ] || set -- $parts
 for part; do
+    case " $parts " in
+        *" $part "*) ;;
+        *) echo "usage: run.sh [PART ..], each one of: $parts" >&2; exit 1 ;;
+    esac
+    # the scripts of the same names, but for these
+    case $part in list) script=listing ;; find) script=finding ;; *) script=$part ;; esac
+    # where there are pictures, they go to a folder
+    case $part in review | together | list | find | plan | receiver) pictures=$shots ;; *) pictures= ;; esac
     mkdir "$scratch/$part"
     echo "== $part"
-    case $part in
-        decoder) "$here/decoder.py" "$scratch/$part" ${program:+"$program"} || failed=1 ;;
-        nginx) "$here/nginx.py" "$scratch/$part" ${program:+"$program"} || failed=1 ;;
-        review) "$here/review.py" "$scratch/$part" "$shots" ${program:+"$program"} || failed=1 ;;
-        together) "$here/together.py" "$scratch/$part" "$shots" ${program:+"$program"} || failed=1 ;;
-        list) "$here/listing.py" "$scratch/$part" "$shots" ${program:+"$program"} || failed=1 ;;
-        find) "$here/finding.py" "$scratch/$part" "$shots" ${program:+"$program"} || failed=1 ;;
-        receiver) "$here/receiver.py" "$scratch/$part" "$shots" ${program:+"$program"} || failed=1 ;;
-        plan) "$here/plan.py" "$scratch/$part" "$shots" ${program:+"$program"} || failed=1 ;;
-        speed) "$here/speed.py" "$scratch/$part" ${program:+"$program"} || failed=1 ;;
-        many) "$here/many.py" "$scratch/$part" || failed=1 ;;
-        *) echo "usage: run.sh [decoder] [nginx] [review] [together] [list] [find] [plan] [receiver] [many] [speed]" >&2; exit 1 ;;
-    esac
+    "$here/$script.py" "$scratch/$part" ${pictures:+"$pictures"} ${program:+"$program"} || failed=1
 done
 exit "$failed"

@@ -33,7 +33,8 @@ import { Receiver } from './receiver.js'
 import { NotNow, Review } from './review.js'
 import { Search } from './search.js'
 import { SecondReview } from './second_review.js'
-import { inFull, inShort, isSameRow, lacksOf, progressOf, rowOf, signOf } from './states.js'
+import { knowStaff } from './staff.js'
+import { inFull, isSameRow, lacksOf, progressOf, rowOf, signOf } from './states.js'
 
 // ---- the panels
 
@@ -70,7 +71,10 @@ function build(review, overview, place) {
     close: the('close_people'), act,
   })
   new Productions(review, productionsDialog, { pages: new OutgoingPages(review, { decoder, act }), show: the('show_productions'), act })
-  review.addEventListener('doc', ({ detail }) => showHead(detail))
+  review.addEventListener('doc', ({ detail }) => {
+    showHead(detail)
+    showOutdated(review)
+  })
   review.addEventListener('unsure', ({ detail }) => keepUnsure(detail))
   review.addEventListener('aged', behind(() => review.refresh()))
   review.addEventListener('page', act(({ detail }) => showPlace(review, detail)))
@@ -99,7 +103,11 @@ function buildList(review, overview, search, place) {
     the('stale').hidden = overview.fault === null
     the('stale').textContent = overview.fault === null ? '' : `The list isn’t told anew: ${reasonOf(overview.fault)}`
   })
-  review.addEventListener('states', () => showOutdated(review))
+  review.addEventListener('states', async () => {
+    const { editor, confirmer } = review.rows.get(review.doc?.doc) ?? { editor: 0, confirmer: 0 }
+    await knowStaff(review.looks, editor, confirmer)
+    showOutdated(review)
+  })
   keepList(listing, place)
   return { names, listing, documents, list: new ListDialog(review, listing, { names, place, say, act }) }
 }
@@ -120,16 +128,15 @@ function showHead(doc) {
   the('state').className = progressOf(doc)
   const lacks = lacksOf(doc)
   the('lacks').textContent = lacks.length === 0 ? '' : `Needs ${lacks.join(', ')}.`
-  the('outdated').hidden = true
-  the('lacks').hidden = false
 }
 
 // what was told of many documents later than the open one was
 function showOutdated({ doc, rows }) {
   const now = doc === null ? null : rows.get(doc.doc)
-  the('outdated').hidden = now === null || isSameRow(rowOf(doc, now), now)
-  the('lacks').hidden = !the('outdated').hidden
-  if (!the('outdated').hidden) the('outdated').textContent = `It isn’t so any more: ${inShort(now)}. Look again (L).`
+  const isOutdated = now !== null && !isSameRow(rowOf(doc, now), now)
+  the('outdated').hidden = !isOutdated
+  the('lacks').hidden = isOutdated
+  the('outdated').textContent = isOutdated ? `It isn’t so any more. Now: ${inFull(now)} Look again (L).` : ''
 }
 
 async function showPlace(review, image) {

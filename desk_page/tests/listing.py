@@ -151,7 +151,8 @@ def try_counts(person, office, shots):
     told_within("what others did is in the counts", person, lambda: counts(person) == due, lambda: (counts(person), due))
     check("and in the rows", rows(person)[2][2] == "Withhold AC, to confirm", rows(person)[2])
     check("the open document says that it isn't as it is shown", "Not called" in person.text("state") and
-          person.text("outdated") == "It isn’t so any more: Withhold WP, to confirm. Look again (L).", person.text("outdated"))
+          person.text("outdated") == "It isn’t so any more. Now: Withhold WP, responsive; last edited by Ellis, not confirmed. Look again (L).",
+          person.text("outdated"))
     person.shot(os.path.join(shots, "outdated.png"))
     person.does(lambda: person.key("l"), "as it stands now")
     check("looked at again it is", "Withhold WP" in person.text("state") and person.js("document.getElementById('outdated').hidden"), person.text("state"))

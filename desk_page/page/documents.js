@@ -121,8 +121,7 @@ export class Documents {
 
   // Asks for the texts of the rows in sight that weren't told yet, one after another, so that what is pressed needn't wait for all.
   async ask() {
-    const isWanted = this.names.fields.length === 0 || PARTS.some((part) => this.names.fieldOf(part) !== '')
-    if (this.isAsking || !isWanted) return null
+    if (this.isAsking || !this.names.isWanted) return null
     this.isAsking = true
     const next = () => this.rows.keysInSight().find((number) => !this.names.isKnown(number))
     try {

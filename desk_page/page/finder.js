@@ -75,7 +75,9 @@ export class Finder {
   show(isOpen) {
     this.panel.hidden = !isOpen
     this.panel.parentElement.classList.toggle('finding', isOpen)
-    if (isOpen) this.rows.draw()
+    if (!isOpen) return
+    this.rows.draw()
+    if (this.at >= 0) this.rows.makeActive(this.at)
   }
 
   // ---- the search
@@ -88,7 +90,7 @@ export class Finder {
 
   // of a link: none where it stands already
   async follow(text) {
-    if (text === null || text === this.search.text) return
+    if (text === null || text.trim() === '' || (text === this.search.text && this.search.end?.why === undefined)) return
     this.words.value = text
     this.show(true)
     await this.begin(text)
@@ -235,7 +237,7 @@ export class Finder {
       const { doc, page } = this.search.hits[key] ?? {}
       if (doc === undefined) return undefined
       if (page !== 0 && this.review.words.known(doc, page) === null) return () => this.readWords(doc, page)
-      if (!this.names.isKnown(doc)) return () => this.names.read(doc, true)
+      if ((page === 0 || this.names.isWanted) && !this.names.isKnown(doc)) return () => this.names.read(doc, true)
     }
     return undefined
   }

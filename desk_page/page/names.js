@@ -34,6 +34,11 @@ export class Names extends EventTarget {
     return PARTS.some((part) => this.fieldOf(part) !== '')
   }
 
+  // whether a row wants the values of its document; as long as no field is known it does
+  get isWanted() {
+    return this.fields.length === 0 || this.isNamed
+  }
+
   // the field of a part: the one that was chosen, else one that is called so
   fieldOf(part) {
     const chosen = this.chosen[part]

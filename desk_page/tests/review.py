@@ -315,7 +315,7 @@ def try_unsure(person):
         person.rest()
     asked = [request["url"] for request in person.requests[before:]]
     check("looks that nobody pressed for fail behind it",
-          len(asked) >= 3 and all(url.endswith(("/states/1", "/docs/1/values")) for url in asked), asked)
+          len(asked) >= 3 and all(url.endswith(("/states/1", "/values")) for url in asked), asked)
     check("and leave its words", len(person.heard()) == said and person.text("said").endswith(UNSURE), person.heard()[said - 1 :])
     person.does(lambda: person.key("l"), "No desk is open")
     check("a look that was pressed for, and fails, has them too", person.text("said").endswith(UNSURE), person.text("said"))

@@ -4,11 +4,14 @@
 Words: the folder that has the volume VOL001; the batch is examples/CVI_001. Ends with status 1 and
 one line at the first thing that isn't as it should be. What is expected stands here and in the batch, and nowhere in the
 product: which documents are withheld, which boxes and fields are covered, and the load files and the log line by line.
+A second word names a file with the boxes that were put in place of those of examples/office.sh: a JSON list of lists, each
+document, page, left, top, width, height, and AC or PI.
 
 Needs sha256sum, and tiffinfo and tifftopnm (Debian's libtiff-tools and netpbm), which read the images.
 """
 import csv
 import io
+import json
 import os
 import subprocess
 import sys
@@ -29,6 +32,7 @@ LETTERS = {
     "I": "01110 00100 00100 00100 00100 00100 01110",
     "P": "11110 10001 10001 11110 10000 10000 10000",
 }
+LETTERED = (39, 27)  # a box that is narrower or lower has no letters
 BAND = 32
 COLUMNS = "BEGDOC ENDDOC BEGATTACH ENDATTACH PAGECOUNT DESIGNATION WITHHELD TEXTPATH AUTHOR".split()
 AUTHORS = {1: "Ng", 2: "Ng", 3: "", 4: "Ortiz", 5: "WITHHELD - PI", 6: "Ortiz", 9: "Berg", 10: "Berg", 11: "", 12: "Lee\nChan"}
@@ -221,9 +225,10 @@ def these(bits, left, width):
 
 def with_box(row, bits, box, down):
     """A row of a box, so many rows below its top, covered: black but for what it has of the letters."""
-    left, _, across, _, code = box
+    left, _, across, high, code = box
     row |= these(bits, left, across)
-    for k, letter in enumerate(code):
+    is_lettered = across >= LETTERED[0] and high >= LETTERED[1]
+    for k, letter in enumerate(code if is_lettered else ""):
         for bit in range(5):
             if 3 <= down < 24 and LETTERS[letter].split()[(down - 3) // 3][bit] == "1":
                 row &= ~these(bits, left + 3 + 18 * k + 3 * bit, 3)
@@ -252,9 +257,19 @@ def check_images(folder, produced):
                 check_page(folder, item, at + 1, name)
 
 
+def take_boxes(path):
+    """Other boxes than those of the day."""
+    BOXES.clear()
+    with open(path, encoding="utf-8") as file:
+        for document, page, *box in json.load(file):
+            BOXES.setdefault((document, page), []).append(tuple(box))
+
+
 def main():
-    expect(len(sys.argv) == 2, "one word: the folder that has the volume")
+    expect(len(sys.argv) in (2, 3), "one word or two: the folder that has the volume, and a file of boxes")
     folder, produced = sys.argv[1], items()
+    if len(sys.argv) == 3:
+        take_boxes(sys.argv[2])
     check_files(folder, produced)
     check_load_files(folder, produced)
     secrets = check_texts(folder, produced, words_of_batch())

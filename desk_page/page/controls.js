@@ -6,7 +6,7 @@ import { NotNow } from './review.js'
 import { progressOf } from './states.js'
 import { stopWalk, walk } from './walk.js'
 
-export function listen({ review, overview, paper, boxes, documents, listing, list, finder, call, second, many, last, place }) {
+export function listen({ review, overview, paper, boxes, documents, listing, list, finder, call, second, many, last, place, words, redact }) {
   const on = (id, work) => the(id).addEventListener('click', act(work))
   const turn = (by) => review.turn(review.page + by)
   const step = (by) => review.step(listing.next(review.doc.doc, by))
@@ -43,8 +43,10 @@ export function listen({ review, overview, paper, boxes, documents, listing, lis
     f: () => inList(finder, the('filter')),
     i: () => list.open(),
     '/': () => finder.open(),
-    '.': () => finder.step(1),
-    ',': () => finder.step(-1),
+    '.': () => (redact.isOpen() ? redact.list : finder).step(1),
+    ',': () => (redact.isOpen() ? redact.list : finder).step(-1),
+    hitAfter: () => finder.step(1),
+    hitBefore: () => finder.step(-1),
     m: () => many.toggleMark(),
     x: () => many.open(),
     z: () => last.takeBack(),
@@ -77,15 +79,21 @@ export function listen({ review, overview, paper, boxes, documents, listing, lis
     2: () => boxes.rebase('WP'),
     3: () => boxes.rebase('PI'),
     4: () => boxes.rebase('TS'),
-    Enter: () => boxes.put(),
+    q: () => redact.open(),
+    ';': () => words.start(),
+    Enter: () => (words.isChosen() ? words.put() : boxes.put()),
     Delete: () => boxes.dropChosen(),
     Backspace: () => boxes.dropChosen(),
-    Escape: () => { if (!stopWalk()) boxes.cancel() },
+    Escape: () => {
+      if (stopWalk()) return
+      words.clear()
+      boxes.cancel()
+    },
     c: () => second.askConfirm(),
     s: () => second.askBack(),
     '?': () => showKeys(),
     leaveField: () => the('sheet').focus(),
-  }, boxes, act)
+  }, { nudge: (...by) => words.nudge(...by) || boxes.nudge(...by) }, act)
   documents.begin()
 }
 

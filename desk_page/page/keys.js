@@ -45,6 +45,9 @@ const ROWS = [
   ['Arrows', 'move the chosen box; with Shift size it, with Ctrl by one pixel'],
   ['Enter', 'put the chosen box'],
   ['Delete', 'drop the chosen box'],
+  [';', 'choose words: the arrows go to others, with Shift they choose more, Enter makes boxes of them'],
+  ['q', 'redact by term: boxes for what is found; as long as it is open'],
+  ['.,', 'go to the next proposed box and the one before, and Space takes or leaves it', '. ,'],
   ['Escape', 'leave the box or a text field; stop what takes long'],
   ['Second review'],
   ['c', 'confirm, after one more look'],
@@ -54,7 +57,7 @@ const ROWS = [
 
 const ARROWS = { ArrowLeft: [-1, 0], ArrowRight: [1, 0], ArrowUp: [0, -1], ArrowDown: [0, 1] }
 // where the list of documents, or of hits, has the focus
-const IN_LIST = { documents: { ArrowUp: 'k', ArrowDown: 'j' }, hits: { ArrowUp: ',', ArrowDown: '.' } }
+const IN_LIST = { documents: { ArrowUp: 'k', ArrowDown: 'j' }, hits: { ArrowUp: 'hitBefore', ArrowDown: 'hitAfter' } }
 const STRIDE = 10 // pixels of the page
 
 const isText = (target) => target.matches('textarea, select, input:not([type=radio], [type=checkbox])')

@@ -3,6 +3,7 @@
 import { Ahead } from './ahead.js'
 import { Boxes } from './boxes.js'
 import { CallForm } from './call_form.js'
+import { ChosenWords } from './chosen_words.js'
 import { leave, listen } from './controls.js'
 import { Decoder } from './decoder.js'
 import { Desk, isKey } from './desk.js'
@@ -30,7 +31,9 @@ import { Place } from './place.js'
 import { Productions } from './productions.js'
 import { makeProductionsDialog } from './productions_dialog.js'
 import { Receiver } from './receiver.js'
+import { Redact } from './redact.js'
 import { NotNow, Review } from './review.js'
+import { ScreensPanel } from './screens_panel.js'
 import { Search } from './search.js'
 import { SecondReview } from './second_review.js'
 import { knowStaff } from './staff.js'
@@ -48,7 +51,10 @@ function build(review, overview, place) {
   })
   review.prepare = (image, doc, page) => paper.prepare(image, doc, page)
   const boxes = new Boxes(review, paper, { list: the('boxes'), basis: the('basis'), showWords: the('show_words'), act })
+  const words = new ChosenWords(review, boxes, paper, { showWords: the('show_words'), sheet: the('sheet'), act })
   const search = new Search(looks)
+  const redact = new Redact(review, boxes, paper, { beside: the('top'), doors: the('doors'), searched: () => search.text, act })
+  new ScreensPanel(review, { doors: the('doors'), opened: (text) => redact.suggest(text), act })
   const { names, listing, documents, list } = buildList(review, overview, search, place)
   const finder = new Finder(review, search, {
     panel: the('finder'), place, marks: new Marks(review, paper, boxes, search, { behind }), names, documents, act, behind,
@@ -86,7 +92,7 @@ function build(review, overview, place) {
   ]
   review.addEventListener('page', () => place.keepLinkSoon(review.doc.doc, review.page))
   new Ahead(review, (number, by) => listing.next(number, by))
-  return { review, overview, paper, boxes, documents, listing, list, finder, call, second, many, last, place }
+  return { review, overview, paper, boxes, documents, listing, list, finder, call, second, many, last, place, words, redact }
 }
 
 function buildList(review, overview, search, place) {

@@ -1,11 +1,11 @@
-// The button in a dialog that closes it and opens a document that was told of.
-export function openButton({ dialog, review, act }, number) {
+// The button that opens a document that was told of, at a page where one is named; in a dialog it closes that.
+export function openButton({ dialog, review, act }, number, page) {
   const button = document.createElement('button')
   button.type = 'button'
-  button.textContent = `Open document ${number}`
+  button.textContent = page === undefined ? `Open document ${number}` : `Open document ${number}, page ${page}`
   button.addEventListener('click', act(() => {
-    dialog.close()
-    return review.open(number)
+    dialog?.close()
+    return review.open(number, page)
   }))
   return button
 }

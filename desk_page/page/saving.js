@@ -65,7 +65,7 @@ export async function saveAsArchive(volume, tell) {
   return { ...ended, kept, all }
 }
 
-function download(name, blob) {
+export function download(name, blob) {
   const link = document.createElement('a')
   link.href = URL.createObjectURL(blob)
   link.download = name

@@ -25,14 +25,10 @@ def finish(what):
 
 
 # All that the page says, in its order: what stands at a moment may have taken the place of other words just before.
-HEARD = """window.heard = { said: [], denied: [], frozen: [], many_told: [], received_said: [] }
-document.addEventListener('DOMContentLoaded', () => {
-  for (const [place, texts] of Object.entries(heard)) {
-    const note = ({ addedNodes }) => texts.push(...Array.from(addedNodes, (node) => node.textContent))
-    const at = document.getElementById(place) // none on a blank page
-    if (at !== null) new MutationObserver((all) => all.forEach(note)).observe(at, { childList: true })
-  }
-})"""
+HEARD = """window.heard = { said: [], denied: [], frozen: [], many_told: [], screens_told: [], received_said: [] }
+new MutationObserver((all) => all.forEach(({ target, addedNodes }) => {
+  heard[target.id]?.push(...Array.from(addedNodes, (node) => node.textContent))
+})).observe(document, { childList: true, subtree: true })"""
 
 
 class Person(Chromium):
@@ -60,6 +56,17 @@ class Person(Chromium):
         self.mouse("mousePressed", *place)
         self.mouse("mouseReleased", *place)
 
+    def mouse_with_shift(self, place):
+        for kind in ("mousePressed", "mouseReleased"):
+            self("Input.dispatchMouseEvent", type=kind, x=place[0], y=place[1], button="left", buttons=int(kind == "mousePressed"), clickCount=1,
+                 modifiers=SHIFT)
+
+    def go_to(self, number, page):
+        """A page of a document, by its link."""
+        self.js(f"location.hash = '#{number}/{page}'")
+        self.until(f"document.getElementById('title').textContent === 'Document {number}' && "
+                   f"document.getElementById('place').textContent.startsWith('page {page} of')")
+
     def ask_confirm(self):
         self.key("c")
         self.until("document.getElementById('ask').open")
@@ -79,16 +86,16 @@ class Person(Chromium):
     def heard(self, place="said"):
         return self.js(f"heard.{place}")
 
-    def does(self, work, words, place="said"):
+    def does(self, work, words, place="said", seconds=60):
         """Does something, and waits until that is said of it."""
         before = len(self.heard(place))
         work()
-        self.until(f"heard.{place}.slice({before}).some((text) => text.includes({json.dumps(words)}))")
+        self.until(f"heard.{place}.slice({before}).some((text) => text.includes({json.dumps(words)}))", seconds)
 
-    def says(self, what, work, words, place="said"):
+    def says(self, what, work, words, place="said", seconds=60):
         """A check of what is said."""
         try:
-            self.does(work, words, place)
+            self.does(work, words, place, seconds)
             check(what, True)
         except RuntimeError as why:
             check(what, False, (why, self.heard(place)[-5:]))

@@ -6,6 +6,7 @@ import { NoAnswer, Refused } from './desk.js'
 import { reasonOf } from './messages.js'
 import { sameRectangle } from './rectangles.js'
 import { Changed, NotNow } from './review.js'
+import { whoIs } from './staff.js'
 import { walk } from './walk.js'
 
 export const MOST_BOXES = 1000 // of a document, by number
@@ -110,7 +111,7 @@ export class BoxRun {
   }
 
   async dropOne({ doc, num, ...as }, now) {
-    if (now.confirmer !== 0) throw new NotNow(`It was confirmed since, by staff ${now.confirmer}: its boxes stay.`)
+    if (now.confirmer !== 0) throw new NotNow(`It was confirmed since, by ${whoIs(now.confirmer)}: its boxes stay.`)
     const box = now.boxes.find((it) => it.num === num)
     if (box === undefined) throw new OfBox(`Box ${num} doesn’t stand any more.`)
     if (!isSame(box, as)) throw new OfBox(`Box ${num} isn’t as it was put.`)

@@ -40,7 +40,7 @@ export class Proposals extends EventTarget {
   }
 
   async addPage({ doc, page, hits }, found) {
-    if (found.told?.doc !== doc) found.told = await this.review.lookAt(doc, true)
+    if (found.told?.doc !== doc) found.told = await this.boxed(doc)
     const words = await this.review.readWords(doc, page, true)
     const boxes = found.told.boxes.filter((box) => box.page === page)
     const names = new Set()
@@ -56,6 +56,11 @@ export class Proposals extends EventTarget {
         names.add(name)
       }
     }
+  }
+
+  // a document that has no box isn't looked at; all are before boxes are put
+  boxed(doc) {
+    return this.review.rows.get(doc)?.boxes === 0 ? { doc, boxes: [] } : this.review.lookAt(doc, true)
   }
 
   // the page's sides are asked for only where a box might leave it

@@ -2,6 +2,7 @@
 // all.
 import { isRedact } from './box_run.js'
 import { button, made } from './elements.js'
+import { grouped } from './grouped.js'
 import { rectangle, shape } from './paper.js'
 
 const MOST_ROWS = 400 // documents that have a row
@@ -12,7 +13,7 @@ export class ProposedList {
     boxes.layers.push((scale) => this.shapes(scale))
     proposals.addEventListener('change', () => this.begin())
     proposals.addEventListener('taken', () => this.mark())
-    review.addEventListener('doc', ({ detail }) => { if (detail.doc !== this.drawnFor) this.draw() })
+    review.addEventListener('page', () => this.draw())
     review.addEventListener('row', ({ detail }) => this.tellState(detail))
     review.addEventListener('states', ({ detail }) => detail.forEach((doc) => this.tellState(review.rows.get(doc))))
     paper.over.addEventListener('pointerdown', (event) => this.press(event), true)
@@ -27,16 +28,16 @@ export class ProposedList {
   // ---- the list
 
   draw() {
-    const { proposals, review } = this
-    this.drawnFor = review.doc?.doc
+    const { proposals } = this
     this.choices = []
     this.states.clear()
     const docs = proposals.byDocument()
     const rows = [...docs].slice(0, MOST_ROWS).map(([doc, boxes]) => this.documentRow(doc, boxes))
     if (docs.size > MOST_ROWS) rows.push(made('li', {}, `and ${(docs.size - MOST_ROWS).toLocaleString('en')} documents more`))
     const all = proposals.all.length
+    const where = docs.size === 1 ? '1 document' : `${docs.size.toLocaleString('en')} documents`
     this.place.replaceChildren(...(all === 0 ? [] : [
-      made('p', {}, this.choice(`all ${all.toLocaleString('en')} in ${docs.size.toLocaleString('en')} documents`, proposals.all), ' ',
+      made('p', {}, this.choice(`all ${all.toLocaleString('en')} in ${where}`, proposals.all), ' ',
         this.stepButton('Before', -1, ','), ' ', this.stepButton('Next', 1, '.')),
       made('ul', { id: 'proposed', tabindex: 0, 'aria-label': 'Proposed boxes' }, ...rows),
     ]))
@@ -55,23 +56,24 @@ export class ProposedList {
     this.states.set(doc, state)
     const row = made('li', {}, this.choice(`document ${doc}: ${boxes.length}`, boxes), state)
     if (doc === this.review.doc?.doc) row.append(made('ul', {}, ...this.pageRows(boxes)))
-    else row.append(' ', this.opening(doc, boxes[0]))
+    else row.append(' ', this.opening(boxes[0], `Open document ${doc} at its first proposed box`))
     const told = this.review.rows.get(doc)
     if (told !== undefined) this.tellState(told)
     return row
   }
 
-  opening(doc, box) {
-    const element = button('Open', { 'aria-label': `Open document ${doc} at its first proposed box` })
+  opening(box, name) {
+    const element = button('Open', { 'aria-label': name })
     element.addEventListener('click', this.act(() => this.goTo(box)))
     return element
   }
 
+  // the pages of the open document; of the open page its boxes
   pageRows(boxes) {
-    const pages = [...new Set(boxes.map(({ page }) => page))]
-    return pages.map((page) => {
-      const own = boxes.filter((box) => box.page === page)
-      return made('li', {}, this.choice(`page ${page}: ${own.length}`, own), made('ul', {}, ...own.map((box) => this.boxRow(box))))
+    return [...grouped(boxes, ({ page }) => page)].map(([page, own]) => {
+      const choice = this.choice(`page ${page}: ${own.length}`, own)
+      if (page === this.review.page) return made('li', {}, choice, made('ul', {}, ...own.map((box) => this.boxRow(box))))
+      return made('li', {}, choice, ' ', this.opening(own[0], `Open page ${page}`))
     })
   }
 

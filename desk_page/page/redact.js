@@ -182,14 +182,15 @@ export class Redact {
     const full = those((doc) => doc.boxes.length + boxes.get(doc.doc).length > MOST_BOXES && !others.includes(doc.doc))
     const open = [...boxes].filter(([doc]) => !others.includes(doc))
     const count = open.reduce((sum, [, own]) => sum + own.length, 0)
-    const rest = `${others.length === 0 ? '' : `Not called Redact, so that no box goes into them: ${others.join(', ')}. `}`
+    const rest = others.length === 0 ? '' : `Not called Redact, so that no box goes into them: ${others.join(', ')}. `
     if (count === 0) {
       this.asked = null
       throw new NotNow(`${rest}Call them Redact first (R, or X for many).`)
     }
     return `Put ${boxesOf(count)} for ${this.basis.value} in ${documentsOf(open.length)}? ${rest}`
       + (confirmed.length === 0 ? '' : `A confirmation would be undone: ${confirmed.join(', ')}. `)
-      + (full.length === 0 ? '' : `More than ${MOST_BOXES.toLocaleString('en')} boxes, the last of which can’t be put: ${full.join(', ')}. `)
+      + (full.length === 0 ? ''
+        : `More than ${MOST_BOXES.toLocaleString('en')} boxes, the last of which can’t be put: ${full.join(', ')}. `)
       + 'Press Put again.'
   }
 

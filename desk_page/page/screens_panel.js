@@ -145,7 +145,8 @@ export class ScreensPanel {
     const where = page === 0 ? `in its ${this.nameOf(field)}, ` : ''
     const times = count === 1 ? '' : `, ${count.toLocaleString('en')} times`
     const as = called === 'Redact' ? `Redact, ${page === 0 ? 'not held back' : 'without a box on it'}` : called
-    const further = (called === 'not called' || responsive ? '' : ', not responsive') + (production === null ? '' : `, stands in ${production}`)
+    const further = (called === 'not called' || responsive ? '' : ', not responsive')
+      + (production === null ? '' : `, stands in ${production}`)
     return made('li', {}, open, ` ${where}“${phrase.text}”${times} (${phrase.screen}): ${as}${further}`)
   }
 

@@ -5,7 +5,7 @@
 # Words: which of the parts; none for all. Pictures of the screens go to desk_page/tests/out. PROGRAM names a program that was
 # built elsewhere. Needs of Debian chromium, nginx, openssl, python3, netpbm, libtiff-tools and git; where one of them isn't
 # installed it says so, tries nothing and ends with status 0. Ends with 1 where something is not as due.
-parts="decoder nginx review together list find plan receiver looks many speed"
+parts="decoder nginx review together list find plan redact receiver looks many speed"
 set -eu
 here=$(CDPATH='' cd -- "$(dirname -- "$0")" && pwd)
 top=$(CDPATH='' cd -- "$here/../.." && pwd)
@@ -45,12 +45,19 @@ for part; do
         *" $part "*) ;;
         *) echo "usage: run.sh [PART ..], each one of: $parts" >&2; exit 1 ;;
     esac
-    # the scripts of the same names, but for these
-    case $part in list) script=listing ;; find) script=finding ;; *) script=$part ;; esac
+    # the scripts of the same names, but for these; a volume is written by the program alone
+    case $part in
+        list) scripts=listing ;;
+        find) scripts=finding ;;
+        redact) scripts="redact screens ${program:+redacted_volume}" ;;
+        *) scripts=$part ;;
+    esac
     # where there are pictures, they go to a folder
-    case $part in review | together | list | find | plan | receiver) pictures=$shots ;; *) pictures= ;; esac
-    mkdir "$scratch/$part"
+    case $part in review | together | list | find | plan | redact | receiver) pictures=$shots ;; *) pictures= ;; esac
     echo "== $part"
-    "$here/$script.py" "$scratch/$part" ${pictures:+"$pictures"} ${program:+"$program"} || failed=1
+    for script in $scripts; do
+        mkdir "$scratch/$script"
+        "$here/$script.py" "$scratch/$script" ${pictures:+"$pictures"} ${program:+"$program"} || failed=1
+    done
 done
 exit "$failed"

@@ -8,6 +8,7 @@ import { Rows, piece } from './rows.js'
 import { stopWalk } from './walk.js'
 
 const HIGH = 4.4 // of a row, in em
+const HINT = 'Words in turn, at most 8. # is a digit; * at the front or end of a word is anything.'
 const counted = (number, one, many) => `${number.toLocaleString('en')} ${number === 1 ? one : many}`
 
 export class Finder {
@@ -25,10 +26,13 @@ export class Finder {
     search.addEventListener('hits', () => this.grow())
     search.addEventListener('ended', () => this.tell())
     names.addEventListener('told', () => this.rows.redrawAll())
+    review.words.addEventListener('told', () => this.rows.redrawAll())
   }
 
   make(act) {
-    this.words = made('input', { name: 'words', autocomplete: 'off', spellcheck: 'false', 'aria-label': 'Words to find', required: true })
+    this.words = made('input', {
+      name: 'words', autocomplete: 'off', spellcheck: 'false', 'aria-label': 'Words to find', title: HINT, required: true,
+    })
     this.form = made('form', { id: 'find_words' }, this.words, ' ', made('button', {}, 'Find'))
     this.told = made('p', { id: 'find_told', role: 'status' })
     this.stop = button('Stop', { id: 'stop_find' })
@@ -39,7 +43,7 @@ export class Finder {
     const back = button('Documents', { id: 'close_finder' })
     this.panel.append(
       made('p', { class: 'head' }, made('strong', {}, 'Find'), back), this.form,
-      made('p', { class: 'aside' }, 'Words in turn, at most 8. # is a digit; * at the front or end of a word is any letters.'),
+      made('p', { class: 'aside' }, HINT),
       this.told, made('p', {}, this.stop, ' ', this.listThem, ' ', this.forget), this.hits)
     this.form.addEventListener('submit', act((event) => {
       event.preventDefault()
@@ -236,17 +240,9 @@ export class Finder {
     for (const key of this.rows.keysInSight()) {
       const { doc, page } = this.search.hits[key] ?? {}
       if (doc === undefined) return undefined
-      if (page !== 0 && this.review.words.known(doc, page) === null) return () => this.readWords(doc, page)
+      if (page !== 0 && this.review.words.known(doc, page) === null) return () => this.review.words.read(doc, page, true)
       if ((page === 0 || this.names.isWanted) && !this.names.isKnown(doc)) return () => this.names.read(doc, true)
     }
     return undefined
-  }
-
-  async readWords(doc, page) {
-    await this.review.words.read(doc, page, true)
-    for (const key of this.rows.keysInSight()) {
-      const hit = this.search.hits[key]
-      if (hit.doc === doc && hit.page === page) this.rows.redraw(key)
-    }
   }
 }

@@ -17,7 +17,7 @@ from person import Person, check, finish, nameless
 
 PHONE = "###-####"
 PRODUCE = dict(responsive=True, treatment="Produce", designation="")
-ROOM = 8  # pixels that a mark may be wider than its word at each side
+ROOM = 14  # pixels that a mark may be wider than its word at each side
 
 # the hits that are drawn as rows: number, head, the marked words, and all of the line
 ROWS = """Array.from(document.querySelectorAll('#hits_tall .row'), (it) => [Number(it.dataset.number),

@@ -3,7 +3,8 @@ import { button, made } from './elements.js'
 import { labelOf, spanOf } from './labels.js'
 import { isWithheld } from './plan.js'
 import { Pieces } from './pieces.js'
-import { LOG_COLUMNS } from './privilege_log.js'
+import { LOG_COLUMNS, logText } from './privilege_log.js'
+import { download } from './saving.js'
 import { BASES, TREATMENTS } from './states.js'
 
 export const counted = (count, one, many = `${one}s`) => (count === 1 ? `1 ${one}` : `${count.toLocaleString('en')} ${many}`)
@@ -77,6 +78,9 @@ export class PlanView {
     this.held = new Listed('planned_held', 'Held fields', ['Document', 'Label', 'Field', 'Value that is held back', 'Basis', 'Load file'], (row) => this.field(row))
     this.log = new Listed('planned_log', 'Privilege log, a preview', LOG_COLUMNS, (row) => row)
     Object.assign(this, { look, act })
+    const save = button('Save the preview as a file', { id: 'save_log' })
+    save.addEventListener('click', act(() => this.saveLog()))
+    this.log.block.append(save)
     place.append(made('h3', {}, 'What would go out'), this.summary, this.documents.block, this.held.block, this.log.block)
   }
 
@@ -86,6 +90,12 @@ export class PlanView {
     this.documents.show(plan.production.items)
     this.held.show(plan.heldFields())
     this.log.show(plan.logRows())
+  }
+
+  saveLog() {
+    const name = `${this.plan.production.volume}-LOG-PREVIEW.CSV`
+    download(name, new Blob([logText(this.plan.logRows())], { type: 'text/csv' }))
+    return `The preview of the log is saved as ${name}.`
   }
 
   document(item) {

@@ -8,7 +8,6 @@ page that was drawn is compared with the image that `press` writes, pixel by pix
 import csv
 import hashlib
 import io
-import json
 import os
 import subprocess
 import sys
@@ -167,7 +166,23 @@ def try_plan(person, office, shots):
         person.click(f"#{name} summary")
     check("every control of the plan has a name", nameless(person) == [], nameless(person))
     person.shot(os.path.join(shots, "plan.png"))
-    return log
+    return log, saved_log(person, office)
+
+
+def saved_log(person, office):
+    """The bytes of the file that the page saves the preview as."""
+    into = os.path.join(office.folder, "saved")
+    person("Browser.setDownloadBehavior", behavior="allow", downloadPath=into)
+    person.does(lambda: person.click("#save_log"), "is saved as VOL001-LOG-PREVIEW.CSV")
+    path = os.path.join(into, "VOL001-LOG-PREVIEW.CSV")
+    for _ in range(600):
+        if os.path.exists(path) and not any(name.endswith(".crdownload") for name in os.listdir(into)):
+            break
+        time.sleep(0.1)
+    with open(path, "rb") as file:
+        saved = file.read()
+    check("the preview of the log is saved as a file", list(csv.reader(io.StringIO(saved.decode())))[1:] == rows(person, "#planned_log"), saved)
+    return saved
 
 
 # ---- the pages as they will go out
@@ -353,7 +368,8 @@ def try_small(office, shots):
 
 
 FITS = """(() => { const it = document.getElementById('%s'); const on = it.getBoundingClientRect()
-  return on.left >= 0 && on.right <= innerWidth && on.top >= 0 && on.bottom <= innerHeight && it.scrollWidth <= it.clientWidth })()"""
+  return on.left >= 0 && on.right <= innerWidth && on.top >= 0 && on.bottom <= innerHeight
+    && [it, ...it.children].every((part) => part.scrollWidth <= part.clientWidth || part.clientWidth === 0) })()"""
 
 
 def try_difference(person):
@@ -404,7 +420,7 @@ def try_model(office, pages):
     print("the volume: not tried, as the program isn't built")
 
 
-def try_volume(office, pages, log):
+def try_volume(office, pages, log, saved):
     office.close_desk()
     office.run("press", "R-1")
     folder = os.path.join(office.folder, "out", "VOL001", "IMAGES", "0001")
@@ -415,12 +431,7 @@ def try_volume(office, pages, log):
     printed = office.run("log", "R-1")
     check("the log as it was shown is the one that `log` prints, cell by cell", list(csv.reader(io.StringIO(printed)))[1:] == log, printed)
     with open(os.path.join(office.folder, "out", "VOL001", "DATA", "VOL001-LOG.CSV"), "rb") as file:
-        return printed, file.read()
-
-
-def try_log_text(person, log, printed, written):
-    text = person.js(f"(async () => (await import('./privilege_log.js')).logText({json.dumps(log)}))()")
-    check("and byte for byte", text == printed and text.encode() == written, text)
+        check("and as it was saved byte for byte, in the volume too", saved == printed.encode() == file.read(), saved)
 
 
 def main():
@@ -436,7 +447,7 @@ def main():
         person.enter(office.url, LEAD)
         try_in_the_way(person, office, shots)
         decide_rest(office)
-        log = try_plan(person, office, shots)
+        log, saved = try_plan(person, office, shots)
         pages = try_pages(person, office, shots)
         try_sample(person, office, shots)
         try_small(office, shots)
@@ -447,10 +458,10 @@ def main():
         try_freeze(person, office, shots)
         try_difference(person)
         check("nothing that the browser or its policy refused", not any(it.log for it in people), [it.log for it in people])
-        if not office.program:
-            try_model(office, pages)
+        if office.program:
+            try_volume(office, pages, log, saved)
         else:
-            try_log_text(person, log, *try_volume(office, pages, log))
+            try_model(office, pages)
     finally:
         for it in people:
             it.close()

@@ -53,6 +53,12 @@ export async function obstaclesOf(review, { from, to }, far) {
   return { cut: await cutOf(review, states), unsettled: await unsettledOf(review, states, far) }
 }
 
+function headOf(cut, unsettled) {
+  const parts = [...(cut === 0 ? [] : ['families that are cut']),
+    ...(unsettled === 0 ? [] : [unsettled === 1 ? '1 document isn’t settled' : `${unsettled.toLocaleString('en')} documents aren’t settled`])]
+  return parts.length === 0 ? 'Nothing is in the way any more: press Plan again' : `In the way: ${parts.join('; ')}`
+}
+
 // What stands in the way, listed; each document is opened by a button.
 export class InTheWay {
   // `widen` takes a range that has the families whole
@@ -66,8 +72,7 @@ export class InTheWay {
   }
 
   show({ cut, unsettled }, request) {
-    const counted = unsettled.length === 1 ? '1 document isn’t settled' : `${unsettled.length.toLocaleString('en')} documents aren’t settled`
-    this.head.textContent = `In the way: ${[...(cut.length === 0 ? [] : ['families that are cut']), ...(unsettled.length === 0 ? [] : [counted])].join('; ')}`
+    this.head.textContent = headOf(cut.length, unsettled.length)
     this.cut.replaceChildren(...cut.map((family) => this.family(family, request)))
     this.list.show(unsettled)
     this.place.hidden = false

@@ -99,15 +99,21 @@ export class OutgoingPages {
 
   // ---- the sample
 
-  // Another plan: the sample is taken anew where it isn't of the same pages.
+  // another plan, and so a sample of its pages
   take(plan) {
     this.plan = plan
+    if (!this.isCount()) this.count.value = SAMPLE
     this.takeSample()
+  }
+
+  isCount() {
+    const count = Number(this.count.value)
+    return Number.isInteger(count) && count >= 1 && count <= MOST
   }
 
   takeSample() {
     const count = Number(this.count.value)
-    if (!(Number.isInteger(count) && count >= 1 && count <= MOST)) throw new NotNow(`A sample has 1 to ${MOST.toLocaleString('en')} pages.`)
+    if (!this.isCount()) throw new NotNow(`A sample has 1 to ${MOST.toLocaleString('en')} pages.`)
     const places = this.from.value === 'held' ? this.plan.heldPlaces() : Array.from({ length: this.plan.count }, (_, k) => k)
     this.sample = spread(places, count)
     this.list.replaceChildren(...this.sample.map((place) => this.row(place)))

@@ -211,6 +211,8 @@ def scan(number, page):
 
 def grey_of(width, height, rows, across, down):
     """The bytes of the canvas that the page is due: each cell as dark as the share of its pixels that are black."""
+    if (across, down) == (width, height):  # a pixel a cell, and millions of them
+        return "".join(rows).translate({ord("0"): 255, ord("1"): 0}).encode("latin-1")
     columns, lines = [-(-k * width // across) for k in range(across + 1)], [-(-k * height // down) for k in range(down + 1)]
     out = bytearray()
     for line in range(down):

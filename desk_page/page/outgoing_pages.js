@@ -62,10 +62,10 @@ export class OutgoingPages {
   }
 
   listen() {
-    const on = (it, name, work) => it.addEventListener(name, this.act(work))
+    const on = (it, name, work) => it.addEventListener(name, this.act((event) => this.said(() => work(event))))
     on(this.form, 'submit', (event) => {
       event.preventDefault()
-      return this.said(() => this.takeSample())
+      this.takeSample()
     })
     on(this.before, 'click', () => this.show(this.at - 1))
     on(this.after, 'click', () => this.show(this.at + 1))
@@ -94,7 +94,7 @@ export class OutgoingPages {
     }[event.key]
     if (does === undefined || event.ctrlKey || event.metaKey || event.altKey || event.target.matches('select, input:not([type=checkbox])')) return null
     event.preventDefault()
-    return this.said(does)
+    return does()
   }
 
   // ---- the sample

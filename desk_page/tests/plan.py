@@ -304,16 +304,28 @@ def press_freeze(person, words):
 
 
 def try_not_allowed(ellis):
-    """A reviewer plans, and may not freeze."""
-    open_dialog(ellis)
-    fill(ellis, id="R-1", volume="VOL001", prefix="ABC")
-    plan(ellis, "Nothing is frozen.")
-    check("a reviewer may plan", ellis.js("document.getElementById('planned').checkVisibility()"))
-    press_freeze(ellis, "Press Freeze again")
-    ellis.click("#freeze_it")
+    """A reviewer plans, and may not freeze; all by keys."""
+    ellis.tab_to("#show_productions")
+    ellis.key("Enter")
+    ellis.until("document.getElementById('productions').open && document.querySelectorAll('#chosen_fields input').length > 0")
+    for name, text in (("id", "R-1"), ("volume", "vol001"), ("prefix", "abc")):
+        ellis.tab_to(f"#freeze [name={name}]")
+        ellis.type(text)
+    ellis.does(lambda: ellis.key("Enter"), "Nothing is frozen.", "frozen")
+    check("a reviewer may plan, by keys alone", ellis.js("document.getElementById('planned').checkVisibility()"))
+    ellis.tab_to("#look_at_pages")
+    ellis.key("Enter")
+    drawn(ellis, 1)
+    ellis.key("y")
+    ellis.until("document.getElementById('outgoing_told').textContent.startsWith('1 of ')")
+    ellis.key("Escape")
+    ellis.tab_to("#freeze_it")
+    ellis.does(lambda: ellis.key("Enter"), "1 of 10 pages of the sample was looked at. Press Freeze again.", "frozen")
+    ellis.key("Enter")
     check("a press that nobody can have thought of is none", ellis.text("frozen").endswith("Press Freeze again."), ellis.text("frozen"))
     time.sleep(READ)
-    press_freeze(ellis, "Your role may not do this")
+    ellis.does(lambda: ellis.key("Enter"), "Your role may not do this", "frozen")
+    check("and may not freeze", True)
     ellis.key("Escape")
 
 

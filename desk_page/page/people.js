@@ -20,9 +20,11 @@ export class People {
     this.rows = made('tbody')
     dialog.prepend(made('h2', {}, 'People'), made('table', { id: 'staff', class: 'listed' },
       made('thead', {}, made('tr', {}, ...['Number', 'Name', 'Role'].map((name) => made('th', {}, name)))), this.rows))
-    show.addEventListener('click', act(() => {
+    // the list first, so that nothing moves under somebody's hand
+    show.addEventListener('click', act(async () => {
+      const fault = await this.list().then(() => null, (why) => why)
       dialog.showModal()
-      return this.list().catch((why) => this.fail(why))
+      if (fault !== null) this.fail(fault)
     }))
     close.addEventListener('click', () => dialog.close())
     dialog.addEventListener('close', () => this.clear())

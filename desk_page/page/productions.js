@@ -68,8 +68,11 @@ export class Productions {
     this.asked = null
     this.tell('')
     if (elements.to.value === '') elements.to.value = this.review.count
+    // what is asked for first, so that nothing moves under somebody's hand
+    const told = await Promise.allSettled([this.showFields(), this.list()])
     this.dialog.showModal()
-    await Promise.all([this.showFields(), this.list()])
+    const fault = told.find(({ status }) => status === 'rejected')
+    if (fault !== undefined) throw fault.reason
   }
 
   // a box for each of the matter's fields

@@ -424,6 +424,7 @@ def try_people(person, office, shots):
     """The lead takes a person in, who comes with the key that was shown."""
     person.enter(office.url, LEAD)
     person.click("#show_people")
+    person.until("document.getElementById('people').open")
     person.click("#person [name=name]")
     person.type("Osei")
     person.key("Enter")

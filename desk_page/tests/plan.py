@@ -6,7 +6,6 @@ page that was drawn is compared with the image that `press` writes, pixel by pix
     plan.py SCRATCH SHOTS [PROGRAM]     pictures of the screens go into the folder SHOTS
 """
 import csv
-import hashlib
 import io
 import os
 import subprocess
@@ -14,16 +13,12 @@ import sys
 import time
 
 import batch
+from drawn_pages import told, try_by_chance, try_model
 from office import ELLIS, LEAD, MARLOW, Office
-from person import READ, Person, check, finish, nameless, read_page, scan_path
+from person import READ, Person, check, finish, nameless, read_page
 from small_batch import SMALL, make_small_batch
 
 HERE = os.path.dirname(os.path.abspath(__file__))
-sys.path.insert(0, os.path.join(HERE, "..", "..", "trials"))
-sys.dont_write_bytecode = True
-import fuzz_pages  # noqa: E402
-import t6_model  # noqa: E402
-
 ENTRIES = {3: dict(date="2019-03-04", author="Ng", recipients="Ortiz, Berg", description='Letter asking "counsel" for advice on the lease'),
            10: dict(date="2019-05-02", author="Berg", recipients="Ng", description="Note quoting counsel")}
 
@@ -405,34 +400,6 @@ def try_difference(person):
 # ---- the volume
 
 
-def told(width, height, packed):
-    return [width, height, hashlib.sha256(packed).hexdigest()]
-
-
-def by_model(office, number, page, label):
-    """A page that goes out, by the plain model of trials/fuzz_pages.py; page 0 is the sheet of a withheld document."""
-    doc = office.ask(LEAD, "GET", f"/docs/{number}")
-    if page == 0:
-        made = fuzz_pages.slip(doc["treatment"][-2:], label, doc["designation"])
-    else:
-        width, height, rows = read_page(scan_path(number, page))
-        stride = (width + 7) // 8
-        scanned = fuzz_pages.Page(width, height, [t6_model.edges_of(rows[at : at + stride], width) for at in range(0, len(rows), stride)])
-        stamps = [tuple(box[name] for name in ("left", "top", "width", "height", "basis")) for box in doc["boxes"] if box["page"] == page]
-        made = fuzz_pages.banded(fuzz_pages.covered(scanned, stamps, "lettered"), label, doc["designation"])
-    return told(made.width, made.height, made.packed())
-
-
-def try_model(office, pages):
-    """Where no program is there to write a volume, each page beside a plain model."""
-    frozen = office.ask(LEAD, "GET", "/productions/R-1")["items"]
-    places = [(item["doc"], 0 if item["treatment"].startswith("Withhold") else number - item["first"] + 1, number)
-              for item in frozen for number in range(item["first"], item["last"] + 1)]
-    wrong = [number for k, (doc, page, number) in enumerate(places) if pages[k] != by_model(office, doc, page, f"ABC{number:08}")]
-    check(f"each of {len(places)} drawn pages is as by trials/fuzz_pages.py, pixel by pixel", len(pages) == len(places) and wrong == [], wrong)
-    print("the volume: not tried, as the program isn't built")
-
-
 def try_volume(office, pages, log, saved):
     office.close_desk()
     office.run("press", "R-1")
@@ -470,6 +437,7 @@ def main():
         try_not_allowed(people[1])
         try_freeze(person, office, shots)
         try_difference(person)
+        try_by_chance(person)
         check("nothing that the browser or its policy refused", not any(it.log for it in people), [it.log for it in people])
         if office.program:
             try_volume(office, pages, log, saved)

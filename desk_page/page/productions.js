@@ -105,11 +105,12 @@ export class Productions {
     return this.show(await this.review.desk.see(`/productions/${encodeURIComponent(id)}`))
   }
 
-  show(production) {
+  // `how` it stands, in words
+  show(production, how = '') {
     const { id, volume, items } = production
     this.frozen.hidden = false
     this.itemRows.show(items.map((item) => ({ production, item })))
-    return `${id} stands: ${counted(items.length, 'document')}, ${spanOf(production, production)}. To write its volume ${volume}, end the `
+    return `${id} stands${how}: ${counted(items.length, 'document')}, ${spanOf(production, production)}. To write its volume ${volume}, end the `
       + `desk, and in the matter’s folder give the command tivrenan press ${id}`
   }
 
@@ -221,14 +222,12 @@ export class Productions {
     }
     const production = await this.review.desk.make('/productions', plan.request, UNKNOWN)
     this.forgetPlan()
-    const text = this.show(production)
-    await this.compare(plan, production).catch((why) => {
-      why.message = `${text}. ${why.message}`
-      throw why
-    })
-    return `${text}. It is as it was planned.`
+    const other = await this.compare(plan, production)
+    if (other.length === 0) return this.show(production, ' as it was planned')
+    throw new NotNow(`It may not be as it was planned; look at its volume. ${other.join(' ')} ${this.show(production)}`)
   }
 
+  // what isn't as it was planned, in words
   async compare(plan, production) {
     const other = plan.differences(production)
     try {
@@ -237,6 +236,6 @@ export class Productions {
     } catch (why) {
       other.push(`The documents weren’t compared: ${reasonOf(why)}`)
     }
-    if (other.length > 0) throw new NotNow(`It may not be as it was planned; look at its volume. ${other.join(' ')}`)
+    return other
   }
 }

@@ -325,13 +325,30 @@ def try_not_allowed(ellis):
     ellis.key("Escape")
 
 
+# the answer to the freeze is held back until `go_on`
+HOLD = """window.whole = window.fetch
+window.fetch = async (path, request) => {
+  const answer = await whole(path, request)
+  if (request.method === 'POST' && path.endsWith('/productions')) await new Promise((go) => { window.go_on = go })
+  return answer
+}"""
+
+
 def try_freeze(person, office, shots):
     press_freeze(person, f"Freeze documents 1 to {office.last} as R-1? It can’t be taken back")
     check("it says how much of the sample was looked at", "of the sample" in person.text("frozen"), person.text("frozen"))
     person.shot(os.path.join(shots, "freeze.png"))
     time.sleep(READ)
-    press_freeze(person, "It is as it was planned.")
-    check("the production stands", person.text("frozen").startswith(f"R-1 stands: {office.last - 2} documents, ABC00000001 to "), person.text("frozen"))
+    person.js(HOLD)
+    person.click("#freeze_it")
+    person.until("window.go_on !== undefined")
+    put_box(office, 5, 10, 3, 10, 10, 50, 50, "PI")
+    person.does(lambda: person.js("window.go_on()"), "It may not be as it was planned; look at its volume.", "frozen")
+    check("what is changed in the moment of the freeze is told", "Document 5 was changed since you looked, last by Ellis (boxes, confirmation)"
+          in person.text("frozen"), person.text("frozen"))
+    person.js("window.fetch = window.whole")
+    office.ask(ELLIS, "POST", "/docs/5/unbox", dict(num=10))
+    check("the production stands", f"R-1 stands: {office.last - 2} documents, ABC00000001 to " in person.text("frozen"), person.text("frozen"))
     check("it is listed", rows(person, "#kept") == [["R-1", "VOL001", f"ABC00000001 to ABC{11 + office.last:08}", f"1 to {office.last}",
                                                      str(office.last - 2), "Look"]], rows(person, "#kept"))
     person.click("#kept button")

@@ -395,13 +395,13 @@ def try_productions(person, office, shots):
     plan("Nothing is frozen.")
     freeze("Press Freeze again")
     time.sleep(READ)
-    due = "R-1 stands: 10 documents, ABC00000001 to ABC00000023. "
-    check("the production stands", freeze("It is as it was planned."), person.text("frozen"))
-    check("and that is told", person.text("frozen").startswith(due), person.text("frozen"))
+    due = "R-1 stands as it was planned: 10 documents, ABC00000001 to ABC00000023. "
+    check("the production stands", freeze(due), person.text("frozen"))
     rows = person.js("Array.from(document.querySelectorAll('#items tbody tr'), (it) => Array.from(it.cells, (cell) => cell.textContent).join(' '))")
     check("with each document's labels", len(rows) == 10 and rows[2] == "3 Withhold AC ABC00000006" and
           rows[3] == "4 Produce ABC00000007", rows)
     person.shot(os.path.join(shots, "production.png"), "#productions")
+    due = due.replace(" as it was planned", "")
     check("asked once more it is the same", plan(due), person.text("frozen"))
     person.says("it is listed, and looked at", lambda: person.click("#kept button"), due, "frozen")
     person.key("Escape")

@@ -1,11 +1,11 @@
 #!/bin/sh
 # Tries the review page: its reader of pages beside libtiff, nginx by the page's configuration, a whole review in a headless
-# Chromium, several people at once, a production from its plan on, a receiver, a matter of 10,000 documents, how fast the next
-# one comes. Over the program, where it is built, else over a stand-in for the desks, which is compared with the program.
+# Chromium, several people at once, a production from its plan on, a receiver, 10,000 documents. Over the program, where it is
+# built, else over a stand-in for the desks, which is compared with the program.
 # Words: which of the parts; none for all. Pictures of the screens go to desk_page/tests/out. PROGRAM names a program that was
 # built elsewhere. Needs of Debian chromium, nginx, openssl, python3, netpbm, libtiff-tools and git; where one of them isn't
 # installed it says so, tries nothing and ends with status 0. Ends with 1 where something is not as due.
-parts="decoder nginx review together list find plan redact receiver looks many speed"
+parts="decoder nginx review together list find plan redact receiver looks many"
 set -eu
 here=$(CDPATH='' cd -- "$(dirname -- "$0")" && pwd)
 top=$(CDPATH='' cd -- "$here/../.." && pwd)

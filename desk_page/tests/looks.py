@@ -175,6 +175,10 @@ def rounds(pair, draw, count):
 def staff(pair):
     for name, role in STAFF:
         pair.ask(LEAD, "POST", "/staff", dict(name=name, role=role, digest=digest(key_of(name))))
+    known = dict(name="Ellis", role="Reviewer", digest=digest(key_of("Ellis")))
+    for other in ({}, dict(name="Elli"), dict(role="Second"), dict(name="", digest="0" * 64), dict(name="a\tb"), dict(digest="0" * 63),
+                  dict(digest="A" * 64), dict(role="reviewer"), dict(name=None)):
+        pair.ask(LEAD, "POST", "/staff", known | other)
 
 
 DUE = ("RequestDiffers", "BadPrefix", "BadVolume", "FieldChoice", "NoField", "PrefixDiffers", "RangeEmpty", "SplitFamily", "Unsettled",

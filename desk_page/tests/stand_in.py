@@ -33,6 +33,8 @@ def page_of(doc, number):
 
 def add_staff(matter, _caller, _numbers, body):
     person = (text(body["name"]), body["role"], body["digest"])
+    if person[0] == "":
+        raise Refused("TextRefused")
     for number, known in enumerate(matter.staff, 1):
         if known[2] == person[2]:
             if known != person:
@@ -146,10 +148,11 @@ def get_production(matter, _caller, words, _body):
     return matter.productions.see(words[0])
 
 
+DIGEST = re.compile("[0-9a-f]{64}")
 DOC = r"/docs/([1-9]\d{0,8})"
 # method, target, who may, what it does, members
 ROUTES = [
-    ("POST", "/staff", {"Lead"}, add_staff, dict(name=str, role=ROLES, digest=str)),
+    ("POST", "/staff", {"Lead"}, add_staff, dict(name=str, role=ROLES, digest=DIGEST)),
     ("GET", DOC, INSIDERS, see_doc, {}),
     ("GET", DOC + r"/pages/([1-9]\d{0,8})", INSIDERS, see_page, {}),
     ("GET", DOC + r"/pages/([1-9]\d{0,8})/words", INSIDERS, see_words, {}),
@@ -174,9 +177,12 @@ ROUTES = [
 
 
 def fits(value, kind):
-    """Whether a member has a value of its kind: one of a set, a number of a range, a list of texts, a text, truth, or a number."""
+    """Whether a member has a value of its kind: one of a set, a text of a form, a number of a range, a list of texts, a text, truth, or a
+    number."""
     if isinstance(kind, set):
         return isinstance(value, str) and value in kind
+    if isinstance(kind, re.Pattern):
+        return isinstance(value, str) and kind.fullmatch(value) is not None
     if isinstance(kind, range):
         return type(value) is int and value in kind
     if kind is list:

@@ -1,10 +1,13 @@
 // What is pressed, by the mouse or by keys, and what it does.
 import { Keys, listKeys } from './keys.js'
 import { act, asItStands, say, the } from './messages.js'
+import { BLOCK } from './overview.js'
 import { forgetLink, placeIn } from './place.js'
 import { NotNow } from './review.js'
 import { progressOf } from './states.js'
 import { stopWalk, walk } from './walk.js'
+
+const inDigits = (number) => number.toLocaleString('en')
 
 export function listen({ review, overview, paper, boxes, documents, listing, list, finder, call, second, many, last, place, words, redact }) {
   const on = (id, work) => the(id).addEventListener('click', act(work))
@@ -139,8 +142,7 @@ async function openUnsettled(review, overview) {
   const { isStopped } = await walk(blocks.length, async (k) => {
     await overview.tell(blocks[k])
     return review.doc.doc === from && nextUnsettled(review) === undefined
-  }, (k) => say(`Looking for one that isn’t settled: ${(500 * k).toLocaleString('en')} of ${review.count.toLocaleString('en')} documents. `
-    + 'Escape stops.'))
+  }, (k) => say(`Looking for one that isn’t settled: ${inDigits(BLOCK * k)} of ${inDigits(review.count)} documents. Escape stops.`))
   if (review.doc.doc !== from) return null
   const other = nextUnsettled(review)
   if (other !== undefined) return review.open(other)

@@ -36,7 +36,7 @@ export class Finder {
     this.form = made('form', { id: 'find_words' }, this.words, ' ', made('button', {}, 'Find'))
     this.told = made('p', { id: 'find_told', role: 'status' })
     this.stop = button('Stop', { id: 'stop_find' })
-    this.listThem = button('List these documents', { id: 'list_found' })
+    this.listThem = button('', { id: 'list_found' })
     this.forget = button('Clear', { id: 'clear_find' })
     this.tall = made('div', { id: 'hits_tall', role: 'presentation' })
     this.hits = made('div', { id: 'hits', role: 'listbox', 'aria-label': 'Hits', tabindex: '0' }, this.tall)
@@ -136,7 +136,8 @@ export class Finder {
     this.stop.disabled = !search.isUnderWay
     this.listThem.disabled = search.byDoc.size === 0
     this.forget.disabled = search.terms.length === 0
-    this.listThem.textContent = search.byDoc.size === 0 ? 'List the documents' : `List ${counted(search.byDoc.size, 'document', 'documents')}`
+    const { size } = search.byDoc
+    this.listThem.textContent = size === 0 ? 'List the documents' : `List ${counted(size, 'document', 'documents')}`
   }
 
   inWords() {

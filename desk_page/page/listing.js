@@ -4,11 +4,12 @@
 import { countsOf, isFilter, takes } from './filters.js'
 import { walk } from './walk.js'
 
-const PROGRESS = (row) => (row.editor === 0 ? 0 : row.confirmer === 0 && row.treatment !== 'Produce' ? 1 : 2)
+// 0 where nobody called it, 1 where it is to be confirmed, 2 where it is settled
+const stageOf = (row) => (row.editor === 0 ? 0 : row.confirmer === 0 && row.treatment !== 'Produce' ? 1 : 2)
 
 // Orders that go by what stands of a document, and so may change with it; one document before another of the same is by number.
 const BY_ROW = {
-  state: (row) => PROGRESS(row) * 2 + Number(row.production !== null),
+  state: (row) => stageOf(row) * 2 + Number(row.production !== null),
   changed: (row, { changes }) => -(changes.get(row.doc) ?? 0),
 }
 

@@ -2,7 +2,7 @@
 // the list shows what others did. Each look takes a place of the desks' journal: there is one in ten seconds, and none while
 // the tab is hidden or nobody is at it.
 
-const BLOCK = 500 // documents that one answer tells of
+export const BLOCK = 500 // documents that one answer tells of
 const EACH = 10_000 // milliseconds from one look to the next
 const IDLE = 600_000 // milliseconds after the last key or mouse in which somebody is still there
 

@@ -77,8 +77,10 @@ def try_kept(person, office):
     person.come(ELLIS)
     person.until(f"document.querySelector('#document_2 .name')?.textContent.trim() === {json.dumps(COLUMN['DOCTYPE'][1])}")
     check("the choice is kept for the tab", True)
+    person.rest()
     person.click("#leave")
     person.until("document.readyState === 'complete' && document.getElementById('enter')?.checkVisibility() === true")
+    person.under_way.clear()  # of what a left page asked for no answer is told
     person.come(MARLOW)
     person.until(f"document.querySelector('#document_2 .name')?.textContent.trim() === {json.dumps(COLUMN['TITLE'][1])}")
     check("another person of the tab has their own", True)

@@ -7,6 +7,7 @@ import { ChosenWords } from './chosen_words.js'
 import { leave, listen } from './controls.js'
 import { Decoder } from './decoder.js'
 import { Desk, isKey } from './desk.js'
+import { DocName } from './doc_name.js'
 import { Documents } from './documents.js'
 import { EntryForm } from './entry_form.js'
 import { Family } from './family.js'
@@ -71,6 +72,7 @@ function build(review, overview, place) {
     refused: the('many_refused'), stop: the('stop_many'), close: the('close_many'), act,
   })
   const last = new LastCall(review)
+  new DocName(review, names, { place: the('doc_name'), behind })
   new Family(review, { place: the('family'), act })
   new People(review, {
     dialog: the('people'), form: the('person'), handed: the('handed'), newKey: the('new_key'), show: the('show_people'),

@@ -141,6 +141,8 @@ class Chromium:
         elif event["method"] in ("Network.responseReceived", "Network.loadingFailed"):
             # the end of an answer that the page doesn't read, as of a 502, is never told
             self.under_way.discard(event["params"]["requestId"])
+        elif event["method"] == "Page.frameNavigated":
+            self.under_way.clear()  # what a page that was left had asked for gets no answer
 
     def js(self, text):
         """The value of an expression; a promise is waited for."""
@@ -171,7 +173,7 @@ class Chromium:
             elif time.time() - since >= seconds:
                 return
             time.sleep(0.05)
-        raise RuntimeError(f"never at rest: {self.requests[-1]['url']}")
+        raise RuntimeError(f"never at rest: {self.requests[-1]['url']}, {len(self.under_way)} under way")
 
     def go(self, url):
         self.js("window.is_left = true")

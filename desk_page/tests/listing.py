@@ -62,6 +62,8 @@ def try_names(person, shots):
     number, _, state, rest = rows(person)[2]
     check("with its date, its author and its pages", (number, state) == (3, "not called") and
           rest == f"{COLUMN['DOCDATE'][2]} · {COLUMN['AUTHOR'][2]} · 5 pages · with 1", rest)
+    called = " · ".join(COLUMN[name][0] for name in ("TITLE", "DOCDATE", "AUTHOR"))
+    check("and so it is called where it is open", person.text("doc_name") == called, person.text("doc_name"))
     person.shot(os.path.join(shots, "list.png"))
     before = asked(person, "/values")
     arrange(person, name="DOCTYPE", date="", author="RECIPIENTS")
@@ -152,9 +154,10 @@ def try_counts(person, office, shots):
     due = due_counts(office, None)
     told_within("what others did is in the counts", person, lambda: counts(person) == due, lambda: (counts(person), due))
     check("and in the rows", rows(person)[2][2] == "Withhold AC, to confirm", rows(person)[2])
-    check("the open document says that it isn't as it is shown", "Not called" in person.text("state") and
-          person.text("outdated") == "It isn’t so any more. Now: Withhold WP, responsive; last edited by Ellis, not confirmed. Look again (L).",
-          person.text("outdated"))
+    line = "It isn’t so any more. Now: Withhold WP, responsive; last edited by Ellis, not confirmed. Look again (L)."
+    # who edited it may have to be asked for
+    told_within("the open document says that it isn't as it is shown", person, lambda: person.text("outdated") == line, lambda: person.text("outdated"))
+    check("and stays as it was read", "Not called" in person.text("state"), person.text("state"))
     person.shot(os.path.join(shots, "outdated.png"))
     person.does(lambda: person.key("l"), "as it stands now")
     check("looked at again it is", "Withhold WP" in person.text("state") and person.js("document.getElementById('outdated').hidden"), person.text("state"))

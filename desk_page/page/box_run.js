@@ -51,7 +51,7 @@ export class BoxRun {
         stands.set(box.doc, at.now)
       })
     }, (k) => far(k))
-    return { ...walked, made: made.length, stands: [...stands.values()] }
+    return { ...walked, made: made.filter(({ isSure }) => isSure).length, stands: [...stands.values()] }
   }
 
   // Does the work for a box. Where its document was left, it is left too. Whether the run goes on.
@@ -83,12 +83,12 @@ export class BoxRun {
     try {
       await this.review.make(doc, 'box', members)
     } catch (why) {
-      if (why instanceof NoAnswer) made.push({ doc, ...members }) // it may stand
+      if (why instanceof NoAnswer) made.push({ doc, ...members, isSure: false }) // it may stand
       throw why
     }
-    made.push({ doc, ...members })
+    made.push({ doc, ...members, isSure: true })
     const now = await this.review.lookAfter(doc)
-    if (!isBeside(before, now, members)) throw new Changed(changeInWords(before, now))
+    if (!isBeside(before, now, members)) throw new Changed(`Box ${num} was put, but: ${changeInWords(before, now)}`)
     return now
   }
 

@@ -26,7 +26,7 @@ export class Redact {
     this.proposals = new Proposals(review)
     this.run = new BoxRun(review)
     this.build(beside)
-    const door = button('Redact by term ')
+    const door = button('Redact ', { 'aria-label': 'Redact by term' })
     door.append(made('kbd', {}, 'Q'))
     doors.insertBefore(door, doors.lastElementChild)
     door.addEventListener('click', act(() => this.open()))

@@ -269,6 +269,31 @@ def try_stops(person, office):
     press_button(person, "Close")
 
 
+CUT_OFF = """(() => {
+  let boxes = 0
+  window.whole ??= window.fetch
+  window.fetch = (path, request) => path.endsWith('/box') && (boxes += 1) > 1 ? Promise.reject(new TypeError('cut off')) : whole(path, request)
+})()"""
+
+
+def try_cut_off(person, office):
+    """A box that no desk answers may stand: the run ends there, and Undo looks for it too."""
+    person.open(1)
+    look_for(person, ["helen ng"], "one")
+    count = count_taken(person)
+    person.does(lambda: press_button(person, "Put"), "Press Put again.")
+    person.js(CUT_OFF)
+    person.says("a run ends where no desk answers", lambda: press_button(person, "Put"), f"1 box put, 1 refused, {count - 2} not tried.")
+    check("and that a box may stand is told", "It isn’t known whether a call of yours on document 1 was made" in "".join(person.heard()), person.heard()[-3:])
+    person.js("window.fetch = window.whole")
+    person.does(lambda: person.key("l"), "as it stands now")
+    person.does(lambda: press_button(person, "Undo"), "Drop the 2 boxes")
+    person.says("Undo drops the one that stands", lambda: press_button(person, "Undo"), "1 box of 2 dropped, 1 not.")
+    check("and says that the other doesn't", "Box 2 doesn’t stand any more." in person.text("redact_refused") and told(office, 1)["boxes"] == [],
+          person.text("redact_refused"))
+    press_button(person, "Close")
+
+
 def at_desk(office, path, members):
     """A call without nginx, which lets 50 a second through."""
     request = urllib.request.Request(f"http://127.0.0.1:{office.ports[0]}{path}", json.dumps(members).encode(), {"Desk-Key": ELLIS}, method="POST")
@@ -474,6 +499,7 @@ def main():
         made = try_putting(ellis, office, due, shots)
         try_undo(ellis, office, made)
         try_stops(ellis, office)
+        try_cut_off(ellis, office)
         try_words(ellis, office, shots)
         try_limit(ellis, office)
         try_colours(ellis, shots)

@@ -1,6 +1,7 @@
 // Boxes that are proposed for the hits of phrases: which there are, and which of them are taken.
 import { grouped } from './grouped.js'
 import { hitsInRange } from './hits.js'
+import { statesInRange } from './range_states.js'
 import { areInside, boxesAround, isCovered, wordsOfHit } from './term_boxes.js'
 import { walk } from './walk.js'
 
@@ -31,7 +32,9 @@ export class Proposals extends EventTarget {
       far(`Looking for “${phrases[k].text}”, ${k + 1} of ${phrases.length}: at document ${doc.toLocaleString('en')}. Escape stops.`))
     if (isStopped) return false
     const pages = pagesOf(hits.filter(({ page }) => page > 0))
-    const found = { all: [], covered: 0, told: null }
+    const states = await this.statesOf(pages, far)
+    if (states === null) return false
+    const found = { all: [], covered: 0, told: null, states }
     const { done } = await walk(pages.length, (k) => this.addPage(pages[k], found), (k) =>
       far(`Read ${k.toLocaleString('en')} of ${pages.length.toLocaleString('en')} pages. Escape stops.`))
     if (done < pages.length) return false
@@ -40,7 +43,7 @@ export class Proposals extends EventTarget {
   }
 
   async addPage({ doc, page, hits }, found) {
-    if (found.told?.doc !== doc) found.told = await this.boxed(doc)
+    if (found.told?.doc !== doc) found.told = await this.boxed(doc, found.states)
     const words = await this.review.readWords(doc, page, true)
     const boxes = found.told.boxes.filter((box) => box.page === page)
     const names = new Set()
@@ -58,9 +61,14 @@ export class Proposals extends EventTarget {
     }
   }
 
-  // a document that has no box isn't looked at; all are before boxes are put
-  boxed(doc) {
-    return this.review.rows.get(doc)?.boxes === 0 ? { doc, boxes: [] } : this.review.lookAt(doc, true)
+  // a document that has no box isn't looked at for now; each is before its boxes are put
+  boxed(doc, states) {
+    return states.get(doc)?.boxes === 0 ? { doc, boxes: [] } : this.review.lookAt(doc, true)
+  }
+
+  async statesOf(pages, far) {
+    const [from, to] = [pages[0]?.doc, pages.at(-1)?.doc]
+    return from === to ? new Map() : statesInRange(this.review, { from, to }, (text) => far(`${text} Escape stops.`))
   }
 
   // the page's sides are asked for only where a box might leave it

@@ -3,13 +3,13 @@
 import { grouped } from './grouped.js'
 import { hitsInRange } from './hits.js'
 import { phrasesOfFile } from './phrases.js'
+import { statesInRange } from './range_states.js'
 import { NotNow } from './review.js'
 import { isCovered, wordsOfHit } from './term_boxes.js'
 import { walk } from './walk.js'
 
 const FILE = /^[a-z0-9_-]+\.txt$/
 const MOST = 200000 // hits
-const STATES = 500 // documents that an answer tells
 
 async function textOf(file) {
   const answer = await fetch(`screens/${file}`, { cache: 'no-store', credentials: 'omit' })
@@ -46,7 +46,7 @@ export class RangeCheck {
     const { hits, isStopped } = await hitsInRange(this.review.looks, phrases, range, MOST, (k) =>
       this.far(`Looked for ${k.toLocaleString('en')} of ${phrases.length.toLocaleString('en')} phrases.`))
     if (isStopped) return null
-    const states = await this.statesOf(range)
+    const states = await statesInRange(this.review, range, this.far)
     if (states === null) return null
     const byDocument = grouped(hits, ({ doc }) => doc)
     const docs = [...byDocument.keys()].sort((a, b) => a - b)
@@ -54,15 +54,6 @@ export class RangeCheck {
     const { done } = await walk(docs.length, (k) => this.addDocument(states.get(docs[k]), byDocument.get(docs[k]), found), (k) =>
       this.far(`Looked at ${k.toLocaleString('en')} of ${docs.length.toLocaleString('en')} documents that are hit.`))
     return done < docs.length ? null : found
-  }
-
-  async statesOf({ from, to }) {
-    const states = new Map()
-    const answers = Math.ceil((to - from + 1) / STATES)
-    const { done } = await walk(answers, async (k) => {
-      for (const row of await this.review.looks.states(from + k * STATES, true)) states.set(row.doc, row)
-    }, (k) => this.far(`Asked how ${(k * STATES).toLocaleString('en')} documents are called.`))
-    return done < answers ? null : states
   }
 
   async addDocument(state, hits, found) {

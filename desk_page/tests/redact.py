@@ -108,6 +108,22 @@ def try_one_document(person, office):
     check("Close takes them away", person.js("document.getElementById('redact').hidden") and proposed(person) == [])
 
 
+def try_from_search(person):
+    """What was searched for stands ready, and `.` goes through proposed boxes as long as they are there."""
+    person.key("/")
+    person.until("document.activeElement.name === 'words'")
+    person.type("lawyer*")
+    person.does(lambda: person.key("Enter"), "3 hits in 3 documents.")
+    person.key("q")
+    person.until("document.activeElement.name === 'phrases'")
+    check("the phrase that was searched for stands ready", person.js("document.activeElement.value") == "lawyer*")
+    person.key("Escape")
+    press_button(person, "Close")
+    person.says("and `.` is the search's again", lambda: person.key("."), "Hit 1 of 3")
+    person.click("#clear_find")
+    person.click("#close_finder")
+
+
 # ---- taken or left
 
 
@@ -495,6 +511,7 @@ def main():
         try_edges(ellis)
         due = try_proposing(ellis, office, shots)
         try_one_document(ellis, office)
+        try_from_search(ellis)
         try_taking(ellis, due)
         made = try_putting(ellis, office, due, shots)
         try_undo(ellis, office, made)

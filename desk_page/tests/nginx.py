@@ -138,7 +138,7 @@ def try_fields(scratch):
 
 
 def try_heads(office):
-    for path, due in (("/", 200), ("/main.js", 200), ("/layout.css", 200), ("/fields.json", 404), ("/none", 404), ("/desk/docs/1", 200)):
+    for path, due in (("/", 200), ("/main.js", 200), ("/layout.css", 200), ("/none", 404), ("/desk/docs/1", 200)):
         status, head, _ = office.request("k", "GET", path)
         policy = head.get("Content-Security-Policy", "")
         check(f"{path} comes with the policy, once, and is kept nowhere",

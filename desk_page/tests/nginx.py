@@ -250,6 +250,13 @@ def try_desk(scratch, program):
         status, _, body = office.request(ELLIS, "POST", "/desk/docs/1/entry",
                                          dict(date="", author="", recipients="", description="x" * 1001))
         check("a text over its limit is refused by the desk", status == 409 and b"TextRefused" in body, (status, body[:80]))
+        request = dict(id="R", volume="V", prefix="P", width=4, fields=[], to=12, **{"from": 1})
+        looks = (("GET", "/states/1", None), ("GET", "/docs/1/values", None), ("GET", "/staff", None), ("GET", "/productions", None),
+                 ("POST", "/find", {"terms": ["roof"], "from": 1, "page": 0}), ("POST", "/plan", request))
+        told = [office.request(ELLIS, method, "/desk" + path, members)[0::2] for method, path, members in looks]
+        # nothing is called yet, so that a plan is refused by the desk
+        check("the looks at many come through", [status for status, _ in told] == [200] * 5 + [409] and b"Unsettled" in told[-1][1]
+              and len(json.loads(told[0][1])) == 12 and json.loads(told[4][1])["next"] == 0, told)
         fields = {f"X_{k}": "x" for k in range(40)}
         status, _, _ = office.request(ELLIS, "GET", "/desk/docs/1", **fields)
         check("40 fields of a browser are no matter", status == 200, status)

@@ -125,7 +125,7 @@ class Office:
         user = "user root;" if os.geteuid() == 0 else ""
         with open(os.path.join(self.folder, "nginx.conf"), "w", encoding="utf-8") as file:
             file.write(f"{user} worker_processes 1; daemon off; pid {self.folder}/nginx.pid; error_log {self.folder}/error.log;"
-                       f"events {{ worker_connections 2048; }} http {{ {temps}\n{self.site()} }}")
+                       f"events {{ worker_connections 2048; }} http {{ client_header_timeout 600s; {temps}\n{self.site()} }}")
         words = [shutil.which("nginx"), "-p", self.folder, "-c", "nginx.conf", "-e", f"{self.folder}/error.log"]
         nginx = subprocess.Popen(words)
         self.processes.append(nginx)

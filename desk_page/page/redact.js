@@ -19,8 +19,8 @@ const boxesOf = (count) => counted(count, 'box', 'boxes')
 const documentsOf = (count) => counted(count, 'document', 'documents')
 
 export class Redact {
-  // the panel stands behind the element `beside`, and the button that opens it among `doors`
-  // `searched` tells what was searched for in this window
+  // The panel stands behind the element `beside`, and the button that opens it among `doors`; `searched` tells what was
+  // searched for in this window.
   constructor(review, boxes, paper, { beside, doors, searched, act }) {
     Object.assign(this, { review, boxes, searched, act, asked: null, isUndoing: false, suggested: '' })
     this.proposals = new Proposals(review)
@@ -32,6 +32,7 @@ export class Redact {
     door.addEventListener('click', act(() => this.open()))
     this.list = new ProposedList(review, this.proposals, boxes, paper, { place: this.proposed, act })
     for (const name of ['change', 'taken']) this.proposals.addEventListener(name, () => this.tell())
+    this.proposals.addEventListener('change', () => this.showValues())
     this.basis.addEventListener('change', () => this.tell())
     this.tell()
   }
@@ -109,7 +110,6 @@ export class Redact {
     this.putButton.textContent = `Put ${boxesOf(taken)}`
     this.putButton.disabled = taken === 0
     this.undo.disabled = this.run.made.length === 0
-    this.showValues()
   }
 
   // Hits in fields can't be boxed.

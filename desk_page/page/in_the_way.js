@@ -87,7 +87,8 @@ export class InTheWay {
     const wide = { from: Math.min(from, request.from), to: Math.max(to, request.to) }
     const take = button(`Take documents ${wide.from} to ${wide.to}`)
     take.addEventListener('click', () => this.widen(wide))
-    return made('li', {}, openButton(this, outside), ` The family of document ${parent}, documents ${from} to ${to}, reaches outside the range. `, take)
+    const text = ` The family of document ${parent}, documents ${from} to ${to}, reaches outside the range. `
+    return made('li', {}, openButton(this, outside), text, take)
   }
 
   unsettled({ row, lacks }) {

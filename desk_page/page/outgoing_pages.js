@@ -92,7 +92,8 @@ export class OutgoingPages {
       ArrowRight: () => this.show(this.at + 1), ArrowLeft: () => this.show(this.at - 1),
       j: () => this.step(1), k: () => this.step(-1), y: () => this.lookedAt(true).then(() => this.step(1)),
     }[event.key]
-    if (does === undefined || event.ctrlKey || event.metaKey || event.altKey || event.target.matches('select, input:not([type=checkbox])')) return null
+    const isOthers = event.ctrlKey || event.metaKey || event.altKey || event.target.matches('select, input:not([type=checkbox])')
+    if (does === undefined || isOthers) return null
     event.preventDefault()
     return does()
   }
@@ -131,14 +132,14 @@ export class OutgoingPages {
     return this.ticks.has(nameOf(this.plan.pageAt(place)))
   }
 
-  // how much of the sample was looked at
+  // how much of the sample was looked at, in words
   tally() {
     const done = this.sample.filter((place) => this.isTicked(place)).length
-    return { done, all: this.sample.length, text: `${done} of ${counted(this.sample.length, 'page')} of the sample ${done === 1 ? 'was' : 'were'} looked at` }
+    return `${done} of ${counted(this.sample.length, 'page')} of the sample ${done === 1 ? 'was' : 'were'} looked at`
   }
 
   tell() {
-    this.told.textContent = `${this.tally().text}.`
+    this.told.textContent = `${this.tally()}.`
     for (const [k, row] of [...this.list.children].entries()) {
       const isTicked = this.isTicked(this.sample[k])
       row.firstChild.textContent = isTicked ? '✓ ' : '○ '

@@ -74,8 +74,10 @@ export class PlanView {
   // `look` opens the pages as they will go out, at a place
   constructor({ place, look, act }) {
     this.summary = made('ul', { id: 'plan_summary' })
-    this.documents = new Listed('planned_documents', 'Documents', ['Document', 'Treatment', 'Labels', 'Designation', 'Held back'], (item) => this.document(item))
-    this.held = new Listed('planned_held', 'Held fields', ['Document', 'Label', 'Field', 'Value that is held back', 'Basis', 'Load file'], (row) => this.field(row))
+    this.documents = new Listed('planned_documents', 'Documents',
+      ['Document', 'Treatment', 'Labels', 'Designation', 'Held back'], (item) => this.document(item))
+    this.held = new Listed('planned_held', 'Held fields',
+      ['Document', 'Label', 'Field', 'Value that is held back', 'Basis', 'Load file'], (row) => this.field(row))
     this.log = new Listed('planned_log', 'Privilege log, a preview', LOG_COLUMNS, (row) => row)
     Object.assign(this, { look, act })
     const save = button('Save the preview as a file', { id: 'save_log' })

@@ -37,7 +37,7 @@ export class Productions {
     on(this.freeze, 'click', () => this.pressFreeze())
     on(this.look, 'click', () => this.pages.open())
     this.form.addEventListener('input', () => this.forgetPlan())
-    this.pages.dialog.addEventListener('ticked', () => { this.tally.textContent = `${this.pages.tally().text}.` })
+    this.pages.dialog.addEventListener('ticked', () => { this.tally.textContent = `${this.pages.tally()}.` })
     this.stop.addEventListener('click', () => stopWalk())
     this.close.addEventListener('click', () => this.dialog.close())
     this.dialog.addEventListener('close', () => stopWalk())
@@ -201,7 +201,7 @@ export class Productions {
     this.asked = isAsked ? null : performance.now()
     if (!isAsked) {
       const { from, to, id } = plan.request
-      return `Freeze documents ${from} to ${to} as ${id}? It can’t be taken back. ${this.pages.tally().text}. Press Freeze again.`
+      return `Freeze documents ${from} to ${to} as ${id}? It can’t be taken back. ${this.pages.tally()}. Press Freeze again.`
     }
     this.freeze.disabled = true
     this.stop.disabled = false

@@ -1,5 +1,6 @@
 // What the open document is called, at its head: its name, date and author, as the list has them.
 import { PARTS } from './names.js'
+import { piece } from './rows.js'
 
 export class DocName {
   constructor(review, names, { place, behind }) {
@@ -18,6 +19,7 @@ export class DocName {
     const { review, names, place } = this
     const texts = review.doc === null ? [] : PARTS.map((part) => names.of(review.doc.doc, part)).filter((text) => text !== '')
     place.hidden = texts.length === 0
-    place.textContent = texts.join(' · ')
+    // a date stays on one line
+    place.replaceChildren(...texts.flatMap((text, k) => [...(k === 0 ? [] : [' · ']), piece('part', text)]))
   }
 }

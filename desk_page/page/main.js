@@ -54,7 +54,7 @@ function build(review, overview, place) {
   const boxes = new Boxes(review, paper, { list: the('boxes'), basis: the('basis'), showWords: the('show_words'), act })
   const words = new ChosenWords(review, boxes, paper, { showWords: the('show_words'), sheet: the('sheet'), act })
   const search = new Search(looks)
-  const redact = new Redact(review, boxes, paper, { beside: the('top'), doors: the('doors'), searched: () => search.text, act })
+  const redact = new Redact(review, boxes, paper, { beside: the('doc_name'), doors: the('doors'), searched: () => search.text, act })
   new ScreensPanel(review, { doors: the('doors'), opened: (text) => redact.suggest(text), act })
   const { names, listing, documents, list } = buildList(review, overview, search, place)
   const finder = new Finder(review, search, {

@@ -17,7 +17,7 @@ from person import Person, check, finish
 
 DOCUMENTS = 10000
 LIST, FIND, NEXT_ONE, MEGABYTES = 2, 1, 0.06, 400  # what is due: seconds, and a tab's memory
-KEYS, PAUSE = 60, 0.35  # so many documents, each looked at for so many seconds
+KEYS, PAUSE = 40, 0.35  # so many documents, each looked at for so many seconds
 COPIES = 833  # of 12 documents: 9,996
 
 ROWS = "Array.from(document.querySelectorAll('#tall .row'))"

@@ -8,7 +8,6 @@ and the model of the search. Over the program, where it is given, else over the 
 import json
 import os
 import sys
-import time
 import urllib.request
 
 from due import DOCS, fits, hits, is_covered, rectangles, rows_of, touches

@@ -10,7 +10,7 @@ import re
 import sys
 
 from due import DOCS, FIELDS, hits, rows_of, touches
-from office import ELLIS, LEAD, MARLOW, TOP, Office
+from office import ELLIS, LEAD, TOP, Office
 from person import Person, check, finish, nameless
 
 CALLS = {1: "Redact", 2: "Produce", 3: "Withhold-AC", 4: "Produce", 5: "Redact", 7: "Produce", 8: "Produce", 10: "Redact"}

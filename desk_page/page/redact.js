@@ -22,7 +22,7 @@ export class Redact {
   // The panel stands behind the element `beside`, and the button that opens it among `doors`; `searched` tells what was
   // searched for in this window.
   constructor(review, boxes, paper, { beside, doors, searched, act }) {
-    Object.assign(this, { review, boxes, searched, act, asked: null, isUndoing: false, suggested: '' })
+    Object.assign(this, { review, boxes, searched, act, asked: null, isUndoing: false, suggested: '', suggestedBasis: '' })
     this.proposals = new Proposals(review)
     this.run = new BoxRun(review)
     this.build(beside)
@@ -75,6 +75,7 @@ export class Redact {
   open() {
     this.form.hidden = false
     this.suggest(this.searched())
+    this.suggestBasis(this.boxes.basis.value)
     this.phrases.focus()
     this.phrases.select()
     this.form.scrollIntoView({ block: 'nearest' })
@@ -89,6 +90,13 @@ export class Redact {
     if (text === '' || text === this.suggested || this.proposals.all.length > 0) return
     this.suggested = text
     this.phrases.value = text
+  }
+
+  // The basis of single boxes, where it was changed since; else the one that was used here stays.
+  suggestBasis(basis) {
+    if (basis === this.suggestedBasis || this.proposals.all.length > 0) return
+    this.suggestedBasis = basis
+    this.basis.value = basis
   }
 
   leave() {

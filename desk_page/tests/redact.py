@@ -123,6 +123,29 @@ def try_from_search(person):
     person.click("#close_finder")
 
 
+def try_basis(person):
+    """The panel begins with the basis of single boxes; what was chosen in it stays until that one is changed."""
+    def shown():
+        person.key("q")
+        person.until("document.activeElement.name === 'phrases'")
+        person.key("Escape")
+        return person.js("document.querySelector('#redact [name=basis]').value")
+
+    person.open(1)
+    person.key("3")
+    check("the basis of single boxes is chosen at first", shown() == "PI")
+    choose_basis(person, "TS")
+    press_button(person, "Close")
+    check("another that was chosen there stays", shown() == "TS")
+    press_button(person, "Close")
+    person.key("2")
+    check("until single boxes have another", shown() == "WP")
+    look_for(person, ["helen ng"], "one")
+    person.key("1")
+    check("which changes none that are proposed", shown() == "WP")
+    press_button(person, "Close")
+
+
 # ---- taken or left
 
 
@@ -512,6 +535,7 @@ def main():
         due = try_proposing(ellis, office, shots)
         try_one_document(ellis, office)
         try_from_search(ellis)
+        try_basis(ellis)
         try_taking(ellis, due)
         made = try_putting(ellis, office, due, shots)
         try_undo(ellis, office, made)

@@ -220,11 +220,14 @@ class Chromium:
             file.write(base64.b64decode(self("Page.captureScreenshot", format="png", clip=clip)["data"]))
 
     def close(self):
-        """Ends the browser with all its processes."""
+        """Ends the browser with all its processes, and takes its folders away: its own, and the one of its socket, which stands beside."""
+        link = os.path.join(self.home, "SingletonSocket")
+        beside = os.path.dirname(os.readlink(link)) if os.path.islink(link) else self.home
         for ending in (signal.SIGTERM, signal.SIGKILL):
             try:
                 os.killpg(self.process.pid, ending)
                 self.process.wait(20)
             except (ProcessLookupError, subprocess.TimeoutExpired):
                 pass
-        shutil.rmtree(self.home, ignore_errors=True)
+        for folder in (beside, self.home):
+            shutil.rmtree(folder, ignore_errors=True)

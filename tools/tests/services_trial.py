@@ -8,6 +8,7 @@ import hashlib
 import json
 import os
 import re
+import shutil
 import signal
 import sqlite3
 import subprocess
@@ -287,6 +288,13 @@ def trail():
     check("the history of a document names who decided what", len(shown) == 2 and "Ellis of roof, Reviewer, staff 2  POST /docs/12/call  200" in shown[0]
           and '"designation":"BEFORE"' in shown[0].replace(": ", ":") and "AFTER" in shown[1], told.stdout + told.stderr)
     check("nothing of another matter", "wall" not in told.stdout)
+    if shutil.which("logrotate"):
+        turn(path, copy)
+    else:
+        print("services.py: NOT TRIED: how the log is turned: logrotate isn't here (Debian's package of that name)", flush=True)
+
+
+def turn(path, copy):
     told = run("logrotate", "-f", "/etc/logrotate.d/tivrenan")
     check("the log is turned", told.returncode == 0 and os.path.exists(f"{path}.1"), told.stderr)
     time.sleep(2)  # nginx opens its new log a moment after it was asked to

@@ -117,8 +117,12 @@ def run(part, left_out):
 
 def run_in(room, part, left_out):
     words = [os.path.join(TOP, part.words[0]), *[word.replace("ROOM", room) for word in part.words[1:]]]
-    process = subprocess.Popen(words, cwd=TOP, env={**os.environ, "TMPDIR": room}, stdin=subprocess.DEVNULL, stdout=subprocess.PIPE,
-                               stderr=subprocess.STDOUT, text=True, errors="replace", start_new_session=True)
+    try:
+        process = subprocess.Popen(words, cwd=TOP, env={**os.environ, "TMPDIR": room}, stdin=subprocess.DEVNULL, stdout=subprocess.PIPE,
+                                   stderr=subprocess.STDOUT, text=True, errors="replace", start_new_session=True)
+    except OSError as why:
+        print(f"all.py: {words[0]} can't be started: {why}", flush=True)
+        return 127
     reader = threading.Thread(target=pass_on, args=(process.stdout, left_out), daemon=True)
     reader.start()
     try:

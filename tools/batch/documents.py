@@ -16,13 +16,15 @@ from .words import inked_words, shown_words
 
 @dataclass
 class Document:
-    """A document: its source, its file's reader, the values of its fields, its images' ids, and its pages once made."""
+    """A document: its source, its file's reader, the values of its fields, its images' ids, its pages once made, and what its user
+    should know of its file."""
 
     source: Source
     file: object
     values: list
     images: list = field(default_factory=list)
     pages: list = field(default_factory=list)
+    notes: list = field(default_factory=list)
 
 
 @dataclass(frozen=True)
@@ -66,6 +68,13 @@ def name_images(documents, prefix, first):
 def need_reading(documents, how):
     """Whether there are pages whose words have to be read from their picture."""
     return how == "all" or how == "needed" and any(not words for document in documents for words in document.file.words)
+
+
+def cost_of(document, page, options):
+    """What tells which of two pages takes longer to make: one to be read does, and a larger one."""
+    width, height = document.file.sizes[page - 1]
+    is_read = options.ocr == "all" or options.ocr == "needed" and not document.file.words[page - 1]
+    return is_read, width * height
 
 
 def make_page(document, page, number, folder, options):

@@ -21,16 +21,17 @@ def in_threads(jobs, work, items):
             raise
 
 
-def in_processes(jobs, work, count, done):
-    """work(number) for the numbers below `count`, in their order; `done` is called after each. The work is a closure: processes are
-    copies of this one. Where the user ends all, the processes end with the programs that they run."""
+def in_processes(jobs, work, count, done, cost):
+    """work(number) for the numbers below `count`, in their order; `done` is called after each. What has the highest cost(number) begins
+    first, so that no process waits long for the others at the end. The work is a closure: processes are copies of this one. Where the
+    user ends all, the processes end with the programs that they run."""
     WORK.append(work)
     pool = ProcessPoolExecutor(max(1, min(jobs, count)), multiprocessing.get_context("fork"), begin, (os.getpid(),))
     try:
-        asked = [pool.submit(call, number) for number in range(count)]
-        for future in asked:
+        asked = {number: pool.submit(call, number) for number in sorted(range(count), key=cost, reverse=True)}
+        for future in asked.values():
             future.add_done_callback(done)
-        return [future.result() for future in asked]
+        return [asked[number].result() for number in range(count)]
     except BrokenProcessPool:
         raise Refused("the batch", "a process that made pages was ended, perhaps for lack of memory: take fewer --jobs") from None
     except BaseException:

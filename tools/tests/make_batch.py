@@ -8,8 +8,11 @@ Needs what make_batch needs. Where another Debian package that makes inputs isn'
 last lines say which. Words: names of tests (`make_batch.py Scans`), as unittest takes them; none: all.
 """
 import csv
+import ctypes
 import glob
+import multiprocessing
 import os
+import random
 import re
 import shutil
 import signal
@@ -633,6 +636,104 @@ class Upright(Case):
         self.put("a.tif", sh(["pamtotiff", "-g4"], input=sh(["pbmmake", "-gray", "500", "300"])))
         self.make("--upright")
         self.assertNotIn("turned", self.said)
+
+
+class Reading(Case):
+    """What tesseract is given of a page, and where its words lie."""
+
+    def setUp(self):
+        super().setUp()
+        sys.path.insert(0, os.path.join(TOP, "tools"))
+        self.addCleanup(sys.path.remove, os.path.join(TOP, "tools"))
+
+    def page(self, *sizes):
+        """A page with a line of each size."""
+        self.put("a.pdf", pdf_of(["".join(text_at(80, 740 - 30 * at, TEXT[:49], size) for at, size in enumerate(sizes))]))
+
+    def scale(self, batch):
+        """How many pixels of the first page one has that tesseract is given."""
+        from batch import inked, library
+
+        return inked.part_of(library.load(), batch.pixels(0)).scale
+
+    def check_read(self, scale):
+        """The page's words are read as its text has them, each in the box of its ink."""
+        told, read = self.make(name="TOLD"), self.make("--ocr", "all", name="READ")
+        self.assertEqual(self.scale(read), scale)
+        self.assertEqual(read.text(0), told.text(0))
+        for ours, theirs in zip(read.words_of(0), told.words_of(0)):
+            self.assertTrue(all(abs(one - other) <= 1 for one, other in zip(ours[1:6], theirs[1:6])), (ours, theirs))
+
+    def test_large_print_is_read_at_half_its_sides(self):
+        self.page(10, 11, 12, 14, 16)
+        self.check_read(2)
+
+    def test_small_print_beside_large_is_read_at_its_full_size(self):
+        for size in (6, 7, 8):
+            self.page(12, 12, 12, 12, 12, 12, 12, 12, 12, size)
+            self.check_read(1)
+            for name in ("TOLD", "READ"):
+                shutil.rmtree(os.path.join(self.room, name))
+
+    def test_few_small_marks_are_no_small_print(self):
+        from batch.inked import are_large
+
+        large, commas, dots, small = (18, 21), (9, 13), (8, 8), (14, 16)
+        self.assertTrue(are_large([large] * 995 + [commas] * 50 + [dots] * 100 + [small] * 4))
+        self.assertFalse(are_large([large] * 995 + [small] * 6))
+        self.assertFalse(are_large([small] * 3))
+
+    def test_pixels_as_leptonica_reads_them(self):
+        from batch import inked, library
+
+        lept, chance, same = library.load(), random.Random(1), ctypes.c_int()
+        lept.pixEqual.argtypes = [ctypes.c_void_p, ctypes.c_void_p, ctypes.POINTER(ctypes.c_int)]
+        for width in (1, 8, 9, 31, 32, 33, 64, 2550):
+            pbm = b"P4\n%d 5\n" % width + chance.randbytes((width + 7) // 8 * 5)
+            lept.pixEqual(lept.pixReadMemPnm(pbm, len(pbm)), inked.picture_of(lept, pbm), ctypes.byref(same))
+            self.assertTrue(same.value, width)
+
+    def test_words_at_the_edges(self):
+        corners = [text_at(x, y, word, 12) for x, y, word in ((0, 783, "upper"), (583, 783, "right"), (0, 1, "lower"), (583, 1, "corner"))]
+        self.put("a.pdf", pdf_of(["".join(corners) + text_at(200, 400, TEXT[:49], 12)]))
+        batch = self.make("--ocr", "all")
+        self.assertIn(TEXT[:49], batch.text(0))
+
+    def test_what_fails_or_hangs_is_refused(self):
+        from batch import forked
+        from batch.refused import Refused
+
+        def fail():
+            raise ValueError
+
+        self.assertEqual(forked.answer_of("a", "it", lambda: b"x" * 5_000_000), b"x" * 5_000_000)
+        self.addCleanup(setattr, forked, "LONGEST_WAIT", forked.LONGEST_WAIT)
+        for work, why, forked.LONGEST_WAIT in ((fail, "status 1", 60), (os.abort, "status -6", 60), (lambda: time.sleep(60), "didn't end", 0.3)):
+            with self.assertRaisesRegex(Refused, why):
+                forked.answer_of("a", "it", work)
+            with self.assertRaises(ChildProcessError):  # none is left
+                os.waitpid(-1, os.WNOHANG)
+
+    def test_a_library_that_is_not_here(self):
+        from batch import library
+        from batch.refused import Refused
+
+        self.addCleanup(setattr, library, "NAME", library.NAME)
+        library.NAME = "libnone.so.5"
+        with self.assertRaisesRegex(Refused, "its library libnone.so.5 isn't here: apt install tesseract-ocr"):
+            library.load()
+
+    def test_what_takes_longest_begins_first(self):
+        from batch.pool import in_processes
+
+        costs, began = [3, 1, 5, 2], multiprocessing.RawArray("d", 4)
+
+        def work(number):
+            began[number] = time.monotonic()
+            return number
+
+        self.assertEqual(in_processes(1, work, 4, lambda _: None, costs.__getitem__), [0, 1, 2, 3])
+        self.assertEqual(sorted(range(4), key=began.__getitem__), [2, 0, 3, 1])
 
 
 def pdf_of(pages, secret="", crop=""):

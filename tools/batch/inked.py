@@ -1,26 +1,26 @@
-"""The part of a page that tesseract is to read, no larger than it must be: what has ink, and at half its sides where all letters are
-large, as then the same words are read in less time."""
+"""The picture that tesseract is given of a page. One of print alone is cut to its ink, and where all its letters are large it is given
+at half its sides: then the same words are read in less time. Any other is given whole, as it is to tesseract's program."""
 import ctypes
 from dataclasses import dataclass
 
 from .library import EIGHT_WAYS, HANDLE, four_ints
+from .marks import Mark, are_large, is_print, letters_of
 from .pictures import sides_of
 
-MARGIN = 32  # white pixels around the ink
-SMALL = 20  # pixels: lower letters may lose words at half their sides
-LEAST_LETTER = 10  # pixels; what is lower is a dot or dirt
-COMMA = 0.8  # across by up: what is narrower is a comma, or a letter of which there are wider ones beside
-FEW = 0.005  # of all letters: so many small ones are other marks
+MARGIN = 32  # pixels around the ink
+MOST_MARKS = 20_000  # on a page of print there are fewer
 
 
 @dataclass(frozen=True)
 class Part:
-    """A picture of leptonica's, where on the page its first pixel lies, and how many of the page's pixels a side of its pixels has."""
+    """A picture of leptonica's, where on the page its first pixel lies, how many of the page's pixels a side of its pixels has, and
+    whether it is less than the page."""
 
     picture: int
     left: int = 0
     top: int = 0
     scale: int = 1
+    is_less: bool = False
 
     def on_page(self, box):
         """The box on the page; of a smaller picture it is wider by a pixel each way, as one with little ink is white to tesseract."""
@@ -30,18 +30,36 @@ class Part:
         return (self.left + left * scale, self.top + top * scale, self.left + right * scale, self.top + bottom * scale)
 
 
+def whole(library, pnm):
+    return Part(picture_of(library, pnm) if is_bilevel(pnm) else library.pixReadMemPnm(pnm, len(pnm)))
+
+
 def part_of(library, pnm):
-    """Of a raw PBM its part with ink; another raw PNM as it is, since a photograph lies in it."""
-    if not pnm.startswith(b"P4"):
-        return Part(library.pixReadMemPnm(pnm, len(pnm)))
-    picture, inked, box = picture_of(library, pnm), HANDLE(), HANDLE()
-    if library.pixClipToForeground(picture, ctypes.byref(inked), ctypes.byref(box)):
-        return Part(picture)
-    left, top, _, _ = four_ints(library.boxGetGeometry, box)
-    part = Part(library.pixAddBorder(inked, MARGIN, 0), left - MARGIN, top - MARGIN)
-    if not are_large(sides_of_marks(library, inked)):
+    """The part of a raw PBM that is enough to read it; the whole where it may have more than print, as any other raw PNM has: a
+    photograph."""
+    page = whole(library, pnm)
+    if not is_bilevel(pnm):
+        return page
+    marks = marks_of(library, page.picture)
+    if marks is None or not is_print(marks):
+        return page
+    part = cut(library, page.picture)
+    if not are_large(marks):
         return part
-    return Part(library.pixScaleToGray2(part.picture), part.left, part.top, 2)
+    return Part(library.pixScaleToGray2(part.picture), part.left, part.top, 2, True)
+
+
+def is_bilevel(pnm):
+    return pnm.startswith(b"P4")
+
+
+def cut(library, picture):
+    """The ink of a page and what is around it."""
+    ink = HANDLE()
+    library.pixClipToForeground(picture, None, ctypes.byref(ink))
+    left, top, width, height = four_ints(library.boxGetGeometry, ink)
+    around = library.boxCreate(left - MARGIN, top - MARGIN, width + 2 * MARGIN, height + 2 * MARGIN)
+    return Part(library.pixClipRectangle(picture, around, None), max(0, left - MARGIN), max(0, top - MARGIN), 1, True)
 
 
 def picture_of(library, pbm):
@@ -57,13 +75,17 @@ def picture_of(library, pbm):
     return picture
 
 
-def sides_of_marks(library, picture):
-    """Width and height of each black mark that touches no other."""
+def marks_of(library, picture):
+    """The black marks; None where they are more than on a page of print, as in a picture of dots."""
     boxes = library.pixConnCompBB(picture, EIGHT_WAYS)
-    return [four_ints(library.boxaGetBoxGeometry, boxes, at)[2:] for at in range(library.boxaGetCount(boxes))]
+    count = library.boxaGetCount(boxes)
+    return [Mark(*four_ints(library.boxaGetBoxGeometry, boxes, at)) for at in range(count)] if count <= MOST_MARKS else None
 
 
-def are_large(marks):
-    """Whether marks of these sides are large letters, but for a few."""
-    letters = [(width, height) for width, height in marks if height >= LEAST_LETTER]
-    return sum(height < SMALL and width >= COMMA * height for width, height in letters) <= FEW * len(letters)
+def are_all_in(library, pbm, boxes):
+    """Whether every letter of the page lies in one of these boxes."""
+    rest = picture_of(library, pbm)
+    for left, top, right, bottom in boxes:
+        library.pixClearInRect(rest, library.boxCreate(left, top, right - left, bottom - top))
+    marks = marks_of(library, rest)
+    return marks is not None and not letters_of(marks)

@@ -1,8 +1,6 @@
 """tesseract's library, and the functions of leptonica's that are found through it, as C declares them."""
 import ctypes
 
-from .refused import Refused
-
 NAME = "libtesseract.so.5"
 HANDLE, INT, TEXT = ctypes.c_void_p, ctypes.c_int, ctypes.c_char_p
 INTS, HANDLES = ctypes.POINTER(ctypes.c_int), ctypes.POINTER(ctypes.c_void_p)
@@ -23,30 +21,37 @@ FUNCTIONS = {  # by name: what it gives, and what it is given
     "TessResultIteratorNext": (INT, HANDLE, INT),
     "TessPageIteratorIsAtBeginningOf": (INT, HANDLE, INT),
     "TessPageIteratorBoundingBox": (INT, HANDLE, INT, *SIDES),
-    "TessDeleteText": (None, HANDLE),
     "pixCreate": (HANDLE, INT, INT, INT),
     "pixGetData": (HANDLE, HANDLE),
     "pixEndianByteSwap": (INT, HANDLE),
     "pixReadMemPnm": (HANDLE, TEXT, ctypes.c_size_t),
     "pixClipToForeground": (INT, HANDLE, HANDLES, HANDLES),
-    "pixAddBorder": (HANDLE, HANDLE, INT, ctypes.c_uint32),
+    "pixClipRectangle": (HANDLE, HANDLE, HANDLE, HANDLE),
+    "pixClearInRect": (INT, HANDLE, HANDLE),
     "pixScaleToGray2": (HANDLE, HANDLE),
     "pixConnCompBB": (HANDLE, HANDLE, INT),
+    "boxCreate": (HANDLE, INT, INT, INT, INT),
     "boxGetGeometry": (INT, HANDLE, *SIDES),
     "boxaGetCount": (INT, HANDLE),
     "boxaGetBoxGeometry": (INT, HANDLE, INT, *SIDES),
 }
 
 
+class Unusable(Exception):
+    """Why the library can't be called."""
+
+
 def load():
     """The library; its functions are attributes."""
     try:
         library = ctypes.CDLL(NAME)
+        for name, (gives, *given) in FUNCTIONS.items():
+            function = getattr(library, name)
+            function.restype, function.argtypes = gives, given
     except OSError:
-        raise Refused("tesseract", f"its library {NAME} isn't here: apt install tesseract-ocr") from None
-    for name, (gives, *given) in FUNCTIONS.items():
-        function = getattr(library, name)
-        function.restype, function.argtypes = gives, given
+        raise Unusable(f"its library {NAME} isn't here") from None
+    except AttributeError:
+        raise Unusable(f"its library {NAME} has no function {name}") from None
     return library
 
 

@@ -22,6 +22,7 @@ import sys
 import tempfile
 import time
 import unittest
+import unittest.mock
 
 sys.dont_write_bytecode = True
 HERE = os.path.dirname(os.path.abspath(__file__))
@@ -639,7 +640,7 @@ class Upright(Case):
 
 
 class Reading(Case):
-    """What tesseract is given of a page, and where its words lie."""
+    """What tesseract is given of a page, where its words lie, and that none is lost where it is given less than the page."""
 
     def setUp(self):
         super().setUp()
@@ -650,16 +651,28 @@ class Reading(Case):
         """A page with a line of each size."""
         self.put("a.pdf", pdf_of(["".join(text_at(80, 740 - 30 * at, TEXT[:49], size) for at, size in enumerate(sizes))]))
 
-    def scale(self, batch):
-        """How many pixels of the first page one has that tesseract is given."""
+    def painted(self, drawn, inch, crop="/CropBox [0 0 400 120]"):
+        """A small page of these operators as a raw PBM, by poppler."""
+        self.put("../painted.pdf", pdf_of([drawn], crop=crop))
+        return sh(["pdftoppm", "-mono", "-cropbox", "-r", str(inch), os.path.join(self.room, "painted.pdf")])
+
+    def part(self, pbm):
         from batch import inked, library
 
-        return inked.part_of(library.load(), batch.pixels(0)).scale
+        return inked.part_of(library.load(), pbm)
+
+    def both(self, pbm, inch=None):
+        """The words of a page, and those that tesseract's program finds."""
+        from batch import recognized
+        from batch.pictures import Resolution
+
+        resolution = None if inch is None else Resolution(str(inch), str(inch), "inch")
+        return recognized.read_words("a", pbm, resolution, "eng"), recognized.by_program("a", pbm, resolution, "eng")
 
     def check_read(self, scale):
         """The page's words are read as its text has them, each in the box of its ink."""
         told, read = self.make(name="TOLD"), self.make("--ocr", "all", name="READ")
-        self.assertEqual(self.scale(read), scale)
+        self.assertEqual(self.part(read.pixels(0)).scale, scale)
         self.assertEqual(read.text(0), told.text(0))
         for ours, theirs in zip(read.words_of(0), told.words_of(0)):
             self.assertTrue(all(abs(one - other) <= 1 for one, other in zip(ours[1:6], theirs[1:6])), (ours, theirs))
@@ -669,19 +682,87 @@ class Reading(Case):
         self.check_read(2)
 
     def test_small_print_beside_large_is_read_at_its_full_size(self):
-        for size in (6, 7, 8):
-            self.page(12, 12, 12, 12, 12, 12, 12, 12, 12, size)
-            self.check_read(1)
-            for name in ("TOLD", "READ"):
-                shutil.rmtree(os.path.join(self.room, name))
+        self.page(12, 12, 12, 12, 12, 12, 12, 12, 12, 7)
+        self.check_read(1)
 
-    def test_few_small_marks_are_no_small_print(self):
-        from batch.inked import are_large
+    def test_less_than_the_page_is_taken_of_print_alone(self):
+        """The scale of each page; 0 where it is given whole."""
+        line, black = text_at(40, 80, TEXT[:40], 12), "0 0 400 120 re f 1 g "
+        frame, rule = "40 20 300 {} re S ", "40 40 m 300 40 l S "
+        pages = [("large print", line, 2), ("under a rule", line + rule, 2), ("in a frame", line + frame.format(90), 0),
+                 ("that touches a frame", text_at(60, 80, TEXT[:40], 8) + frame.format(60), 0),
+                 ("white on black", black + line, 0), ("a rule alone", rule, 0), ("nothing", "", 0),
+                 ("a picture of dots", line + "[1 1] 0 d 40 w 40 20 m 340 20 l S ", 0)]
+        for size in (3, 4, 5, 6, 7, 8):
+            pages.append((f"beside {size} points", line + text_at(40, 60, TEXT[:40], size), 1))
+        pages = [(*page, 300) for page in pages]
+        for inch, scale in ((72, 1), (100, 1), (150, 1), (200, 1), (600, 2)):
+            pages.append((f"at {inch}", line, scale, inch))
+        for what, drawn, scale, inch in pages:
+            part = self.part(self.painted(drawn, inch))
+            self.assertEqual(part.scale * part.is_less, scale, what)
 
-        large, commas, dots, small = (18, 21), (9, 13), (8, 8), (14, 16)
-        self.assertTrue(are_large([large] * 995 + [commas] * 50 + [dots] * 100 + [small] * 4))
-        self.assertFalse(are_large([large] * 995 + [small] * 6))
-        self.assertFalse(are_large([small] * 3))
+    def test_letters_that_touch_a_frame_are_read(self):
+        drawn = f"2 w 40 20 320 60 re S {text_at(50, 80, 'Counsel was asked for advice on the lease', 11)}"
+        for inch in (150, 300):
+            found, due = self.both(self.painted(drawn, inch), inch)
+            self.assertEqual(found, due)
+            self.assertLessEqual({"Counsel", "was", "asked", "for", "advice", "on", "the"}, {word.text for word in found})
+
+    def test_as_the_program_reads(self):
+        """Words of pages with little on them, of any resolution that is told, on their side, and inverted."""
+        line = text_at(40, 60, "The landlord was told by registered letter", 12)
+        told = ((300, 300), (300, None), (300, 0), (300, 72), (100, 100), (200, 200), (600, 600))
+        pages = [(self.painted(line, inch), said) for inch, said in told]
+        pages += [(self.painted(text_at(300, 400, "landlord", 12), 300, ""), 300)]
+        pages += [(self.painted(f"0 0 400 120 re f 1 g {line}", 300), 300)]
+        pages += [(sh(["pamflip", "-r90"], input=pages[0][0]), 300)]
+        for at, (pbm, inch) in enumerate(pages):
+            found, due = self.both(pbm, inch)
+            self.assertEqual([word.text for word in found], [word.text for word in due], at)
+            for ours, theirs in zip(found, due):
+                self.assertLess(max(abs(one - other) for one, other in zip(ours.box, theirs.box)), 5, at)
+            self.assertTrue(found or at == 9, at)
+
+    def test_a_page_of_which_something_was_not_read_is_read_whole(self):
+        from batch import recognized
+        from batch.reader import Reader
+
+        def less(self, part, inch, read=Reader.words_in):
+            return read(self, part, inch)[: -1 if part.is_less else None]
+
+        self.addCleanup(setattr, Reader, "words_in", Reader.words_in)
+        Reader.words_in = less
+        pbm = self.painted(text_at(40, 60, "The landlord was told", 12), 300)
+        self.assertTrue(self.part(pbm).is_less)
+        self.assertIsNone(recognized.reader_of("eng")[0].read(pbm, 300, False))
+        self.assertEqual([word.text for word in self.both(pbm, 300)[0]], ["The", "landlord", "was", "told"])
+
+    def test_marks(self):
+        from batch.marks import Mark, are_large, is_print, letters_of
+
+        def many(width, height, count, step=60):
+            return [Mark(at % 20 * step, 60 * (at // 20), width, height) for at in range(count)]
+
+        def beside(marks, width, height):
+            return [Mark(mark.left + mark.width + 4, mark.top + 8, width, height) for mark in marks]
+
+        large = many(18, 21, 800) + many(18, 30, 200)
+        commas, halves, dirt = beside(large[:50], 6, 13), beside(beside(large[:9], 5, 13), 5, 13), beside(many(8, 8, 1), 15, 17)
+        rules = [Mark(0, 0, 900, 3), Mark(0, 0, 3, 900)]
+        self.assertTrue(are_large(large + commas + halves + dirt + many(8, 8, 100) + rules))
+        self.assertFalse(are_large(large + beside(large[:2], 14, 16)))  # as in a word of 8 points whose other letters are high
+        for width, height in ((14, 16), (10, 17), (6, 7)):  # letters, or digits of 6 points, or letters of 4
+            self.assertFalse(are_large(large + many(width, height, 2, width + 3)))
+        self.assertFalse(are_large(large[:800]))  # as capitals of 7 points
+        for none in ([], many(8, 8, 100), many(14, 16, 9), rules):
+            self.assertFalse(are_large(none))
+        self.assertEqual(letters_of(many(8, 8, 100) + rules), [])
+        self.assertEqual(len(letters_of(many(6, 7, 6, 9))), 6)
+        self.assertTrue(is_print(large + rules))
+        for other in (Mark(0, 0, 900, 30), Mark(0, 0, 609, 145), Mark(0, 0, 30, 130)):
+            self.assertFalse(is_print([*large, other]))
+        self.assertFalse(is_print(large + many(3, 3, 1001, 40)))  # a picture of dots
 
     def test_pixels_as_leptonica_reads_them(self):
         from batch import inked, library
@@ -699,7 +780,7 @@ class Reading(Case):
         batch = self.make("--ocr", "all")
         self.assertIn(TEXT[:49], batch.text(0))
 
-    def test_what_fails_or_hangs_is_refused(self):
+    def test_what_fails_or_hangs_is_told(self):
         from batch import forked
         from batch.refused import Refused
 
@@ -714,14 +795,62 @@ class Reading(Case):
             with self.assertRaises(ChildProcessError):  # none is left
                 os.waitpid(-1, os.WNOHANG)
 
-    def test_a_library_that_is_not_here(self):
-        from batch import library
-        from batch.refused import Refused
+    def test_a_page_that_ends_the_library_is_read_by_the_program(self):
+        from batch.reader import Reader
 
+        self.addCleanup(setattr, Reader, "words_in", Reader.words_in)
+        pbm = self.painted(text_at(40, 60, "The landlord was told", 12), 300)
+        self.both(pbm, 300)  # the library is loaded, and fits
+        for number in (signal.SIGSEGV, signal.SIGKILL):
+            Reader.words_in = lambda *_, number=number: os.kill(os.getpid(), number)
+            found, due = self.both(pbm, 300)
+            self.assertEqual(found, due)
+            self.assertEqual([word.text for word in found], ["The", "landlord", "was", "told"])
+
+    def test_a_library_that_does_not_fit(self):
+        from batch import library, recognized
+        from batch.reader import Reader
+
+        self.addCleanup(recognized.reader_of.cache_clear)
         self.addCleanup(setattr, library, "NAME", library.NAME)
-        library.NAME = "libnone.so.5"
-        with self.assertRaisesRegex(Refused, "its library libnone.so.5 isn't here: apt install tesseract-ocr"):
-            library.load()
+        self.addCleanup(setattr, Reader, "__init__", Reader.__init__)
+        pbm = self.painted(text_at(40, 60, "The landlord was told", 12), 300)
+        faults = {"libtesseract.so.4": "its library libtesseract.so.4 isn't here",
+                  "libm.so.6": "its library libm.so.6 has no function TessBaseAPICreate"}
+        for library.NAME, why in faults.items():
+            recognized.reader_of.cache_clear()
+            self.assertIn(why, recognized.load("eng"))
+            self.assertEqual(*self.both(pbm, 300))
+        recognized.reader_of.cache_clear()
+        Reader.__init__ = lambda *_: os.abort()
+        self.assertIn("its library ended with status -6", recognized.load("eng"))
+        self.assertEqual(*self.both(pbm, 300))
+
+    def test_where_the_library_is_not_here_the_program_reads(self):
+        self.put("../without/sitecustomize.py", """import ctypes
+class CDLL(ctypes.CDLL):
+    def __init__(self, name, *more):
+        super().__init__(name and name.replace("tesseract", "none"), *more)
+ctypes.CDLL = CDLL
+""")
+        self.page(14)
+        with unittest.mock.patch.dict(os.environ, PYTHONPATH=os.path.join(self.room, "without")):
+            batch = self.make("--ocr", "all")
+        self.assertEqual(batch.text(0), TEXT[:49])
+        why = "its library libtesseract.so.5 isn't here; its program reads the pages, which takes longer"
+        self.assertEqual(self.said, f"make_batch: tesseract: {why}\n")
+
+    def test_several_languages(self):
+        from batch import recognized
+
+        data = re.search('in "(.+)"', sh(["tesseract", "--list-langs"]).decode())[1]
+        for name in ("eng.traineddata", "abc.traineddata", "configs"):
+            os.symlink(os.path.join(data, name.replace("abc", "eng")), os.path.join(self.room, name))
+        pbm = self.painted(text_at(40, 60, "The landlord was told", 12), 300)
+        with unittest.mock.patch.dict(os.environ, TESSDATA_PREFIX=self.room):
+            self.assertEqual(recognized.load("eng+abc"), "")
+            words = recognized.read_words("a", pbm, None, "eng+abc")
+        self.assertEqual([word.text for word in words], ["The", "landlord", "was", "told"])
 
     def test_what_takes_longest_begins_first(self):
         from batch.pool import in_processes

@@ -5,10 +5,11 @@ tools/make_batch.
 Of each 20 pages 6 are grey scans with noise in PDFs of 300 pixels to the inch, 3 of 200 in PDFs that don't tell it, 2 grey
 TIFF scans, 2 PNG scans, 2 pictures by a telephone with a shadow, 2 black and white TIFF scans, 2 pages of PDFs with a
 text, and 1 is a letter with a photograph. FOLDER/truth.txt, beside the folder `in`, has a line a page: file, page, words.
---wrapped puts PNG and JPEG into PDFs by img2pdf, for a tool that takes neither. The same words make the same folder.
+The same words make the same folder. Pages that are there aren't drawn again: what was ended goes on where it was.
 
-Needs Debian's groff, ghostscript, netpbm, libtiff-tools, imagemagick and img2pdf. Words: [--wrapped] FOLDER PAGES
+Needs Debian's groff, ghostscript, netpbm, libtiff-tools, imagemagick and img2pdf. Words: FOLDER PAGES
 """
+import functools
 import os
 import random
 import shutil
@@ -20,6 +21,7 @@ WORDS = """the roof of building four leaks since winter and landlord was told by
 been made under contract clause seven which counsel drafted before notice arrived at office procurement director who answered within
 days invoice amount balance account payment harbour custodian minutes meeting chairman privilege advice draft agreement""".split()
 KINDS = "scan scan bare tiff phone text scan scan bare png black photo scan scan bare tiff phone png black text".split()
+ENDINGS = {"phone": "jpg", "png": "png", "tiff": "tif", "black": "tif"}  # all others are PDFs
 NEEDED = ("groff", "gs", "pamarith", "pamtotiff", "tiffcp", "convert", "img2pdf", "pnmtojpeg", "pnmtopng")
 
 
@@ -41,9 +43,11 @@ class Scanner:
 
     def __init__(self, room):
         self.room = room
+
+    @functools.cached_property
+    def noise(self):
         blank = sh(["pgmmake", "0.5", "2600", "3400"])
-        self.noise = sh(["convert", "pgm:-", "-seed", "7", "-attenuate", "0.5", "+noise", "Gaussian", "-evaluate", "multiply", "0.25", "pgm:-"], blank)
-        self.put("noise.pgm", self.noise)
+        return sh(["convert", "pgm:-", "-seed", "7", "-attenuate", "0.5", "+noise", "Gaussian", "-evaluate", "multiply", "0.25", "pgm:-"], blank)
 
     def path(self, name):
         return os.path.join(self.room, name)
@@ -90,18 +94,19 @@ class Scanner:
 class Folder:
     """The folder that is made, and what is written on its pages."""
 
-    def __init__(self, top, is_wrapped):
-        self.top, self.folder, self.is_wrapped, self.truth = top, os.path.join(top, "in"), is_wrapped, []
-        os.makedirs(self.folder)
+    def __init__(self, top):
+        self.top, self.folder, self.truth = top, os.path.join(top, "in"), []
+        os.makedirs(self.folder, exist_ok=True)
 
-    def put(self, name, data, text):
-        with open(os.path.join(self.folder, name), "wb") as file:
-            file.write(data)
+    def put(self, name, text, draw):
+        """The page of this name, which is drawn where it isn't there."""
+        path, part = os.path.join(self.folder, name), os.path.join(self.top, "part")
+        if not os.path.exists(path):
+            data = draw()
+            with open(part, "wb") as file:
+                file.write(data)
+            os.replace(part, path)
         self.truth.append((name, " ".join(word for part in text for word in part)))
-
-    def picture(self, name, data, text):
-        wrapped = sh(["img2pdf"], data) if self.is_wrapped else data
-        self.put(name + ".pdf" if self.is_wrapped else name, wrapped, text)
 
     def end(self):
         with open(os.path.join(self.top, "truth.txt"), "w", encoding="utf-8") as file:
@@ -111,31 +116,32 @@ class Folder:
 def add_page(folder, scanner, number, chance):
     kind = KINDS[number % len(KINDS)]
     text = text_of(chance)[: 2 if kind == "photo" else None]
-    roff, name = roff_of(text), f"{number + 1:04} {kind}"
+    folder.put(f"{number + 1:04} {kind}.{ENDINGS.get(kind, 'pdf')}", text, lambda: drawn(kind, scanner, roff_of(text), chance))
+
+
+def drawn(kind, scanner, roff, chance):
+    """The page's file."""
     if kind == "text":
-        folder.put(f"{name}.pdf", scanner.pdf_of(roff), text)
-    elif kind == "phone":
-        folder.picture(f"{name}.jpg", scanner.phone(roff, chance), text)
-    elif kind == "black":
-        folder.put(f"{name}.tif", sh(["pamtotiff", "-g4", "-xresolution=300", "-yresolution=300"], sh(["pgmtopbm", "-threshold"], scanner.plain(roff))), text)
-    elif kind == "photo":
-        folder.put(f"{name}.pdf", sh(["img2pdf"], sh(["pnmtojpeg", "--quality=80", "-density=300x300dpi"], scanner.photo(roff, chance))), text)
-    elif kind == "tiff":
-        folder.put(f"{name}.tif", sh(["pamtotiff", "-lzw", "-xresolution=300", "-yresolution=300"], scanner.scan(roff, chance)), text)
-    elif kind == "png":
-        folder.picture(f"{name}.png", sh(["pnmtopng", "-compression=1", "-size=11811 11811 1"], scanner.scan(roff, chance)), text)
-    else:
-        inch, told = (300, ["-density=300x300dpi"]) if kind == "scan" else (200, [])
-        folder.put(f"{name}.pdf", sh(["img2pdf"], sh(["pnmtojpeg", "--quality=80", *told], scanner.scan(roff, chance, inch))), text)
+        return scanner.pdf_of(roff)
+    if kind == "phone":
+        return scanner.phone(roff, chance)
+    if kind == "black":
+        return sh(["pamtotiff", "-g4", "-xresolution=300", "-yresolution=300"], sh(["pgmtopbm", "-threshold"], scanner.plain(roff)))
+    if kind == "photo":
+        return sh(["img2pdf"], sh(["pnmtojpeg", "--quality=80", "-density=300x300dpi"], scanner.photo(roff, chance)))
+    if kind == "tiff":
+        return sh(["pamtotiff", "-lzw", "-xresolution=300", "-yresolution=300"], scanner.scan(roff, chance))
+    if kind == "png":
+        return sh(["pnmtopng", "-compression=1", "-size=11811 11811 1"], scanner.scan(roff, chance))
+    inch, told = (300, ["-density=300x300dpi"]) if kind == "scan" else (200, [])
+    return sh(["img2pdf"], sh(["pnmtojpeg", "--quality=80", *told], scanner.scan(roff, chance, inch)))
 
 
-def main(words):
-    is_wrapped = words[:1] == ["--wrapped"]
-    top, pages = words[1:] if is_wrapped else words
+def main(top, pages):
     missing = [tool for tool in NEEDED if not shutil.which(tool)]
     if missing:
         sys.exit(f"mixed_scans.py: not here: {', '.join(missing)}")
-    folder = Folder(top, is_wrapped)
+    folder = Folder(top)
     with tempfile.TemporaryDirectory() as room:
         scanner = Scanner(room)
         for number in range(int(pages)):
@@ -144,4 +150,4 @@ def main(words):
 
 
 if __name__ == "__main__":
-    main(sys.argv[1:])
+    main(*sys.argv[1:])

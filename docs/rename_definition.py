@@ -1,14 +1,11 @@
 #!/usr/bin/env python3
 """Gives definitions of specs/ another name, wherever they are used. Each line of the standard input names one: crate, room (the file without
-its ending), name, new name. Nothing is written where one can't be renamed safely, and each reason is told:
+its ending), name, new name. A name stands for the definition in the room itself and in each file that imports it from there, also as
+`ROOM.NAME` where that is used whole. Fields of that name, functions of Rust and what another room has under the name stay as they are.
 
-- the name isn't defined in that room, or the new one stands already in a file that would be changed;
-- a file has the name from this room and from another, or under `as`;
-- a field has the name, or something is reached by it through a room that is used whole (`ROOM.NAME`);
-- a function of Rust has it: where a definition is named after its function, both are renamed by hand, with the folder of its proof.
-
-A name stands for the definition in the room itself and in each file that imports it from there. Afterwards: `rt fmt` in the crates that
-changed, `docs/write_definitions.py`, `docs/write_headline.py`, `docs/check_edits.py`, and a look at what documents say."""
+Where a file has the name from two rooms, or the new one already, that is told, and nothing is written. Afterwards: `rt fmt` in the crates
+that changed, `docs/write_definitions.py`, `docs/write_headline.py`, `docs/check_edits.py`, and a look at what documents say. A definition
+that is named after its function is better renamed by hand, both, with the folder of the proof."""
 import pathlib
 import re
 import sys
@@ -28,49 +25,71 @@ def sources():
     return {path: path.read_text() for path in found}
 
 
-def imported(text, name):
-    """The rooms from which a file has a name, each with whether by this very name."""
-    for room, names in IMPORT.findall(text):
-        for each in (part.strip() for part in names.split(",")):
-            if each.split(" as ")[0] == name or each.endswith(f" as {name}"):
-                yield room, each == name
+def rooms_of(text, name):
+    """The rooms from which a file has something under this name."""
+    return {room for room, names in IMPORT.findall(text) for each in names.split(",") if each.split()[-1:] == [name]}
 
 
-def users(texts, home, room, name):
-    """The files in which the name is that of the definition, and what forbids to rename it."""
-    files, reasons = [home], []
-    for path, text in texts.items():
-        rooms = list(imported(text, name))
-        if (room, True) in rooms:
-            files.append(path)
-        if any(each == room for each, _ in rooms) and (len(rooms) > 1 or not rooms[0][1]):
-            reasons.append(f"{path.relative_to(TOP)} has {name} in two ways")
-        whole = re.search(rf"^(?:ghost )?use Rattle\.{re.escape(room)} as (\w+)", text, re.M)
-        if whole and re.search(rf"\b{whole[1]}\.{re.escape(name)}(?!{PART})", text):
-            reasons.append(f"{path.relative_to(TOP)} has {whole[1]}.{name}")
-    return files, reasons
+def is_of_rust(line, at, name):
+    """Whether the word at this place of a line of Rust is Rust's own: a function, its call, a type behind `::`, or within its `use`."""
+    return bool(
+        re.match(r"\s*(?:pub(?:\(crate\))? )?(?:use|mod) ", line)
+        or re.search(r"(?:\b(?:fn|let|mut|struct|enum|trait|impl|for)\s+|::|&(?:mut )?|-> (?:Result<)?)$", line[:at])
+        or re.match(r"\(|::|<|\s*\{$", line[at + len(name) :])
+    )
 
 
-def forbidden(path, text, name, new):
-    shown = path.relative_to(TOP)
-    if word(new).search(text):
-        yield f"{shown} has {new} already"
-    if re.search(rf"\.{re.escape(name)}(?!{PART}|\.\{{)", text) or re.search(rf"(?:^ +pub|[{{;]) +{re.escape(name)} +[:=] ", text, re.M):
-        yield f"{shown} has a field {name}"
-    if path.suffix == ".rt" and re.search(rf"\b(?:fn|let|mut) +{re.escape(name)}\b|(?<!{PART}){re.escape(name)}\(", text):
-        yield f"{shown} has {name} in Rust"
+def is_field(line, at, name):
+    """Whether it is a field that is declared or given its value."""
+    before, behind = line[:at], line[at + len(name) :]
+    declared = re.fullmatch(r"\s+(?:pub\s+)?", before) and re.match(r"\s+:\s", behind)
+    return bool(declared or re.search(r"(?:[{;]\s*|^\s+)$", before) and re.match(r"\s+=\s.*[;}]", behind))
 
 
-def rename(texts, crate, room, name, new):
-    """Renames in the texts. Gives how many files changed, and what forbade it."""
-    home = TOP / "crates" / crate / "specs" / f"{room}.antt"
+def renamed_line(line, name, new, rust, room):
+    code, sign, comment = line.partition("//" if rust else "--")
+    if sign:
+        return renamed_line(code, name, new, rust, room) + sign + comment
+    if (found := IMPORT.search(line)) is not None:
+        parts = [each.strip() for each in found[2].split(",")]
+        of_room = found[1] == room
+        changed = [new + each[len(name) :] if of_room and each.split()[0] == name else each for each in parts if each]
+        return line[: found.start(2)] + ", ".join(changed) + line[found.end(2) :]
+    keeps = lambda at: is_field(line, at, name) or rust and is_of_rust(line, at, name)
+    return word(name).sub(lambda found: name if keeps(found.start()) else new, line)
+
+
+def renamed(path, text, room, name, new):
+    """The text of a file, with the name of that room's definition changed where it stands for it."""
+    crate, spec = room.split(".")[0], room.split(".")[-1]
+    of_crate = TOP / "crates" / crate in path.parents
+    # as a tactic of Rust names it
+    text = re.sub(rf"\b({'crate' if of_crate else crate}::specs::{spec}::){re.escape(name)}(?!{PART})", rf"\g<1>{new}", text)
+    whole = re.search(rf"^(?:ghost )?use Rattle\.{re.escape(room)} as (\w+)", text, re.M)
+    if whole:
+        text = re.sub(rf"\b{whole[1]}\.{re.escape(name)}(?!{PART})", f"{whole[1]}.{new}", text)
+    if path == TOP / "crates" / crate / "specs" / f"{spec}.antt" or room in rooms_of(text, name):
+        return "".join(renamed_line(line, name, new, path.suffix == ".rt", room) for line in text.splitlines(keepends=True))
+    lines = text.splitlines(keepends=True)
+    return "".join(renamed_line(line, name, new, path.suffix == ".rt", room) if f"Rattle.{room}." in line else line for line in lines)
+
+
+def rename(texts, crate, spec, name, new):
+    """Renames in the texts. Gives how many files changed, and what forbids it."""
+    home, room, count = TOP / "crates" / crate / "specs" / f"{spec}.antt", f"{crate}.specs.{spec}", 0
     if not re.search(rf"^(?:abbrev |unfoldable )*pub (?:record |data )?{re.escape(name)}(?!{PART})", texts.get(home, ""), re.M):
-        return 0, [f"{crate}/{room} defines no {name}"]
-    files, reasons = users(texts, home, f"{crate}.specs.{room}", name)
-    for path in files:
-        reasons += forbidden(path, texts[path], name, new)
-        texts[path] = word(name).sub(new, texts[path])
-    return len(files), reasons
+        return 0, [f"{crate}/{spec} defines no {name}"]
+    reasons = []
+    for path, text in texts.items():
+        changed = renamed(path, text, room, name, new) if name in text else text
+        if changed == text:
+            continue
+        if word(new).search(text):
+            reasons.append(f"{path.relative_to(TOP)} has {new} already")
+        if len(rooms_of(text, name)) > 1 or path == home and rooms_of(text, name):
+            reasons.append(f"{path.relative_to(TOP)} has {name} from two rooms")
+        texts[path], count = changed, count + 1
+    return count, reasons
 
 
 def main():

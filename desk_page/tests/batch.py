@@ -36,6 +36,16 @@ FIELDS, VALUES = read_fields()
 WORDS = read_words()
 
 
+COLUMN = {name: [values[k] for values in VALUES] for k, name in enumerate(FIELDS)}
+
+
+def order_of(field, backward=False):
+    """The documents by a field, those without a value last, capitals as small letters."""
+    key = lambda number: COLUMN[field][number - 1].replace("\n", "; ").casefold()
+    found = sorted((number for number in range(1, len(VALUES) + 1) if key(number)), key=key, reverse=backward)
+    return found + [number for number in range(1, len(VALUES) + 1) if not key(number)]
+
+
 def core(text):
     """A word without what stands around it."""
     at = [k for k, sign in enumerate(text) if sign.isalnum()]

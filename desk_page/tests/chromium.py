@@ -22,6 +22,25 @@ ALONE = ["--headless=new", "--no-sandbox", "--disable-gpu", "--disable-dev-shm-u
 LEFT = ("Inspected target navigated or closed", "Execution context was destroyed", "Cannot find context")
 
 
+# the keys of a keyboard of the United States by what they write, or by their names, and what Shift has them write
+CODES = {"Backspace": 8, "Tab": 9, "Enter": 13, "Escape": 27, " ": 32, "PageUp": 33, "PageDown": 34, "End": 35, "Home": 36,
+         "ArrowLeft": 37, "ArrowUp": 38, "ArrowRight": 39, "ArrowDown": 40, "Delete": 46,
+         ";": 186, "=": 187, ",": 188, "-": 189, ".": 190, "/": 191, "`": 192, "[": 219, "\\": 220, "]": 221, "'": 222}
+SHIFTED = dict(zip('_+{}|:"<>?~!@#$%^&*()', "-=[]\\;',./`1234567890"))
+SHIFT = 8
+
+
+def pressed(key, modifiers=0):
+    """The events of a key that is pressed and let go."""
+    text = {"Enter": "\r"}.get(key, key if len(key) == 1 else "")
+    plain = SHIFTED.get(key, key)
+    shift = SHIFT if plain != key or (len(key) == 1 and key.isupper()) else 0
+    same = dict(key=key, modifiers=modifiers | shift, windowsVirtualKeyCode=CODES.get(plain, ord(plain[0].upper())))
+    down = {"text": text} if text and modifiers != 2 else {}
+    method = "Input.dispatchKeyEvent"
+    return [(method, dict(type="keyDown", **same, **down)), (method, dict(type="keyUp", **same))]
+
+
 class Left(RuntimeError):
     """The page was left, or is loaded anew."""
 
@@ -112,16 +131,27 @@ class Chromium:
             raise RuntimeError(f"Chromium didn't start: {errors.read()[-2000:]}")
 
     def __call__(self, method, **params):
-        self.count += 1
-        self.socket.send(json.dumps({"id": self.count, "method": method, "params": params}))
-        while True:
+        return self.all((method, params))[0]
+
+    def all(self, *calls):
+        """Calls that are sent one after another, before the first one is answered; their results."""
+        first = self.count + 1
+        for method, params in calls:
+            self.count += 1
+            self.socket.send(json.dumps({"id": self.count, "method": method, "params": params}))
+        results = {}
+        while len(results) < len(calls):
             told = json.loads(self.socket.receive())
-            if told.get("id") == self.count:
-                if "error" in told:
-                    kind = Left if told["error"]["message"].startswith(LEFT) else RuntimeError
-                    raise kind(told["error"])
-                return told["result"]
-            self.note(told)
+            if "id" not in told:
+                self.note(told)
+                continue
+            if told["id"] < first:
+                continue  # of calls of which one was refused
+            if "error" in told:
+                kind = Left if told["error"]["message"].startswith(LEFT) else RuntimeError
+                raise kind(told["error"])
+            results[told["id"]] = told["result"]
+        return [results[first + k] for k in range(len(calls))]
 
     def note(self, event):
         if event["method"] == "Runtime.exceptionThrown":
@@ -153,14 +183,15 @@ class Chromium:
 
     def until(self, text, seconds=60):
         """Waits until an expression holds; a page may be loaded anew meanwhile."""
-        end = time.time() + seconds
+        end, pause = time.time() + seconds, 0.05
         while time.time() < end:
             try:
                 if self.js(text):
                     return
             except Left:
                 pass
-            time.sleep(0.05)
+            time.sleep(pause)
+            pause = min(1.3 * pause, 0.4)  # where it takes long, others have the processors
         raise RuntimeError(f"never: {text}")
 
     def rest(self, seconds=1):
@@ -183,12 +214,12 @@ class Chromium:
 
     def key(self, key, modifiers=0):
         """A key pressed and let go. Modifiers: 1 Alt, 2 Ctrl, 8 Shift."""
-        text = {"Enter": "\r"}.get(key, key if len(key) == 1 else "")
-        codes = {"Enter": 13, "Escape": 27, "Delete": 46, "ArrowLeft": 37, "ArrowUp": 38, "ArrowRight": 39, "ArrowDown": 40,
-                 "Tab": 9, " ": 32, "Backspace": 8}
-        same = dict(key=key, modifiers=modifiers, windowsVirtualKeyCode=codes.get(key, ord(key[0].upper())))
-        self("Input.dispatchKeyEvent", type="keyDown", **same, **({"text": text} if text and modifiers != 2 else {}))
-        self("Input.dispatchKeyEvent", type="keyUp", **same)
+        self.all(*pressed(key, modifiers))
+
+    def keys(self, *keys, modifiers=0):
+        """Keys pressed one after another."""
+        if keys:
+            self.all(*(event for key in keys for event in pressed(key, modifiers)))
 
     def type(self, text):
         self("Input.insertText", text=text)

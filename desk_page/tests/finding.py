@@ -8,12 +8,13 @@ Over the program, where it is given, else over the stand-in.
 import json
 import os
 import re
-import sys
 import time
+from contextlib import closing
 
 import batch
+from frame import as_before, cut_off, given, in_colours, slow, small_window, window
 from office import ELLIS, LEAD, MARLOW, Office
-from person import Person, check, finish, nameless
+from person import check, finish, nameless
 
 PHONE = "###-####"
 PRODUCE = dict(responsive=True, treatment="Produce", designation="")
@@ -163,10 +164,10 @@ def try_list(person, office, shots):
     person.until("!document.querySelector('nav').classList.contains('finding')")
     check("the list of what was found", listed(person) == documents and person.text("count") == f"{len(documents)} of 12 documents", (listed(person), person.text("count")))
     person.until("[...document.getElementById('filter').options].some((it) => it.textContent === 'called Produce (1)')", seconds=30)
-    person.js("(() => { const it = document.getElementById('filter'); it.value = 'produce'; it.dispatchEvent(new Event('change')) })()")
+    person.choose("#filter", "produce")
     check("beside a filter: both hold", listed(person) == [documents[1]], listed(person))
     person.shot(os.path.join(shots, "found-list.png"))
-    person.js("(() => { const it = document.getElementById('filter'); it.value = 'all'; it.dispatchEvent(new Event('change')) })()")
+    person.choose("#filter", "all")
     person.js("document.getElementById('sheet').focus()")
     person.open(documents[0])
     for number in documents[1:4]:
@@ -258,51 +259,34 @@ def try_keys(person):
 
 
 def try_looks(person, shots):
-    for name, features in (("dark", {"prefers-color-scheme": "dark"}), ("contrast", {"prefers-contrast": "more"}), ("forced", {"forced-colors": "active"})):
-        person("Emulation.setEmulatedMedia", features=[dict(name=key, value=value) for key, value in features.items()])
+    for name in in_colours(person):
         person.shot(os.path.join(shots, f"find-{name}.png"))
         if name == "forced":
             outline = person.js("getComputedStyle(document.querySelector('.hit_row.open')).outlineStyle")
             check("forced colours mark the hit that is open", outline == "solid", outline)
-    person("Emulation.setEmulatedMedia", features=[])
-
-
-CUT_OFF = """[...document.querySelectorAll('body, nav, #finder, #finder form, #bar, aside')]
-  .filter((it) => it.scrollWidth > it.clientWidth).map((it) => it.id || it.tagName)"""
 
 
 def try_small(office, shots):
-    person = Person(office.folder, size=(800, 600))
-    try:
-        person.enter(office.url, ELLIS)
+    cut = lambda person: cut_off(person, "#finder", "#finder form")
+    with small_window(office, ELLIS) as person:
         find(person, "building 4")
         person.rest()
         high = person.js("document.getElementById('hits').clientHeight")
-        check("at 800 by 600 nothing is cut off, and the hits have room", person.js(CUT_OFF) == [] and high > 120, (person.js(CUT_OFF), high))
+        check("at 800 by 600 nothing is cut off, and the hits have room", cut(person) == [] and high > 120, (cut(person), high))
         person.shot(os.path.join(shots, "800x600-find.png"))
         person.click("#close_finder")
         high = person.js("document.getElementById('documents').clientHeight")
-        check("and so has the list", person.js(CUT_OFF) == [] and high > 120, (person.js(CUT_OFF), high))
+        check("and so has the list", cut(person) == [] and high > 120, (cut(person), high))
         person.shot(os.path.join(shots, "800x600-list.png"))
-    finally:
-        person.close()
 
 
 # ---- a long search
 
 
-SLOW = """window.whole ??= window.fetch
-window.fetch = async (...words) => { await new Promise((go) => setTimeout(go, 400)); return whole(...words) }"""
-
-
 def try_stop(scratch):
     """A matter of 1,200 documents, by the stand-in: what is found is told as it comes, and Escape stops."""
     os.mkdir(folder := os.path.join(scratch, "large"))
-    office = Office(folder, copies=100)
-    person = None
-    try:
-        person = Person(scratch)
-        person.enter(office.url, LEAD)
+    with closing(Office(folder, copies=100)) as office, window(office, LEAD) as person:
         person.rest()
         found = batch.hits("roof")
         start = time.time()
@@ -317,7 +301,7 @@ def try_stop(scratch):
         person.until(f"document.getElementById('hit_{100 * len(found) - 1}')?.querySelector('mark').textContent.toLowerCase().includes('roof') === true")
         check("the last hit is listed with its line", person.js("document.querySelectorAll('#hits_tall .row').length") < 40)
         person.js("document.getElementById('sheet').focus()")
-        person.js(SLOW)
+        slow(person, 400)
         person.key("/")
         person.type("roof")
         person.key("Enter")
@@ -328,21 +312,13 @@ def try_stop(scratch):
         asked = sum(request["url"].endswith("/find") for request in person.requests)
         time.sleep(1.5)
         check("nothing more is asked for", sum(request["url"].endswith("/find") for request in person.requests) == asked)
-        check("nothing that the browser or its policy refused", not person.log, person.log)
-    finally:
-        if person is not None:
-            person.close()
-        office.close()
+        as_before(person)
 
 
 def main():
-    scratch, shots = sys.argv[1:3]
+    scratch, shots, program = given()
     os.mkdir(folder := os.path.join(scratch, "batch"))
-    office = Office(folder, sys.argv[3] if len(sys.argv) > 3 else None, desks=2)
-    person = None
-    try:
-        person = Person(scratch)
-        person.enter(office.url, ELLIS)
+    with closing(Office(folder, program, desks=2)) as office, window(office, ELLIS) as person:
         try_hits(person, shots)
         try_steps(person, shots)
         try_list(person, office, shots)
@@ -351,11 +327,6 @@ def main():
         try_keys(person)
         try_looks(person, shots)
         try_small(office, shots)
-        check("nothing that the browser or its policy refused", not person.log, person.log)
-    finally:
-        if person is not None:
-            person.close()
-        office.close()
     try_stop(scratch)
     finish("find")
 

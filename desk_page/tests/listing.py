@@ -7,16 +7,16 @@ others do shown meanwhile, and what that costs in calls. Over the program, where
 import http.client
 import json
 import os
-import sys
 import time
+from contextlib import closing
 
-import batch
+from batch import COLUMN, order_of
+from frame import as_before, given, slow, window
 from office import ELLIS, LEAD, MARLOW, Office
-from person import READ, Person, check, finish, nameless
+from person import READ, check, finish, nameless
 
 PRODUCE = dict(responsive=True, treatment="Produce", designation="")
 REFRESHED = 25  # seconds within which a small matter is told anew
-COLUMN = {name: [values[k] for values in batch.VALUES] for k, name in enumerate(batch.FIELDS)}
 
 
 def rows(person):
@@ -32,7 +32,7 @@ def counts(person):
 
 
 def choose(person, name):
-    person.js(f"(() => {{ const it = document.getElementById('filter'); it.value = {name!r}; it.dispatchEvent(new Event('change')) }})()")
+    person.choose("#filter", name)
 
 
 def arrange(person, said="The list is sorted by", **values):
@@ -93,14 +93,6 @@ def try_kept(person, office):
 
 
 # ---- orders
-
-
-def order_of(field, backward=False):
-    """The documents by a field, those without a value last, capitals as small letters."""
-    texts = COLUMN[field]
-    key = lambda number: texts[number - 1].replace("\n", "; ").casefold()
-    found = sorted((number for number in range(1, 13) if key(number)), key=key, reverse=backward)
-    return found + [number for number in range(1, 13) if not key(number)]
 
 
 def try_orders(person, shots):
@@ -248,10 +240,6 @@ def try_names_of_controls(person):
 # ---- many documents
 
 
-SLOW = """window.whole ??= window.fetch
-window.fetch = async (...words) => { await new Promise((go) => setTimeout(go, 1500)); return whole(...words) }"""
-
-
 def settle_all(office):
     """Each document called Produce, at the stand-in's own port."""
     desk = lambda: http.client.HTTPConnection("127.0.0.1", office.ports[0], timeout=60)
@@ -264,22 +252,23 @@ def settle_all(office):
 
 def try_many(scratch):
     os.mkdir(folder := os.path.join(scratch, "large"))
-    office = Office(folder, copies=100)
-    person = None
-    try:
+    with closing(Office(folder, copies=100)) as office:
         settle_all(office)
-        person = Person(scratch)
-        person.enter(office.url, ELLIS)
+        try_long_walks(office)
+
+
+def try_long_walks(office):
+    with window(office, ELLIS) as person:
         person.rest()
         states = [request["url"].rsplit("/", 1)[1] for request in person.requests if "/states/" in request["url"]]
         check("1,200 documents are told by three looks", states[:3] == ["1", "501", "1001"] and person.text("count") == "1,200 documents", states)
         check("and each is counted", counts(person)["settled"] == 1200, counts(person))
-        person.js(SLOW)
+        slow(person, 1500)
         person.says("U says how far it is", lambda: person.key("u"), "of 1,200 documents. Escape stops.")
         person.says("and stops at Escape", lambda: person.key("Escape"), "Stopped: no document that isn’t settled")
         person.says("so does an order that wants each document's fields", lambda: arrange(person, "Asked for the fields of", order="date"), "Asked for the fields of")
         person.says("Escape stops it", lambda: person.key("Escape"), "the others stand last.")
-        person.js("window.fetch = window.whole")
+        as_before(person)
         check("what was told stands first", rows(person)[0][0] == 2 and rows(person)[0][3].startswith(min(COLUMN["DOCDATE"])), rows(person)[:2])
         arrange(person, "Asked for the fields of", order="date")
         person.until("document.getElementById('said').textContent.includes('The list is sorted by date.')", seconds=300)
@@ -287,21 +276,12 @@ def try_many(scratch):
         person.until("document.getElementById('document_2') !== null")
         first = [row[0] for row in rows(person)][:5]
         check("and at its end the list is sorted", first == [2 + 12 * k for k in range(5)], first)
-        check("nothing that the browser or its policy refused", not person.log, person.log)
-    finally:
-        if person is not None:
-            person.close()
-        office.close()
 
 
 def main():
-    scratch, shots = sys.argv[1:3]
+    scratch, shots, program = given()
     os.mkdir(folder := os.path.join(scratch, "batch"))
-    office = Office(folder, sys.argv[3] if len(sys.argv) > 3 else None, desks=2)
-    person = None
-    try:
-        person = Person(scratch)
-        person.enter(office.url, ELLIS)
+    with closing(Office(folder, program, desks=2)) as office, window(office, ELLIS) as person:
         try_names(person, shots)
         try_kept(person, office)
         try_orders(person, shots)
@@ -311,11 +291,6 @@ def main():
         try_produced(person, office)
         try_cost(person)
         try_names_of_controls(person)
-        check("nothing that the browser or its policy refused", not person.log, person.log)
-    finally:
-        if person is not None:
-            person.close()
-        office.close()
     try_many(scratch)
     finish("the list")
 

@@ -9,11 +9,13 @@ import os
 import subprocess
 import sys
 import time
+from contextlib import closing
 
 import drawn_batch
+from frame import window
 from measures import NEXT, is_busy, memory, seconds_from_key
 from office import ELLIS, LEAD, Office, digest
-from person import Person, check, finish
+from person import check, finish
 
 DOCUMENTS = 10000
 LIST, FIND, NEXT_ONE, MEGABYTES = 2, 1, 0.06, 400  # what is due: seconds, and a tab's memory
@@ -115,10 +117,7 @@ def try_without_answer(person):
 
 
 def over_program(scratch, program):
-    office = Drawn(scratch, program)
-    person = None
-    try:
-        person = Person(scratch)
+    with closing(Drawn(scratch, program)) as office, window(office) as person:
         try_list(person, office)
         try_find(person, office)
         try_next(person)
@@ -127,11 +126,6 @@ def over_program(scratch, program):
         try_without_answer(person)
         check(f"the tab takes less than {MEGABYTES} MB", (taken := memory(person)) < MEGABYTES, taken)
         print(f"the tab takes {taken:.0f} MB")
-        check("nothing that the browser or its policy refused", not person.log, person.log)
-    finally:
-        if person is not None:
-            person.close()
-        office.close()
 
 
 # ---- by the stand-in
@@ -149,11 +143,7 @@ def calls(person, path=""):
 
 
 def over_stand_in(scratch):
-    office = Office(scratch, copies=COPIES)
-    person = None
-    try:
-        person = Person(scratch)
-        person.enter(office.url, ELLIS)
+    with closing(Office(scratch, copies=COPIES)) as office, window(office, ELLIS) as person:
         person.rest(2)
         opened, rows = calls(person), person.js(f"{ROWS}.length")
         check("a look for each 500 documents", calls(person, "/states/") == -(-12 * COPIES // 500), calls(person, "/states/"))
@@ -165,11 +155,6 @@ def over_stand_in(scratch):
         person.open(5000)
         person.until("document.getElementById('document_5000') !== null")  # drawn once the list has scrolled
         check("an open document has its row in sight", person.js("document.getElementById('document_5000').getBoundingClientRect().top > 0"))
-        check("nothing that the browser or its policy refused", not person.log, person.log)
-    finally:
-        if person is not None:
-            person.close()
-        office.close()
 
 
 def main():

@@ -4,6 +4,7 @@ import json
 import os
 import subprocess
 import sys
+import time
 
 from chromium import Chromium
 from office import BATCH
@@ -47,6 +48,10 @@ class Person(Chromium):
         self.type(key)
         self.key("Enter")
         self.until("document.getElementById('title').textContent.startsWith('Document ')")
+
+    def stage(self, text):
+        """A script for what the page is in, as a slow desk, and not for what somebody does."""
+        return self.js(text)
 
     def title(self, number):
         """Waits until a document is open."""
@@ -138,10 +143,18 @@ class Person(Chromium):
         self.click("#hold > button")
         self.key("Escape")
 
-    def size(self, value):
-        self.js(f"(() => {{ const it = document.getElementById('size'); it.value = {value!r};"
+    def choose(self, selector, value):
+        """A choice has another value, as if it was chosen."""
+        self.js(f"(() => {{ const it = document.querySelector({json.dumps(selector)}); it.value = {value!r};"
                 " it.dispatchEvent(new Event('change')) })()")
+
+    def size(self, value):
+        self.choose("#size", value)
         self.whole()
+
+    def save_into(self, folder):
+        """What is saved goes to a folder."""
+        self("Browser.setDownloadBehavior", behavior="allow", downloadPath=folder)
 
     def at(self, x, y, sides=(2550, 3300)):
         """Where a pixel of the page stands in the window."""
@@ -175,10 +188,18 @@ class Person(Chromium):
                 k = axis + 2 * is_size
                 off = wanted[k] - self.draft()[k]
                 name = names[2 * axis + (off > 0)]
-                for _ in range(abs(off) // 10):
-                    self.key(name, SHIFT * is_size)
-                for _ in range(abs(off) % 10):
-                    self.key(name, SHIFT * is_size | CTRL)
+                self.keys(*[name] * (abs(off) // 10), modifiers=SHIFT * is_size)
+                self.keys(*[name] * (abs(off) % 10), modifiers=SHIFT * is_size | CTRL)
+
+
+def read_saved(path, seconds=60):
+    """The bytes of a file that the browser saves, once all of it is there."""
+    end = time.time() + seconds
+    is_saved = lambda: os.path.exists(path) and not any(name.endswith(".crdownload") for name in os.listdir(os.path.dirname(path)))
+    while not is_saved() and time.time() < end:
+        time.sleep(0.1)
+    with open(path, "rb") as file:
+        return file.read()
 
 
 def scan_path(number, page):
@@ -243,13 +264,22 @@ def canvas_is(what, person, number, page):
     check(f"{what}, {across} by {down} cells", is_grey and digest == due, digest)
 
 
-ROLES = ("button", "link", "textbox", "combobox", "checkbox", "radio", "listbox", "option", "searchbox", "spinbutton", "canvas", "image")
+ROLES = ("button", "link", "textbox", "combobox", "checkbox", "radio", "listbox", "option", "searchbox", "spinbutton", "canvas", "image",
+         "dialog", "DisclosureTriangle")
+
+
+def controls(person):
+    """The controls of Chromium's tree, and whatever else can have the focus: role, name, and whether it is on."""
+    person("Accessibility.enable")
+    found = []
+    for node in person("Accessibility.getFullAXTree")["nodes"]:
+        role = node.get("role", {}).get("value", "")
+        has = {it["name"] for it in node.get("properties", []) if it["value"].get("value") is True}
+        if not node.get("ignored") and (role in ROLES or "focusable" in has):
+            found.append((role, " ".join(node.get("name", {}).get("value", "").split()), "disabled" not in has))
+    return found
 
 
 def nameless(person):
-    """The controls of Chromium's tree that have no name."""
-    person("Accessibility.enable")
-    nodes = person("Accessibility.getFullAXTree")["nodes"]
-    role = lambda node: node.get("role", {}).get("value", "")
-    return [role(node) for node in nodes
-            if not node.get("ignored") and role(node) in ROLES and not node.get("name", {}).get("value", "").strip()]
+    """The roles of those that have no name."""
+    return [role for role, name, _ in controls(person) if name == ""]

@@ -9,13 +9,14 @@ import csv
 import io
 import os
 import subprocess
-import sys
 import time
+from contextlib import closing
 
 import batch
 from drawn_pages import told, try_by_chance, try_model
+from frame import as_before, fits, given, in_colours, small_window, window
 from office import ELLIS, LEAD, MARLOW, Office
-from person import READ, Person, check, finish, nameless, read_page
+from person import READ, check, finish, nameless, read_page, read_saved
 from small_batch import SMALL, make_small_batch
 
 HERE = os.path.dirname(os.path.abspath(__file__))
@@ -167,15 +168,9 @@ def try_plan(person, office, shots):
 def saved_log(person, office):
     """The bytes of the file that the page saves the preview as."""
     into = os.path.join(office.folder, "saved")
-    person("Browser.setDownloadBehavior", behavior="allow", downloadPath=into)
+    person.save_into(into)
     person.does(lambda: person.click("#save_log"), "is saved as VOL001-LOG-PREVIEW.CSV")
-    path = os.path.join(into, "VOL001-LOG-PREVIEW.CSV")
-    for _ in range(600):
-        if os.path.exists(path) and not any(name.endswith(".crdownload") for name in os.listdir(into)):
-            break
-        time.sleep(0.1)
-    with open(path, "rb") as file:
-        saved = file.read()
+    saved = read_saved(os.path.join(into, "VOL001-LOG-PREVIEW.CSV"))
     check("the preview of the log is saved as a file", list(csv.reader(io.StringIO(saved.decode())))[1:] == rows(person, "#planned_log"), saved)
     return saved
 
@@ -211,7 +206,7 @@ def try_pages(person, office, shots):
     person.key("Enter")
     person.until("document.getElementById('outgoing').open")
     count = 23 + office.last - 12
-    person.js("(() => { const it = document.getElementById('outgoing_size'); it.value = '1'; it.dispatchEvent(new Event('change')) })()")
+    person.choose("#outgoing_size", "1")
     person.js("document.getElementById('outgoing_sheet').focus()")
     for _ in range(count):
         person.key("ArrowLeft")
@@ -219,18 +214,15 @@ def try_pages(person, office, shots):
     for place in range(count):
         pages.append(drawn(person, place))
         if place in (5, 7, 16):  # the sheet, the list with boxes, the note
-            person.js("document.getElementById('outgoing_size').value = 'page'")
-            person.js("document.getElementById('outgoing_size').dispatchEvent(new Event('change'))")
+            person.choose("#outgoing_size", "page")
             person.until("document.getElementById('outgoing_ink').width < 1700")
             person.shot(os.path.join(shots, f"outgoing-{place}.png"))
-            person.js("document.getElementById('outgoing_size').value = '1'")
-            person.js("document.getElementById('outgoing_size').dispatchEvent(new Event('change'))")
+            person.choose("#outgoing_size", "1")
             person.until("document.getElementById('outgoing_ink').width >= 1700")
         person.key("ArrowRight")
     check("each page is drawn in black and white alone", all(pages), [place for place, page in enumerate(pages) if page is None])
     check("the sheet for the withheld document", pages[5][:2] == [1700, 2232], pages[5])
-    person.js("document.getElementById('outgoing_size').value = 'width'")
-    person.js("document.getElementById('outgoing_size').dispatchEvent(new Event('change'))")
+    person.choose("#outgoing_size", "width")
     return pages
 
 
@@ -346,7 +338,7 @@ def try_freeze(person, office, shots):
     person.does(lambda: person.js("window.go_on()"), "It may not be as it was planned; look at its volume.", "frozen")
     check("what is changed in the moment of the freeze is told", "Document 5 was changed since you looked, last by Ellis (boxes, confirmation)"
           in person.text("frozen"), person.text("frozen"))
-    person.js("window.fetch = window.whole")
+    as_before(person)
     office.ask(ELLIS, "POST", "/docs/5/unbox", dict(num=10))
     check("the production stands", f"R-1 stands: {office.last - 2} documents, ABC00000001 to " in person.text("frozen"), person.text("frozen"))
     check("it is listed", rows(person, "#kept") == [["R-1", "VOL001", f"ABC00000001 to ABC{11 + office.last:08}", f"1 to {office.last}",
@@ -366,35 +358,23 @@ def try_freeze(person, office, shots):
 
 def try_small(office, shots):
     """A small window, and the system's colours: dialogs fit, and what is drawn stays black on white."""
-    person = Person(office.folder, size=(800, 600))
-    try:
-        person.enter(office.url, LEAD)
+    with small_window(office, LEAD) as person:
         open_dialog(person)
         fill(person, id="R-1", volume="VOL001", prefix="ABC")
         plan(person, "Nothing is frozen.")
         person.shot(os.path.join(shots, "800x600-plan.png"))
-        check("at 800 by 600 the dialog fits", person.js(FITS % "productions"))
+        check("at 800 by 600 the dialog fits", fits(person, "productions"))
         person.click("#look_at_pages")
         drawn(person, 1)
-        check("and so do the pages", person.js(FITS % "outgoing"))
+        check("and so do the pages", fits(person, "outgoing"))
         room = person.js("(({ clientWidth, clientHeight }) => [clientWidth, clientHeight])(document.getElementById('outgoing_sheet'))")
         check("with room for one", room[0] > 350 and room[1] > 350, room)
         person.shot(os.path.join(shots, "800x600-outgoing.png"))
-        for name, features in (("dark", {"prefers-color-scheme": "dark"}), ("forced", {"forced-colors": "active"})):
-            person("Emulation.setEmulatedMedia", features=[dict(name=key, value=value) for key, value in features.items()])
+        for name in in_colours(person, "dark", "forced"):
             person.shot(os.path.join(shots, f"outgoing-{name}.png"))
         person.key("Escape")
-        person.shot(os.path.join(shots, "plan-forced.png"))
-        person("Emulation.setEmulatedMedia", features=[dict(name="prefers-color-scheme", value="dark")])
-        person.shot(os.path.join(shots, "plan-dark.png"))
-        check("and nothing was refused", not person.log, person.log)
-    finally:
-        person.close()
-
-
-FITS = """(() => { const it = document.getElementById('%s'); const on = it.getBoundingClientRect()
-  return on.left >= 0 && on.right <= innerWidth && on.top >= 0 && on.bottom <= innerHeight
-    && [it, ...it.children].every((part) => part.scrollWidth <= part.clientWidth || part.clientWidth === 0) })()"""
+        for name in in_colours(person, "dark", "forced"):
+            person.shot(os.path.join(shots, f"plan-{name}.png"))
 
 
 def try_difference(person):
@@ -432,38 +412,28 @@ def try_volume(office, pages, log, saved):
 
 
 def main():
-    scratch, shots = sys.argv[1:3]
+    scratch, shots, program = given()
     glyphs = subprocess.run([os.path.join(HERE, "glyphs.py"), "check"], check=False)
     check("the page's glyphs are the program's own table", glyphs.returncode == 0)
-    office = Planned(scratch, sys.argv[3] if len(sys.argv) > 3 else None)
-    people = []
-    try:
+    with closing(Planned(scratch, program)) as office:
         decide_first(office)
-        people = [Person(scratch)]
-        person = people[0]
-        person.enter(office.url, LEAD)
-        try_in_the_way(person, office, shots)
-        decide_rest(office)
-        log, saved = try_plan(person, office, shots)
-        pages = try_pages(person, office, shots)
-        try_sample(person, office, shots)
-        try_small(office, shots)
-        try_changed(person, office)
-        people.append(Person(scratch))
-        people[1].enter(office.url, ELLIS)
-        try_not_allowed(people[1])
-        try_freeze(person, office, shots)
-        try_difference(person)
-        try_by_chance(person)
-        check("nothing that the browser or its policy refused", not any(it.log for it in people), [it.log for it in people])
-        if office.program:
+        with window(office, LEAD) as person:
+            try_in_the_way(person, office, shots)
+            decide_rest(office)
+            log, saved = try_plan(person, office, shots)
+            pages = try_pages(person, office, shots)
+            try_sample(person, office, shots)
+            try_small(office, shots)
+            try_changed(person, office)
+            with window(office, ELLIS) as ellis:
+                try_not_allowed(ellis)
+            try_freeze(person, office, shots)
+            try_difference(person)
+            try_by_chance(person)
+        if program:
             try_volume(office, pages, log, saved)
         else:
             try_model(office, pages)
-    finally:
-        for it in people:
-            it.close()
-        office.close()
     finish("a plan and its production")
 
 

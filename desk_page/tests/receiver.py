@@ -7,59 +7,13 @@ for byte. Over the program alone: a stand-in writes no volume.
 """
 import hashlib
 import os
-import signal
 import subprocess
-import sys
-import time
+from contextlib import closing
 
-from office import ELLIS, LEAD, MARLOW, Office, wait_for
-from person import Person, check, finish, grey_of, nameless
-
-HALE, NOBODYS = "the key of Hale", "the key of Osei"
-VOLUME = "VOL001"
-
-
-class Door(Office):
-    """A matter with a production, and its one door open; nginx knows two desks."""
-
-    def open_desk(self):
-        self.start("serve", "2", "100000")
-        for port in self.ports:
-            wait_for(port, self.desk)
-
-    def take_in_all(self):
-        super().take_in_all()
-        for name, key in (("Hale", HALE), ("Osei", NOBODYS)):
-            self.take_in(name, "Receiver", key)
-        call = dict(responsive=True, treatment="Produce", designation="")
-        for number in range(1, 13):
-            self.ask(ELLIS, "POST", f"/docs/{number}/call", dict(call, treatment="Withhold-AC") if number == 3 else call)
-        self.ask(ELLIS, "POST", "/docs/3/entry", dict(date="2019", author="Ng", recipients="Ortiz", description="Letter to counsel"))
-        self.ask(MARLOW, "POST", "/docs/3/confirm", {})
-
-    def start(self, *words):
-        self.desk = subprocess.Popen([self.program, *words], cwd=self.folder, stdout=subprocess.PIPE, text=True,
-                                     preexec_fn=lambda: signal.signal(signal.SIGINT, signal.SIG_DFL))
-
-    def deliver(self):
-        """The line that `produce` printed; the door is open then."""
-        self.close_desk()
-        line = self.run("produce", "R-1", VOLUME, "ABC", "8", "1", "12")
-        with open(os.path.join(self.folder, "grants.csv"), "w", encoding="ascii") as file:
-            file.write("4,R-1\n")
-        self.start("deliver", "100000", "grants.csv")
-        wait_for(self.ports[0], self.desk)
-        return line
-
-
-def volume_files(folder):
-    found = {}
-    for at, _, names in os.walk(os.path.join(folder, VOLUME)):
-        for name in names:
-            path = os.path.join(at, name)
-            with open(path, "rb") as file:
-                found[os.path.relpath(path, folder)] = file.read()
-    return found
+from door import HALE, NOBODYS, VOLUME, Door, volume_files
+from frame import as_before, given, slow, window
+from office import ELLIS, LEAD, MARLOW, wait_for
+from person import check, finish, grey_of, nameless, read_saved
 
 
 def try_ways(office):
@@ -109,7 +63,7 @@ def try_looking(person, office, line, shots):
     person.until("!document.getElementById('shown_image').hidden")
     try_canvas(person, files[f"{VOLUME}/IMAGES/0001/ABC00000001.TIF"], office.folder)
     person.shot(os.path.join(shots, "receiver.png"))
-    person.js("(() => { const it = document.getElementById('folder'); it.value = 'VOL001/DATA'; it.dispatchEvent(new Event('change')) })()")
+    person.choose("#folder", "VOL001/DATA")
     person.says("a load file is looked at", lambda: person.click("#files button:last-child"), "has the digest", "received_said")
     check("as text", "ABC00000001" in person.text("shown_text"), person.text("shown_text")[:80])
     person.shot(os.path.join(shots, "receiver-text.png"))
@@ -135,17 +89,13 @@ def try_archive(person, office):
     """By keys alone."""
     into = os.path.join(office.folder, "downloads")
     os.mkdir(into)
-    person("Browser.setDownloadBehavior", behavior="allow", downloadPath=into)
+    person.save_into(into)
     person.tab_to("#open_volume [name=volume]")
     person.type("VOL001")
     person.says("the volume is opened by keys", lambda: person.key("Enter"), "VOL001 is open.", "received_said")
     person.tab_to("#as_archive")
     person.says("all is saved as one archive", lambda: person.key("Enter"), "each with the digest that the manifest tells", "received_said")
-    path = os.path.join(into, f"{VOLUME}.tar")
-    for _ in range(300):
-        if os.path.exists(path) and not any(name.endswith(".crdownload") for name in os.listdir(into)):
-            break
-        time.sleep(0.1)
+    read_saved(path := os.path.join(into, f"{VOLUME}.tar"))
     subprocess.run(["tar", "-xf", path, "-C", into], check=True)
     check("which tar unpacks to the volume, byte for byte", volume_files(into) == volume_files(os.path.join(office.folder, "out")))
     told = subprocess.run(["sha256sum", "--quiet", "--strict", "-c", f"{VOLUME}/MANIFEST.TXT"], cwd=into, check=False)
@@ -194,12 +144,12 @@ def try_folder(person, office):
     saved = person.js(SAVED)
     check("and isn't kept", {path: sum for path, sum in due.items() if "ABC00000002.TIF" not in path} == saved)
     person.says("no archive is made of it", lambda: person.click("#as_archive"), "No archive was made", "received_said")
-    person.js("window.fetch = async (...words) => { await new Promise((go) => setTimeout(go, 200)); return whole(...words) }")
+    slow(person, 200)
     person.js("heard.received_said.length = 0; document.getElementById('as_archive').click()")
     person.until("heard.received_said.some((text) => text.includes('Escape or Stop stops'))")
     check("it says how far it is", True)
     person.says("Escape stops it", lambda: person.key("Escape"), "Stopped.", "received_said")
-    person.js("window.fetch = whole")
+    as_before(person)
 
 
 def try_others(person, office):
@@ -219,27 +169,19 @@ def try_others(person, office):
 
 
 def main():
-    scratch, shots = sys.argv[1:3]
-    program = sys.argv[3] if len(sys.argv) > 3 else None
+    scratch, shots, program = given()
     if program is None:
         print("NOT TRIED: the program isn't there, and a stand-in writes no volume")
         return
-    office = Door(scratch, program, desks=2)
-    person = None
-    try:
+    with closing(Door(scratch, program, desks=2)) as office:
         line = office.deliver()
         try_ways(office)
-        person = Person(scratch)
-        try_looking(person, office, line, shots)
-        check("every control has a name", nameless(person) == [], nameless(person))
-        try_archive(person, office)
-        try_folder(person, office)
-        try_others(person, office)
-        check("nothing that the browser or its policy refused", not person.log, person.log)
-    finally:
-        if person is not None:
-            person.close()
-        office.close()
+        with window(office) as person:
+            try_looking(person, office, line, shots)
+            check("every control has a name", nameless(person) == [], nameless(person))
+            try_archive(person, office)
+            try_folder(person, office)
+            try_others(person, office)
     finish("a receiver at the page")
 
 

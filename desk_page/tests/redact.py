@@ -7,12 +7,13 @@ and the model of the search. Over the program, where it is given, else over the 
 """
 import json
 import os
-import sys
 import urllib.request
+from contextlib import closing
 
 from due import DOCS, fits, hits, is_covered, rectangles, rows_of, touches
+from frame import as_before, cut_off, given, in_colours, slow, small_window, window
 from office import ELLIS, LEAD, MARLOW, Office
-from person import SHIFT, Person, check, finish, nameless
+from person import SHIFT, check, finish, nameless
 
 PHRASES = ["helen ng", "lawyer*", "hold back", "###-####"]
 REDACT = dict(responsive=True, treatment="Redact", designation="")
@@ -60,8 +61,7 @@ def look_for(person, phrases, scope, words="proposed in"):
 
 
 def choose_basis(person, basis):
-    person.js(f"(() => {{ const it = document.querySelector('#redact [name=basis]'); it.value = {basis!r};"
-              " it.dispatchEvent(new Event('change')) })()")
+    person.choose("#redact [name=basis]", basis)
 
 
 # ---- what is proposed
@@ -275,27 +275,23 @@ def try_undo(person, office, made):
         office.ask(ELLIS, "POST", "/docs/1/unbox", dict(num=num))
 
 
-SLOW = """window.whole ??= window.fetch
-window.fetch = async (...words) => { await new Promise((go) => setTimeout(go, 400)); return whole(...words) }"""
-
-
 def try_stops(person, office):
     """Escape stops the search, the looks before, and the run, which tells what it put and drops that again."""
     person.open(1)
-    person.js(SLOW)
+    slow(person, 400)
     person.key("q")
     person.does(lambda: person.key("Enter"), "Escape stops.")
     person.key("Escape")  # out of the field
     person.says("a search is stopped", lambda: person.key("Escape"), "Stopped: nothing is proposed.")
-    person.js("window.fetch = window.whole")
+    as_before(person)
     look_for(person, ["helen ng"], "one")
     count = count_taken(person)
     press_button(person, "Put")
     person.until("heard.said.at(-1).includes('Press Put again')")
-    person.js(SLOW)
+    slow(person, 400)
     person.does(lambda: press_button(person, "Put"), "Put 1 of")
     person.says("a run is stopped", lambda: person.key("Escape"), "Stopped. ")
-    person.js("window.fetch = window.whole")
+    as_before(person)
     person.rest()
     stand = len(told(office, 1)["boxes"])
     check("and tells how many it put", f"{boxes_text(stand)} put, 0 refused, {count - stand} not tried." in person.text("said") and 0 < stand < count,
@@ -324,7 +320,7 @@ def try_cut_off(person, office):
     person.says("a run ends where no desk answers", lambda: press_button(person, "Put"), f"1 box put, 1 refused, {count - 2} not tried.")
     check("and says why", "The connection failed." in person.text("redact_refused"), person.text("redact_refused"))
     check("the open document was looked at then, so that what stands of it is known", "It isn’t known" not in person.text("said"), person.text("said"))
-    person.js("window.fetch = window.whole")
+    as_before(person)
     person.does(lambda: person.key("l"), "as it stands now")
     person.does(lambda: press_button(person, "Undo"), "Drop the 2 boxes")
     person.says("Undo drops the one that stands", lambda: press_button(person, "Undo"), "1 box of 2 dropped, 1 not.")
@@ -360,9 +356,7 @@ def try_limit(person, office):
 def try_clerk(office):
     """Who may put none is refused once."""
     office.take_in("Osei", "Clerk", CLERK)
-    person = Person(office.folder)
-    try:
-        person.enter(office.url, CLERK)
+    with window(office, CLERK) as person:
         person.open(1)
         look_for(person, ["helen ng"], "one")
         count = count_taken(person)
@@ -370,8 +364,6 @@ def try_clerk(office):
         person.says("a clerk is refused once, and the rest isn't tried", lambda: press_button(person, "Put"),
                     f"0 boxes put, 1 refused, {count - 1} not tried.")
         check("in words", "Your role may not do this." in person.text("redact_refused"), person.text("redact_refused"))
-    finally:
-        person.close()
 
 
 # ---- words that are chosen
@@ -502,35 +494,23 @@ def try_colours(person, shots):
     look_for(person, PHRASES, "all")
     person.key(".")
     person.key(" ")
-    for name, features in (("dark", {"prefers-color-scheme": "dark"}), ("contrast", {"prefers-contrast": "more"}), ("forced", {"forced-colors": "active"})):
-        person("Emulation.setEmulatedMedia", features=[dict(name=key, value=value) for key, value in features.items()])
+    for name in in_colours(person):
         person.shot(os.path.join(shots, f"redact-{name}.png"))
-    person("Emulation.setEmulatedMedia", features=[])
     check("every control has a name", nameless(person) == [], nameless(person))
     press_button(person, "Close")
 
 
 def try_small(office, shots):
-    person = Person(office.folder, size=(800, 600))
-    try:
-        person.enter(office.url, ELLIS)
+    with small_window(office, ELLIS) as person:
         person.open(1)
         look_for(person, PHRASES, "all")
-        cut = person.js("[...document.querySelectorAll('body, nav, #bar, aside, aside form, #redact ul, .head')]"
-                        ".filter((it) => it.scrollWidth > it.clientWidth).map((it) => it.id || it.tagName)")
-        check("at 800 by 600 nothing is cut off", cut == [], cut)
+        check("at 800 by 600 nothing is cut off", (cut := cut_off(person, "#redact ul")) == [], cut)
         person.shot(os.path.join(shots, "800x600-redact.png"))
-    finally:
-        person.close()
 
 
 def main():
-    scratch, shots = sys.argv[1:3]
-    office = Office(scratch, sys.argv[3] if len(sys.argv) > 3 else None)
-    ellis = None
-    try:
-        ellis = Person(scratch)
-        ellis.enter(office.url, ELLIS)
+    scratch, shots, program = given()
+    with closing(Office(scratch, program)) as office, window(office, ELLIS) as ellis:
         try_edges(ellis)
         due = try_proposing(ellis, office, shots)
         try_one_document(ellis, office)
@@ -546,11 +526,6 @@ def main():
         try_colours(ellis, shots)
         try_clerk(office)
         try_small(office, shots)
-        check("nothing that the browser or its policy refused", not ellis.log, ellis.log)
-    finally:
-        if ellis is not None:
-            ellis.close()
-        office.close()
     finish("redact by term")
 
 

@@ -11,11 +11,12 @@ import json
 import os
 import re
 import subprocess
-import sys
+from contextlib import closing
 
-from due import find_model, hits, rectangles
+from due import find_model, hits, rectangles, touches
+from frame import given, window
 from office import ELLIS, LEAD, MARLOW, TOP, Office
-from person import Person, check, finish
+from person import check, finish
 
 PHRASES = ["helen ng", "lawyer*", "hold back", "###-####", "doctor"]
 REDACTED = {1, 4, 5, 9, 10}
@@ -124,34 +125,23 @@ def write_volume(office):
 
 
 def main():
-    scratch, shots, program = sys.argv[1:4]
-    office = Office(scratch, program)
-    people = []
-    try:
+    scratch, shots, program = given()
+    with closing(Office(scratch, program)) as office:
         decide(office)
-        people = [Person(scratch), Person(scratch)]
-        ellis, marlow = people
-        ellis.enter(office.url, ELLIS)
-        redact(ellis, shots)
-        marlow.enter(office.url, MARLOW)
-        confirm(marlow, (1, 3, 4, 5, 9, 10))
+        with window(office, ELLIS) as ellis, window(office, MARLOW) as marlow:
+            redact(ellis, shots)
+            confirm(marlow, (1, 3, 4, 5, 9, 10))
         check("as many boxes as the model has rows to cover, and those of the day", len(boxes_that_stand(office)) == due_boxes(), boxes_that_stand(office))
         write_volume(office)
         check_texts(office.folder)
-        check("nothing that the browser or its policy refused", not ellis.log and not marlow.log, ellis.log + marlow.log)
-    finally:
-        for person in people:
-            person.close()
-        office.close()
     finish("from a search to a volume")
 
 
 def due_boxes():
     """Rows of hits in the documents that are called Redact, but those whose words the boxes of the day touch."""
-    touch = lambda a, b: all(a[k] < b[k] + b[k + 2] and b[k] < a[k] + a[k + 2] for k in (0, 1))
     rows = [(number, page, row) for number, page, row in rectangles(PHRASES) if number in REDACTED]
     free = [1 for number, page, row in rows
-            if not any((of, at) == (number, page) and touch(row, box) for of, _, at, *box, _ in BOXES)]
+            if not any((of, at) == (number, page) and touches(row, box) for of, _, at, *box, _ in BOXES)]
     return len(free) + len(BOXES)
 
 

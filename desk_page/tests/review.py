@@ -8,12 +8,13 @@ mouse, the second review, refusals, what a person does by mistake, and the produ
 import json
 import os
 import subprocess
-import sys
 import time
+from contextlib import closing
 
 import batch
+from frame import as_before, cut_off, given, window
 from office import ELLIS, LEAD, MARLOW, TOP, Office
-from person import CTRL, READ, Person, canvas_is, check, finish
+from person import CTRL, READ, canvas_is, check, finish
 
 # ---- what is tried
 
@@ -288,7 +289,7 @@ def try_without_desk(person, office):
     person.does(lambda: person.key("l"), "as it stands now")
     person.js(CUT_OFF_CALLS)
     person.says("a call that is cut off may have been made", lambda: person.press("y" if office.program else "yp"), "look again")
-    person.js("window.fetch = window.whole")
+    as_before(person)
     office.close_desk()
     try_unsure(person)
     open_again(office)
@@ -330,7 +331,7 @@ def try_no_look(person):
     person.says("a call that was made is told so, though no look follows", lambda: person.press("yp"), "It was done, but document 1")
     person.rest()
     check("it isn't told as unsure", "It isn’t known" not in person.text("said"), person.text("said"))
-    person.js("window.fetch = window.whole")
+    as_before(person)
     person.says("and stands, by the next look", lambda: person.key("l"), "as it stands now")
     check("as it was made", "Produce, responsive" in person.text("state"), person.text("state"))
 
@@ -344,7 +345,6 @@ def try_secrets(person, key, office):
     own = [request for request in person.requests if request["url"].startswith(("https:", "http:"))]
     check("every request went to the page's own origin", all(request["url"].startswith(office.url) for request in own))
     check("and none has the key in its address or body", not any(key.split()[-1] in request["url"] + request.get("postData", "") for request in own))
-    check("nothing that the browser or its policy refused", not person.log, person.log)
 
 
 def ask_production(person, button, words):
@@ -453,24 +453,15 @@ def try_keys_list(person, shots):
     person.key("Escape")
 
 
-# parts of the window that are wider than their place
-CUT_OFF = """[...document.querySelectorAll('body, nav, #bar, aside, aside form, aside fieldset, .head')]
-  .filter((it) => it.scrollWidth > it.clientWidth).map((it) => it.id || it.tagName)"""
-
-
 def try_large_letters(office, shots):
     """The browser's zoom at 125 % and 150 %: a window of fewer points, whose letters are larger; a large one and small ones."""
     for size, zoom, shot in (((1200, 800), 1.25, "large-letters"), ((1093, 614), 1.25, "small-window"), ((853, 480), 1.5, "smallest-window")):
-        person = Person(office.folder, size=size, points=zoom)
-        try:
-            person.enter(office.url, ELLIS)
+        with window(office, ELLIS, size=size, points=zoom) as person:
             person.open(10)
             person.turn(2, 4)
             canvas_is(f"page 2 of document 10 at {zoom:.0%}, {size[0]} by {size[1]}", person, 10, 2)
-            check("nothing is cut off", person.js(CUT_OFF) == [], person.js(CUT_OFF))
+            check("nothing is cut off", (cut := cut_off(person)) == [], cut)
             person.shot(os.path.join(shots, shot + ".png"))
-        finally:
-            person.close()
 
 
 def press(office):
@@ -485,11 +476,8 @@ def press(office):
 
 
 def main():
-    scratch, shots = sys.argv[1:3]
-    office = Office(scratch, sys.argv[3] if len(sys.argv) > 3 else None, desks=2)
-    ellis = marlow = None
-    try:
-        ellis = Person(scratch)
+    scratch, shots, program = given()
+    with closing(Office(scratch, program, desks=2)) as office, window(office) as ellis:
         try_keys(ellis, office)
         try_looking(ellis, office, shots)
         try_mistakes(ellis, shots)
@@ -501,20 +489,15 @@ def main():
         try_keys_list(ellis, shots)
         try_words(ellis)
         try_secrets(ellis, ELLIS, office)
-        marlow = Person(scratch)
-        try_second(marlow, office, shots)
-        try_large_letters(office, shots)
-        try_people(marlow, office, shots)
-        try_productions(marlow, office, shots)
-        try_without_desk(marlow, office)
-        try_secrets(marlow, MARLOW, office)
-        if office.program:
+        with window(office) as marlow:
+            try_second(marlow, office, shots)
+            try_large_letters(office, shots)
+            try_people(marlow, office, shots)
+            try_productions(marlow, office, shots)
+            try_without_desk(marlow, office)
+            try_secrets(marlow, MARLOW, office)
+        if program:
             press(office)
-    finally:
-        for person in (ellis, marlow):
-            if person is not None:
-                person.close()
-        office.close()
     finish("a review by the page")
 
 

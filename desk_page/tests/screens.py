@@ -7,11 +7,12 @@ where it is given, else over the stand-in.
 """
 import os
 import re
-import sys
+from contextlib import closing
 
 from due import DOCS, FIELDS, hits, rows_of, touches
+from frame import as_before, fits, given, in_colours, slow, small_window, window
 from office import ELLIS, LEAD, TOP, Office
-from person import Person, check, finish, nameless
+from person import check, finish, nameless
 
 CALLS = {1: "Redact", 2: "Produce", 3: "Withhold-AC", 4: "Produce", 5: "Redact", 7: "Produce", 8: "Produce", 10: "Redact"}
 LONG = 400  # seconds that a range may take over the stand-in, whose search is a plain model's
@@ -174,10 +175,6 @@ def set_range(person, first, last):
         person.js(f"document.querySelector('#screens [name={name}]').value = {str(value)!r}")
 
 
-SLOW = """window.whole ??= window.fetch
-window.fetch = async (...words) => { await new Promise((go) => setTimeout(go, 300)); return whole(...words) }"""
-
-
 def try_range(person, boxes):
     set_range(person, 4, 6)
     for name in ("counsel", "health", "figures"):
@@ -193,11 +190,11 @@ def try_range(person, boxes):
     person.says("without a screen nothing is looked for", lambda: press_button(person, "Check the range"), "Choose a screen first", "screens_told")
     for name in ("counsel", "health", "figures", "office"):
         person.js(f"document.querySelector('#screens [value={name}]').click()")
-    person.js(SLOW)
+    slow(person, 300)
     person.does(lambda: press_button(person, "Check the range"), "phrases. Escape or Stop stops.", "screens_told")
     person.says("Escape stops it", lambda: person.key("Escape"), "Stopped: nothing is listed.", "screens_told")
     check("and leaves the dialog", person.js("document.getElementById('screens').open") and rows_shown(person) == [])
-    person.js("window.fetch = window.whole")
+    as_before(person)
     person.key("Escape")
     person.until("!document.getElementById('screens').open")
 
@@ -217,47 +214,31 @@ def try_files(person, office):
     write(office, "list.txt", "counsel.txt\nhealth.txt\nfigures.txt\noffice.txt\n")
 
 
-FITS = """(() => { const it = document.getElementById('screens'); const on = it.getBoundingClientRect()
-  return on.left >= 0 && on.right <= innerWidth && on.top >= 0 && on.bottom <= innerHeight && it.scrollWidth <= it.clientWidth })()"""
-
-
 def try_small(office, shots):
-    person = Person(office.folder, size=(800, 600))
-    try:
-        person.enter(office.url, ELLIS)
+    with small_window(office, ELLIS) as person:
         open_screens(person)
         person.until("document.querySelectorAll('#screens [name=screen]').length === 4")
         person.does(lambda: press_button(person, "Check the range"), "documents are listed", "screens_told", LONG)
-        check("at 800 by 600 the dialog fits", person.js(FITS))
+        check("at 800 by 600 the dialog fits", fits(person, "screens"))
         person.shot(os.path.join(shots, "800x600-screens.png"))
-        person("Emulation.setEmulatedMedia", features=[dict(name="prefers-color-scheme", value="dark")])
-        person.shot(os.path.join(shots, "screens-dark.png"))
-    finally:
-        person.close()
+        for name in in_colours(person, "dark", "forced"):
+            person.shot(os.path.join(shots, f"screens-{name}.png"))
 
 
 def main():
-    scratch, shots = sys.argv[1:3]
-    office = Office(scratch, sys.argv[3] if len(sys.argv) > 3 else None)
-    ellis = None
-    try:
+    scratch, shots, program = given()
+    with closing(Office(scratch, program)) as office:
         boxes = decide(office)
         write(office, "office.txt", OFFICE_FILE)
         with open(os.path.join(office.folder, "page", "screens", "list.txt"), "a", encoding="utf-8") as file:
             file.write("; the office's own\noffice.txt\n")
-        ellis = Person(scratch)
-        ellis.enter(office.url, ELLIS)
-        shown = try_checking(ellis, boxes, shots)
-        check("every control of the dialog has a name", nameless(ellis) == [], nameless(ellis))
-        try_list(ellis, shown)
-        try_range(ellis, boxes)
-        try_files(ellis, office)
+        with window(office, ELLIS) as ellis:
+            shown = try_checking(ellis, boxes, shots)
+            check("every control of the dialog has a name", nameless(ellis) == [], nameless(ellis))
+            try_list(ellis, shown)
+            try_range(ellis, boxes)
+            try_files(ellis, office)
         try_small(office, shots)
-        check("nothing that the browser or its policy refused", not ellis.log, ellis.log)
-    finally:
-        if ellis is not None:
-            ellis.close()
-        office.close()
     finish("screens")
 
 

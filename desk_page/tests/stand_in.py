@@ -239,7 +239,7 @@ PHRASES = {200: "OK", 400: "Bad Request", 401: "Unauthorized", 403: "Forbidden",
 
 class Exchange(socketserver.StreamRequestHandler):
     timeout = 10
-    count = 0
+    matter, count = None, 0
     turn = threading.Lock()  # calls of all desks are made one after another
 
     def handle(self):
@@ -256,11 +256,11 @@ class Exchange(socketserver.StreamRequestHandler):
             sent = self.body(method, fields)
             with Exchange.turn:
                 Exchange.count += 1
-                status, kind, body = 200, "application/json", answer(matter, method, target, fields, sent)
+                status, kind, body = 200, "application/json", answer(Exchange.matter, method, target, fields, sent)
         except Refused as why:
             status, kind, body = why.status(), "application/json", why.told()
         if isinstance(body, bytes):
-            kind = "image/tiff"
+            kind = "image/tiff" if target.startswith("/docs/") else "application/octet-stream"
         else:
             body = compact({"done": True} if body is None else body)
         head = f"HTTP/1.1 {status} {PHRASES[status]}\r\nContent-Type: {kind}\r\nContent-Length: {len(body)}\r\n"
@@ -285,14 +285,19 @@ class Door(socketserver.TCPServer):
         pass  # a peer that was cut off
 
 
-if __name__ == "__main__":
-    if len(sys.argv) not in (4, 5):
-        sys.exit("usage: stand_in.py PORT[,PORT ..] BATCH LEADKEY [COPIES]")
-    matter = Matter(sys.argv[3], sys.argv[2], int(sys.argv[4]) if len(sys.argv) == 5 else 1)
-    first, *others = [Door(("127.0.0.1", int(port)), Exchange) for port in sys.argv[1].split(",")]
+def serve(matter, *ports):
+    """Desks of a matter at these ports, until Ctrl-C."""
+    Exchange.matter = matter
+    first, *others = [Door(("127.0.0.1", int(port)), Exchange) for port in ports]
     for door in others:
         threading.Thread(target=door.serve_forever, daemon=True).start()
     try:
         first.serve_forever()
     except KeyboardInterrupt:
         print(f"served {Exchange.count}")
+
+
+if __name__ == "__main__":
+    if len(sys.argv) not in (4, 5):
+        sys.exit("usage: stand_in.py PORT[,PORT ..] BATCH LEADKEY [COPIES]")
+    serve(Matter(sys.argv[3], sys.argv[2], int(sys.argv[4]) if len(sys.argv) == 5 else 1), *sys.argv[1].split(","))

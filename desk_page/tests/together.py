@@ -6,11 +6,12 @@ the system's colours, the names of all controls. Over the program, where it is g
     together.py SCRATCH SHOTS [PROGRAM]     pictures of the screens go into the folder SHOTS
 """
 import os
-import sys
 import time
+from contextlib import closing
 
+from frame import cut_off, fits, given, in_colours, small_window, window
 from office import ELLIS, LEAD, MARLOW, Office
-from person import READ, Person, canvas_is, check, finish, nameless, scan
+from person import READ, canvas_is, check, finish, nameless, scan
 
 OSEI = "the key of Osei"
 PRODUCE = dict(responsive=True, treatment="Produce", designation="")
@@ -221,11 +222,6 @@ def listed(person):
     return person.js("Array.from(document.querySelectorAll('#tall .row'), (it) => Number(it.dataset.number))")
 
 
-def choose_filter(person, name):
-    person.js(f"(() => {{ const it = document.getElementById('filter'); it.value = {name!r};"
-              " it.dispatchEvent(new Event('change')) })()")
-
-
 def try_list(marlow, office, shots):
     marlow.rest()
     marlow.key("f")
@@ -233,7 +229,7 @@ def try_list(marlow, office, shots):
     marlow.key("ArrowDown")
     check("whose arrows choose", marlow.js("document.getElementById('filter').value") == "uncalled", marlow.text("count"))
     marlow.key("Escape")
-    choose_filter(marlow, "unresponsive")
+    marlow.choose("#filter", "unresponsive")
     check("the list shows what a filter takes", listed(marlow) == [7, 9] and marlow.text("count") == "2 of 12 documents", (listed(marlow), marlow.text("count")))
     marlow.shot(os.path.join(shots, "filter.png"))
     marlow.open(1)
@@ -251,7 +247,7 @@ def try_list(marlow, office, shots):
     marlow.come(MARLOW)
     check("place and filter are kept for the tab", (marlow.text("title"), listed(marlow)) == ("Document 7", [9]) or
           (marlow.text("title"), marlow.js("document.getElementById('filter').value")) == ("Document 7", "unresponsive"), (marlow.text("title"), listed(marlow)))
-    choose_filter(marlow, "all")
+    marlow.choose("#filter", "all")
     marlow.go("about:blank")
     marlow.go(office.url + "#10/3")
     marlow.come(MARLOW)
@@ -340,14 +336,12 @@ def try_turned_box(person, shots):
 
 def try_colours(person, shots):
     person.open(10)
-    for name, features in (("dark", {"prefers-color-scheme": "dark"}), ("contrast", {"prefers-contrast": "more"}), ("forced", {"forced-colors": "active"})):
-        person("Emulation.setEmulatedMedia", features=[dict(name=key, value=value) for key, value in features.items()])
+    for name in in_colours(person):
         person.shot(os.path.join(shots, f"{name}.png"))
         if name == "forced":
             outline = person.js("getComputedStyle(document.querySelector('.row.open')).outlineStyle")
             check("forced colours mark the open row", outline == "solid", outline)
         canvas_is(f"{name}: the page is black on white", person, 10, 1)
-    person("Emulation.setEmulatedMedia", features=[])
 
 
 def try_names(person):
@@ -361,36 +355,23 @@ def try_names(person):
 
 
 def try_small(office, shots):
-    person = Person(office.folder, size=(800, 600))
-    try:
-        person.enter(office.url, ELLIS)
+    with small_window(office, ELLIS) as person:
         person.open(10)
-        cut = person.js("[...document.querySelectorAll('body, nav, #bar, aside, aside form, aside fieldset, .head')]"
-                        ".filter((it) => it.scrollWidth > it.clientWidth).map((it) => it.id || it.tagName)")
+        cut = cut_off(person)
         sheet = person.js("[document.getElementById('sheet').clientWidth, document.getElementById('sheet').clientHeight]")
         check("at 800 by 600 nothing is cut off, and the page has room", cut == [] and sheet[0] > 250 and sheet[1] > 350, (cut, sheet))
         person.shot(os.path.join(shots, "800x600.png"))
         for button, dialog in (("#show_many", "many"), ("#show_productions", "productions")):
             person.click(button)
             person.until(f"document.getElementById('{dialog}').open")
-            fits = person.js(f"(() => {{ const it = document.getElementById('{dialog}'); const on = it.getBoundingClientRect();"
-                             " return on.left >= 0 && on.right <= innerWidth && on.top >= 0 && on.bottom <= innerHeight && it.scrollWidth <= it.clientWidth })()")
-            check(f"the dialog {dialog} fits", fits)
+            check(f"the dialog {dialog} fits", fits(person, dialog))
             person.shot(os.path.join(shots, f"800x600-{dialog}.png"))
             person.key("Escape")
-    finally:
-        person.close()
 
 
 def main():
-    scratch, shots = sys.argv[1:3]
-    office = Office(scratch, sys.argv[3] if len(sys.argv) > 3 else None, desks=2)
-    people = []
-    try:
-        people = [Person(scratch), Person(scratch)]
-        ellis, marlow = people
-        ellis.enter(office.url, ELLIS)
-        marlow.enter(office.url, MARLOW)
+    scratch, shots, program = given()
+    with (closing(Office(scratch, program, desks=2)) as office, window(office, ELLIS) as ellis, window(office, MARLOW) as marlow):
         try_two_windows(ellis, marlow, office, shots)
         try_held(ellis, marlow, office, shots)
         try_new_people(ellis, office)
@@ -402,11 +383,6 @@ def main():
         try_colours(ellis, shots)
         try_names(ellis)
         try_small(office, shots)
-        check("nothing that the browser or its policy refused", not ellis.log and not marlow.log, ellis.log + marlow.log)
-    finally:
-        for person in people:
-            person.close()
-        office.close()
     finish("several at the page")
 
 

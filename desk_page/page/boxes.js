@@ -10,6 +10,8 @@ const LEAST = 4
 const STILL = 4
 const NEW_BOX = { width: 600, height: 60 }
 
+const counted = (count) => (count === 1 ? '1 word' : `${count} words`)
+
 // the least number that no box of a document has
 export function freeNumber(boxes) {
   const taken = new Set(boxes.map((box) => box.num))
@@ -86,7 +88,7 @@ export class Boxes {
   listRow(box) {
     const row = document.createElement('li')
     const words = box.page === this.review.page ? this.review.knownWords() : null
-    const taken = words === null ? '' : `, takes ${words.filter((word) => touches(box, word)).length} words`
+    const taken = words === null ? '' : `, takes ${counted(words.filter((word) => touches(box, word)).length)}`
     const { num, basis, page, left, top, width, height } = box
     const text = `Box ${num}, ${basis}: page ${page}, ${width} × ${height} at ${left}, ${top}${taken}`
     row.append(
@@ -176,6 +178,7 @@ export class Boxes {
     if (box.page !== this.review.page) await this.review.turn(box.page)
     this.edit(box)
     this.paper.reveal(box)
+    this.paper.sheet.focus() // which has the arrows and Enter
     return `Box ${box.num} is chosen: the arrows move it, Shift and the arrows size it, Enter puts it.`
   }
 
@@ -261,6 +264,7 @@ export class Boxes {
     const width = Math.min(NEW_BOX.width, page.width)
     const height = Math.min(NEW_BOX.height, page.height)
     this.start(moved({ left: 0, top: 0, width, height }, x - (width >> 1), y - (height >> 1), page))
+    this.paper.sheet.focus()
     return 'A new box: the arrows move it, Shift and the arrows size it, 1 to 4 set its basis, Enter puts it, ' +
       'Escape leaves it.'
   }

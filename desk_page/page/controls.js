@@ -61,7 +61,11 @@ export function listen({ review, overview, paper, boxes, documents, listing, lis
     ArrowDown: () => the('sheet').scrollBy(0, 60),
     ArrowUp: () => the('sheet').scrollBy(0, -60),
     ' ': () => readOn(review, 1),
-    back: () => readOn(review, -1),
+    'Shift ': () => readOn(review, -1),
+    ShiftArrowRight: () => moveView(1, 0),
+    ShiftArrowLeft: () => moveView(-1, 0),
+    ShiftArrowDown: () => moveView(0, 1),
+    ShiftArrowUp: () => moveView(0, -1),
     '+': () => paper.step(1),
     '=': () => paper.step(1),
     '-': () => paper.step(-1),
@@ -114,7 +118,6 @@ function focusOn(field) {
 function showKeys() {
   listKeys(the('key_table'))
   the('keys').showModal()
-  the('keys').scrollTop = 0 // its button, at the end, has the focus
 }
 
 async function lookAgain(review) {
@@ -173,6 +176,12 @@ async function follow(review, place, finder) {
 export function leave() {
   forgetLink()
   window.location.reload()
+}
+
+// half of what is in sight over the page, also to its sides
+function moveView(right, down) {
+  const sheet = the('sheet')
+  sheet.scrollBy((right * sheet.clientWidth) / 2, (down * sheet.clientHeight) / 2)
 }
 
 // most of a screen on, and at the end of the page to the next one

@@ -66,8 +66,10 @@ export class Finder {
   }
 
   close() {
+    const hadFocus = this.panel.contains(document.activeElement)
     this.show(false)
     this.documents.showOpen()
+    if (hadFocus) this.documents.list.focus()
   }
 
   // the documents that were found

@@ -12,6 +12,7 @@ const ROWS = [
   ['/', 'find words'],
   ['.', 'next hit of the search'],
   [',', 'hit before'],
+  ['ShiftArrows', 'move the view over the page', 'Shift arrows'],
   ['ArrowRight', 'next page', '→'],
   ['ArrowLeft', 'page before', '←'],
   [' ', 'read on, to the next page too', 'Space'],
@@ -62,11 +63,15 @@ const STRIDE = 10 // pixels of the page
 
 const isText = (target) => target.matches('textarea, select, input:not([type=radio], [type=checkbox])')
 
+// a button that has the focus keeps Enter and Space, a choice its arrows, and so does a list that scrolls by them
+const isKept = ({ key, target }) => ((key === 'Enter' || key === ' ') && target.matches('button, input, summary'))
+  || (key in ARROWS && target.matches('[type=radio], #proposed'))
+
 // what the press is among the keys of `does`
 function nameOf({ key, shiftKey, target }) {
   const inList = IN_LIST[target.id]?.[key]
   if (inList !== undefined) return inList
-  if (key === ' ' && shiftKey) return 'back'
+  if (shiftKey && (key === ' ' || key in ARROWS)) return `Shift${key}`
   return key.length === 1 ? key.toLowerCase() : key
 }
 
@@ -85,12 +90,9 @@ export class Keys {
       if (key === 'Escape') this.does.leaveField()
       return null
     }
-    if (event.metaKey || event.altKey) return null
+    if (event.metaKey || event.altKey || isKept(event)) return null
     if (key in ARROWS && this.moveBox(event)) return null
     if (event.ctrlKey) return null
-    // a button that has the focus keeps Enter and Space, and a choice its arrows
-    if ((key === 'Enter' || key === ' ') && target.matches('button, input')) return null
-    if (key in ARROWS && target.matches('[type=radio]')) return null
     const work = this.does[nameOf(event)]
     if (work === undefined) return null
     event.preventDefault()

@@ -12,6 +12,7 @@ import { Documents } from './documents.js'
 import { EntryForm } from './entry_form.js'
 import { Family } from './family.js'
 import { Finder } from './finder.js'
+import { keepFocus } from './focus.js'
 import { Greys } from './greys.js'
 import { HeldFields } from './held_fields.js'
 import { LastCall } from './last_call.js'
@@ -158,6 +159,8 @@ async function showPlace(review, image) {
 }
 
 // ---- the key
+
+keepFocus()
 
 async function enter(key) {
   if (!isKey(key)) throw new NotNow('A key has letters, digits and signs of a plain keyboard alone.')

@@ -55,6 +55,7 @@ export class Many {
     this.family.textContent = `the family of document ${doc.doc}`
     this.stop.disabled = true
     this.dialog.showModal()
+    this.form.querySelector('[name=which]:checked').focus() // a browser takes the first
     const members = await this.familyOf(doc, () => this.dialog.open)
     if (members.length >= 25) this.told.textContent = ''
     this.family.textContent = `the family of document ${doc.doc} (${counted(members)})`

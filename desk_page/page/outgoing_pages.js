@@ -53,7 +53,7 @@ export class OutgoingPages {
     this.beforeSample = keyed('Before', 'K', { 'aria-label': 'The page of the sample before' })
     this.nextSample = keyed('Next of the sample', 'J')
     this.close = button('Close')
-    const bar = made('p', { class: 'bar' }, this.before, this.after, this.name, this.size,
+    const bar = made('p', { class: 'bar' }, made('span', { class: 'bar' }, this.before, this.after), this.name, this.size,
       made('label', {}, this.tick, ' Looked at ', made('kbd', {}, 'Y')), this.beforeSample, this.nextSample)
     this.dialog = made('dialog', { id: 'outgoing', 'aria-label': 'Pages as they will go out' },
       made('div', { class: 'side' }, made('h2', {}, 'Pages as they will go out'), this.form, this.told, this.list, made('p', {}, this.close)),
@@ -74,6 +74,7 @@ export class OutgoingPages {
     on(this.tick, 'change', () => this.lookedAt(this.tick.checked))
     on(this.size, 'change', () => this.draw())
     on(this.dialog, 'keydown', (event) => this.press(event))
+    new ResizeObserver(() => this.fit()).observe(this.sheet)
     this.close.addEventListener('click', () => this.dialog.close())
   }
 
@@ -89,13 +90,20 @@ export class OutgoingPages {
 
   press(event) {
     const does = {
-      ArrowRight: () => this.show(this.at + 1), ArrowLeft: () => this.show(this.at - 1),
+      ArrowRight: () => this.turn(event, 1), ArrowLeft: () => this.turn(event, -1),
       j: () => this.step(1), k: () => this.step(-1), y: () => this.lookedAt(true).then(() => this.step(1)),
     }[event.key]
     const isOthers = event.ctrlKey || event.metaKey || event.altKey || event.target.matches('select, input:not([type=checkbox])')
     if (does === undefined || isOthers) return null
     event.preventDefault()
     return does()
+  }
+
+  // the next page or the one before; with Shift the other side of one that is wider than its place
+  turn({ shiftKey }, by) {
+    if (!shiftKey) return this.show(this.at + by)
+    this.sheet.scrollBy((by * this.sheet.clientWidth) / 2, 0)
+    return null
   }
 
   // ---- the sample
@@ -209,6 +217,11 @@ export class OutgoingPages {
     const wanted = { width: across, page: Math.min(across, room.height / height), 1: 1 }[this.size.value]
     const scale = Math.min(wanted, mostScale(width, height))
     return { across: Math.max(1, Math.floor(width * scale)), down: Math.max(1, Math.floor(height * scale)), points }
+  }
+
+  // on a window of another size a page that fits it is drawn anew
+  fit() {
+    if (this.dialog.open && this.isDrawn && this.size.value !== '1') this.act(() => this.draw())()
   }
 
   async draw() {

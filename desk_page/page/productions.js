@@ -141,6 +141,7 @@ export class Productions {
   widen({ from, to }) {
     Object.assign(this.form.elements.from, { value: from })
     Object.assign(this.form.elements.to, { value: to })
+    this.form.elements.plan.focus()
     this.forgetPlan()
     this.form.requestSubmit()
   }

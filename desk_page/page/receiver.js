@@ -33,6 +33,7 @@ export class Receiver {
     this.stop.addEventListener('click', () => stopWalk())
     this.again.addEventListener('click', this.said(() => this.list()))
     document.addEventListener('keydown', ({ key }) => KEYS[key]?.())
+    new ResizeObserver(this.said(() => (this.shown.hidden || this.canvas.hidden ? null : this.draw()))).observe(this.shown)
     keepCapitals(this.form.elements.volume)
     this.intoFolder.hidden = window.showDirectoryPicker === undefined
   }
@@ -55,6 +56,7 @@ export class Receiver {
   }
 
   begin() {
+    this.form.elements.volume.focus()
     return this.said(() => this.list())()
   }
 
@@ -81,7 +83,10 @@ export class Receiver {
   async open() {
     const { id, volume } = this.form.elements
     if (id.value === '') throw new NotNow('Nothing was granted to you yet.')
-    this.volume = await Volume.open(this.desk, id.value, volume.value.trim())
+    this.volume = await Volume.open(this.desk, id.value, volume.value.trim()).catch((why) => {
+      if (why.rule !== 'NoProduction') throw why
+      throw new NotNow('No volume of this name is granted to you. Give its name as the office told it.')
+    })
     const labels = this.volume.labels()
     this.head.textContent = `${this.volume.name}: ${this.volume.paths().length.toLocaleString('en')} files`
       + (labels === null ? '' : `, pages ${labels.first} to ${labels.last}`)
@@ -135,12 +140,20 @@ export class Receiver {
   async showImage(bytes) {
     const image = await this.decoder.read(bytes)
     if (image.fault !== undefined) throw new NotNow(`This page can’t be drawn (${image.fault}).`)
+    this.image = image
     this.shown.hidden = false
     this.canvas.hidden = false
+    await this.draw()
+  }
+
+  // as wide as its place, also where that becomes another
+  async draw() {
+    const { image } = this
     const points = window.devicePixelRatio
     const across = Math.min(image.width, Math.max(1, Math.floor(this.canvas.parentElement.clientWidth * points)))
     const down = Math.max(1, Math.round((image.height * across) / image.width))
     const grey = await this.decoder.grey(image, across, down)
+    if (this.image !== image) return
     Object.assign(this.canvas, { width: across, height: down })
     this.canvas.style.width = `${across / points}px`
     this.canvas.getContext('2d').putImageData(imageOf(grey, across, down), 0, 0)

@@ -73,6 +73,7 @@ export class Redact {
   }
 
   open() {
+    if (!this.form.contains(document.activeElement)) this.before = document.activeElement
     this.form.hidden = false
     this.suggest(this.searched())
     this.suggestBasis(this.boxes.basis.value)
@@ -104,6 +105,7 @@ export class Redact {
     this.form.hidden = true
     this.refused.replaceChildren()
     this.proposals.forget()
+    this.before.focus() // where somebody was
     return 'No box is proposed any more.'
   }
 
@@ -114,7 +116,8 @@ export class Redact {
     this.isUndoing = false
     const { all, covered } = this.proposals
     const taken = this.proposals.taken().length
-    this.below.hidden = all.length + covered + this.proposals.values.length === 0 && this.run.made.length === 0
+    const isNothing = all.length + covered + this.proposals.values.length === 0 && this.run.made.length === 0
+    this.below.hidden = isNothing && this.stop.disabled // what is under way can be stopped
     this.putButton.textContent = `Put ${boxesOf(taken)}`
     this.putButton.disabled = taken === 0
     this.undo.disabled = this.run.made.length === 0
@@ -159,10 +162,12 @@ export class Redact {
 
   async walking(work) {
     this.stop.disabled = false
+    this.tell()
     try {
       return await work()
     } finally {
       this.stop.disabled = true
+      this.tell()
     }
   }
 

@@ -28,7 +28,7 @@ export class ScreensPanel {
     this.stop = button('Stop', { disabled: true })
     this.save = button('Save the list', { disabled: true })
     this.told = made('p', { id: 'screens_told', role: 'status' })
-    this.list = made('ul', { id: 'screened', tabindex: 0, 'aria-label': 'What was hit' })
+    this.list = made('ul', { id: 'screened', tabindex: 0, 'aria-label': 'What was hit', hidden: true })
     const close = button('Close')
     this.form = made('form', {}, made('p', {}, number('from', 'From document'), ' ', number('to', 'To document')), this.chosen,
       made('p', {}, made('button', {}, 'Check the range'), ' ', this.stop, ' ', this.save))
@@ -134,6 +134,7 @@ export class ScreensPanel {
   show() {
     const rows = this.found?.rows ?? []
     this.save.disabled = this.found === null
+    this.list.hidden = rows.length === 0 // it is a stop of the keyboard
     const more = rows.length > MOST_ROWS
       ? [made('li', {}, `and ${(rows.length - MOST_ROWS).toLocaleString('en')} more: a saved list has them`)] : []
     this.list.replaceChildren(...rows.slice(0, MOST_ROWS).map((row) => this.row(row)), ...more)

@@ -18,6 +18,7 @@ export class SecondReview {
   ask(title, lines, yes, work) {
     const head = document.createElement('h2')
     head.textContent = title
+    head.id = 'ask_head'
     this.summary.replaceChildren(head, ...lines.map((line) => {
       const made = document.createElement('p')
       made.textContent = line

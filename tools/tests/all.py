@@ -78,7 +78,7 @@ PARTS = {
     "faults": Part("tools/tests/check_report.py", 10),
     "forms": Part("tools/tests/volume_as.py", 15),
     "fetch": Part("tools/tests/fetch_volume.py", 10),
-    "page": Part("desk_page/tests/run.sh", 25),
+    "page": Part("desk_page/tests/run.sh", 35),
     "guide": Part("trials/guide.py", 15),
     "desks": Part("trials/desks.sh", 15, desks=16),
 }

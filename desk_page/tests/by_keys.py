@@ -272,6 +272,7 @@ class Hands(Person):
 
     def window(self, size):
         self("Emulation.setDeviceMetricsOverride", width=size[0], height=size[1], deviceScaleFactor=1, mobile=False)
+        self.rest(0.5)  # a page that fits its place is drawn anew
         self.whole()
 
     def picture(self, name):

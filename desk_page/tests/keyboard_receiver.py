@@ -50,11 +50,13 @@ def try_opening(person, office, line):
     person.around("an open volume")
 
 
-def try_files(person):
-    for folder, name in (("DATA", "VOL001.DAT"), ("TEXT/0001", "ABC00000001.TXT"), ("IMAGES/0001", "ABC00000001.TIF")):
+def try_files(person, office):
+    data = [os.path.basename(path) for path in volume_files(os.path.join(office.folder, "out")) if os.path.dirname(path).endswith("DATA")]
+    for folder, names in (("DATA", sorted(data)), ("TEXT/0001", ["ABC00000001.TXT"]), ("IMAGES/0001", ["ABC00000001.TIF"])):
         person.pick("Folder", f"{VOLUME}/{folder}")
-        person.says(f"{name} is looked at", lambda: person.push(name), f"{name} has the digest", "received_said")
-        check("and the file is shown", person.text("shown_name") == f"{VOLUME}/{folder}/{name}", person.text("shown_name"))
+        for name in names:
+            person.says(f"{name} is looked at", lambda name=name: person.push(name), f"{name} has the digest", "received_said")
+            check("and the file is shown", person.text("shown_name") == f"{VOLUME}/{folder}/{name}", person.text("shown_name"))
         person.state(f"receiver-{folder.split('/')[0].lower()}", looks=folder.startswith("IMAGES"))
     person.until("(({ scrollHeight, clientHeight }) => scrollHeight > clientHeight)(document.getElementById('shown_file'))")
     person.reach("The file")
@@ -90,7 +92,7 @@ def try_saving(person, office):
 
 def try_receiver(person, office, line):
     try_opening(person, office, line)
-    try_files(person)
+    try_files(person, office)
     try_saving(person, office)
     person.end_part("a receiver")
     enter(person, office, NOBODYS)

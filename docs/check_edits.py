@@ -11,9 +11,8 @@ import sys
 TOP = pathlib.Path(__file__).resolve().parent.parent
 FEWEST, MOST = 5, 10
 # libraries that have more. bp_cli: `run` carries all commands, and five of the twelve turn no command but `run` and `serve` whole;
-# of the others each turns init, produce, burn or deliver, or what the program hands back. bp_keep_sql: each turns another statement
-# of the table, or another cause of a refusal
-MORE = {"bp_cli": 12, "bp_keep_sql": 12}
+# of the others each turns init, produce, burn or deliver, or what the program hands back.
+MORE = {"bp_cli": 12}
 # libraries that need fewer, and have theirs in definitions: laws, whose calls have no body that does something
 LAWS = {"bp_frozen", "bp_own_volumes"}
 NOT_PRODUCT = ("bp_test_", "bp_bench")

@@ -36,7 +36,7 @@ bytes_of_others notice f m =
 -- each item stands where it stood, each path is that of the volume but for the volume's name, the
 -- OPT is that of the volume under that name, an item that isn't named shows what it showed, and each
 -- of its files has the bytes that it had
-pub record Stays (f : Production) (notice : List Claim) (volume : List ℕ) (m : Matter) : Type 0
+pub record StaysInPlace (f : Production) (notice : List Claim) (volume : List ℕ) (m : Matter) : Type 0
   where
     pub items : map standing_of (placed_items (replaced f notice volume) m)
         ≡ map standing_of (placed_items f m)

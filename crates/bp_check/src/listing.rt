@@ -95,7 +95,8 @@ fn check_listed<S: Source>(
 // Bytes have the digest that line `number` lists.
 fn check_digest(bytes: &[u8], digest: &[u8; 64], number: u32) -> Result<(), ImportRefusal>
     ensures answer { StepGives (λ _. tt) result
-        (must_pass (bytes_eq digest.now (digest_text bytes.now)) (rule_at_line DigestDiffers number)) }
+        (must_pass (bytes_eq digest.now (digest_text bytes.now))
+        (rule_at_line DigestDiffers number)) }
     ensures calm { IfErr result IsCalmRefusal }
 {
     if digest_text(bytes) == *digest {

@@ -138,7 +138,8 @@ fn read_listed<S: Source>(
     path: &Text,
 ) -> Result<Vec<ListedFile>, ImportRefusal>
     ensures told { IfSome (S.shows source.old).files (λ files.
-        StepGives (λ rows. map listed_seen rows.items) result (manifest_at (file_there files) path.now)) }
+        StepGives (λ rows. map listed_seen rows.items) result
+        (manifest_at (file_there files) path.now)) }
     ensures few { IfOk result (λ rows. length rows.items + 1 < 2 ^ 32) }
     ensures after { S.shows source.new ≡ after_check_step (S.shows source.old) result }
     ensures reads { ReadsAtMost 1 (S.reads source.old) (S.reads source.new) }

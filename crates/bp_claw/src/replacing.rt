@@ -141,7 +141,8 @@ pub fn replace<F: Folder>(
         OnOk result (F.shows folder.new ≡ with_files (F.shows folder.old) files) }
     ensures left { let m = tables.now.matter in
         let files = replacement_of production.now notice.now volume.now m in
-        IfErr result (λ refusal. LeavesFolder (F.shows folder.old) files refusal (F.shows folder.new)) }
+        IfErr result
+        (λ refusal. LeavesFolder (F.shows folder.old) files refusal (F.shows folder.new)) }
     ensures alike { (other : Matter)
         → AgreeBut production.now notice.now tables.now.matter other
         → let files = replacement_of production.now notice.now volume.now other in

@@ -20,7 +20,7 @@ use Rattle.bp_cli.specs.Words.{word_bytes}
 use Rattle.bp_cli.specs.Endings.{status_of, ending_text}
 use Rattle.bp_cli.specs.Printing.{Prints}
 use Rattle.bp_outside.specs.Untold.{untold_out}
-use Rattle.bp_cli.specs.Running.{Moment, RunsWords, moment}
+use Rattle.bp_cli.specs.RunWords.{Moment, RunsWords, moment}
 use Rattle.bp_cli.specs.Runs.{outside}
 
 pub stopped_at_once : {D : Type 0} (shows : D → DoorView) (before : Moment D) (history : Option (List Made)) (after : Moment D) (stop : Stop) (status : ℕ) (answer : Answer) → TakesWords answer (Err stop) → StopsAtOnce stop before history after status → RunsArguments shows answer before history after status

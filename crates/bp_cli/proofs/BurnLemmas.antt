@@ -39,7 +39,7 @@ use Rattle.bp_core.specs.declared.refusals.Refusal.{Refusal}
 use Rattle.bp_core.specs.declared.refusals.Refusal.TheVariants as refusals
 use Rattle.bp_rows.specs.Limits.{sides_are_imported}
 use Rattle.bp_cli.specs.Burn.{BurnLine, BurnPaths, burn_paths, path_refused, lacks_a_side, burn_page, burn_read, PageFileAnswers, PathAnswers, BurnsAt, BurnComes, BurnOutcome, burn_done, burn_gives, counted_line}
-use Rattle.bp_cli.specs.Burning.{AnswersAt, ReadsPageAt, AnswersPage, NamesPath, NamesPaths, PutsPage}
+use Rattle.bp_cli.specs.BurnSteps.{AnswersAt, ReadsPageAt, AnswersPage, NamesPath, NamesPaths, PutsPage}
 use Rattle.bp_cli.specs.Commands.{burn, uses_of, IsOutcome, ReadsAndWorks}
 use Rattle.bp_cli.specs.Stops.{StopsFor, StopsForFolder, read_stop}
 use Rattle.bp_cli.proofs.KeptLemmas.{rows_itself, told_itself}

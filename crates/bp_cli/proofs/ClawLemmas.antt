@@ -38,7 +38,7 @@ use Rattle.bp_cli.specs.declared.stops.Stop.{Stop}
 use Rattle.bp_cli.specs.declared.stops.Stop.TheVariants as stops
 use Rattle.bp_cli.specs.declared.burn.TheConstants.{FILE_LIMIT}
 use Rattle.bp_cli.specs.Claw.{ClawAsked, ClawOutcome, ShowSameBut, claw_gives, file_gives, notice_gives, replaced_unless, replacement_done}
-use Rattle.bp_cli.specs.Clawing.{PutsReplacement, ReadsFile, ReplacesAfter, ReplacesBy, StopsAtNotice, all_added, none_added, some_added}
+use Rattle.bp_cli.specs.ClawSteps.{PutsReplacement, ReadsFile, ReplacesAfter, ReplacesBy, StopsAtNotice, all_added, none_added, some_added}
 use Rattle.bp_cli.specs.Commands.{claw, uses_of, IsOutcome, ReadsAndWorks}
 use Rattle.bp_cli.specs.Endings.{Ending, Ends, Outcome, World, done, partly, refused, untouched, wholly, world}
 use Rattle.bp_cli.specs.Kept.{MatterAnswers, OfTwo}

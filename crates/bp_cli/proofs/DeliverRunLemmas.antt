@@ -10,7 +10,7 @@ use Rattle.bp_outside.specs.Source.{FileMap, SourceView}
 use Rattle.bp_receiver.specs.Events.{Holding}
 use Rattle.bp_cli.specs.declared.stops.Stop.TheVariants as stops
 use Rattle.bp_cli.specs.Deliver.{DeliverAsked, DeliverEnded, DeliverEnds, DeliverPromises, DeliverRanShort, DeliverWasCut, DeliversOver, InputsServe, Office, OpensHolding, OpensOver, deliver_statuses, opening_of, with_opened}
-use Rattle.bp_cli.specs.Delivering.{DeliversWith}
+use Rattle.bp_cli.specs.DeliverSteps.{DeliversWith}
 use Rattle.bp_cli.specs.Endings.{Ending, status_of, ending_text}
 use Rattle.bp_cli.specs.NamedFiles.{NamedFileAnswers}
 use Rattle.bp_cli.specs.Kept.{MatterAnswers}

@@ -21,7 +21,7 @@ use Rattle.bp_freeze.specs.Keeping.{KeepsProduction}
 use Rattle.bp_freeze.specs.Log.{CanBeLogged, span_fits}
 use Rattle.bp_press.proofs.KeptPageLemmas.{passes}
 use Rattle.bp_press.proofs.PressedLemmas.{kept-pressed}
-use Rattle.bp_cli.specs.Producing.{HasLabel, HasLabels}
+use Rattle.bp_cli.specs.ProduceSteps.{HasLabel, HasLabels}
 
 -- the labels of an item
 item_labels : (width : ℕ) (i : Item) → span_fits width i ≡ true → HasLabel width i.span.first × HasLabel width i.span.last

@@ -10,7 +10,7 @@ use Rattle.bp_outside.specs.Out.{OutView}
 use Rattle.bp_outside.specs.Source.{SourceView}
 use Rattle.bp_cli.specs.Commands.{CommandLine, ReadsAsOften}
 use Rattle.bp_cli.specs.Deliver.{DeliverAsked, DeliversOver, office}
-use Rattle.bp_cli.specs.Running.{Asked, DeliversAt, ReadsFor, RunsAsked, RunsOther, desk_side, moment}
+use Rattle.bp_cli.specs.RunWords.{Asked, DeliversAt, ReadsFor, RunsAsked, RunsOther, desk_side, moment}
 use Rattle.bp_cli.specs.Runs.{Outside, outside, RunsOverRows}
 use Rattle.bp_cli.specs.declared.serve.ServeLine.{ServeLine}
 use Rattle.bp_cli.specs.Serve.{ServesOver, hall}

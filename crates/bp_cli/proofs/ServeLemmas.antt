@@ -16,7 +16,7 @@ use Rattle.bp_cli.specs.Kept.{MatterAnswers}
 use Rattle.bp_cli.specs.Printing.{Prints, whole, cut, lacking, instead}
 use Rattle.bp_cli.specs.Runs.{IsAmong}
 use Rattle.bp_cli.specs.Serve.{Hall, ServesHall, ServeEnded, ServeEnds, ServePromises, ServeRanShort, ServeWasCut, ServesOver, serve_statuses, with_read}
-use Rattle.bp_cli.specs.Serving.{HandsOn, ServesWith}
+use Rattle.bp_cli.specs.ServeSteps.{HandsOn, ServesWith}
 use Rattle.bp_cli.proofs.AlikeLemmas.{RowsLaw, matter_one, rows_answer}
 use Rattle.bp_cli.proofs.RunLemmas.{never_rose}
 use Rattle.bp_cli.proofs.StatusLemmas.{among_three, among_two, cut_part, is_broken, is_done, is_keeper_fault, lacking_part, out_rose, out_sure, rose_at, whole_of}

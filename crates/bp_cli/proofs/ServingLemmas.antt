@@ -19,7 +19,7 @@ use Rattle.bp_cli.specs.declared.stops.Stop.{Stop}
 use Rattle.bp_cli.specs.declared.stops.Stop.TheVariants as stops
 use Rattle.bp_cli.specs.Endings.{Ending}
 use Rattle.bp_cli.specs.Serve.{ServesHall, ServeEnds, hall, nobody, unsaid, with_read}
-use Rattle.bp_cli.specs.Serving.{SaysServed, ServesWith}
+use Rattle.bp_cli.specs.ServeSteps.{SaysServed, ServesWith}
 use Rattle.bp_cli.specs.Stops.{StopsForMatter}
 use Rattle.bp_cli.proofs.KeptLemmas.{keeps_matter, kept_rule, load_left, read_itself, rows_itself}
 

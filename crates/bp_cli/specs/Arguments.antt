@@ -26,7 +26,7 @@ use Rattle.sqlite.specs.declared.error.ErrorCode.TheVariants as codes
 use Rattle.sqlite_trees.specs.declared.store.Store.{Ghosts}
 use Rattle.bp_outside.specs.Untold.{untold_source, untold_folder, untold_out}
 use Rattle.bp_cli.specs.Runs.{Outside, outside}
-use Rattle.bp_cli.specs.Running.{LeavesDoors, Moment, RunsWords, moment}
+use Rattle.bp_cli.specs.RunWords.{LeavesDoors, Moment, RunsWords, moment}
 
 -- the words with the program's name, or the error of the system
 abbrev pub Answer : Type 0

@@ -115,8 +115,10 @@ pub record LeavesOutside (added : List FileRow) (kept : Option (List Row)) (text
 
 -- folder, keeper and out got what the outcome says, and nothing else
 abbrev pub GivesOutcome : Outcome → Outside → Outside → Type 0
-GivesOutcome (outcomes.done line files rows) before after = LeavesOutside files rows line before after
-GivesOutcome (outcomes.refused rule) before after = LeavesOutside [] None (refused_line rule) before after
+GivesOutcome (outcomes.done line files rows) before after =
+    LeavesOutside files rows line before after
+GivesOutcome (outcomes.refused rule) before after =
+    LeavesOutside [] None (refused_line rule) before after
 
 -- the status of an outcome
 abbrev pub outcome_status : Outcome → ℕ

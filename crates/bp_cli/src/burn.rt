@@ -10,7 +10,7 @@ ghost use Rattle.bp_tiff.specs.Parts.{file_in};
 ghost use Rattle.bp_tiff.specs.Tiff.{tiff_of};
 ghost use Rattle.bp_cli.specs.Words.{words_lent};
 ghost use Rattle.bp_cli.specs.Burn.{form_of, box_of_words, burn_of, burn_seen, burn_page, counted_line};
-ghost use Rattle.bp_cli.specs.Burning.{NamesPath, NamesPaths, ReadsPageAt, AnswersPage, PutsPage};
+ghost use Rattle.bp_cli.specs.BurnSteps.{NamesPath, NamesPaths, ReadsPageAt, AnswersPage, PutsPage};
 ghost use Rattle.bp_cli.specs.Commands.{burn, uses_of, IsOutcome};
 ghost use Rattle.bp_cli.specs.Endings.{world, Ends};
 ghost use Rattle.bp_cli.specs.Stops.{read_stop};

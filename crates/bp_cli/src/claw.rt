@@ -9,10 +9,10 @@ ghost use Rattle.bp_outside.specs.Folder.{FolderView};
 ghost use Rattle.bp_outside.specs.Source.{SourceView};
 ghost use Rattle.bp_rules.specs.Steps.{AtMostOnce};
 ghost use Rattle.bp_cli.specs.Claw.{claw_named, claw_seen, replacement_line};
-ghost use Rattle.bp_cli.specs.Clawing.{PutsReplacement, ReadsFile, ReplacesAfter};
+ghost use Rattle.bp_cli.specs.ClawSteps.{PutsReplacement, ReadsFile, ReplacesAfter};
 ghost use Rattle.bp_cli.specs.Commands.{claw, ReadsAndWorks};
 ghost use Rattle.bp_cli.specs.Endings.{world};
-ghost use Rattle.bp_cli.specs.Producing.{HasLabels};
+ghost use Rattle.bp_cli.specs.ProduceSteps.{HasLabels};
 ghost use Rattle.bp_cli.specs.Words.{words_lent};
 
 use crate::burn::{FILE_LIMIT, path_named, stop_of_read};
@@ -61,7 +61,7 @@ pub fn claw_in<'a>(operands: &[&'a str]) -> Option<ClawLine<'a>>
 // ---- its work
 
 impl From<ClawRefusal> for Stop {
-    ghost use Rattle.bp_cli.specs.Clawing.{StopsForClaw};
+    ghost use Rattle.bp_cli.specs.ClawSteps.{StopsForClaw};
 
     ghost from_gives = { StopsForClaw };
 

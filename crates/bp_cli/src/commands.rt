@@ -76,7 +76,8 @@ fn produce_named<'a>(
     operands: &[&'a str],
 ) -> Result<Option<Command<'a>>, OutOfMemory>
     ensures { IfOk result (λ command.
-        option_map command_seen command ≡ option_map produce (request_of_words (words_lent operands.now))) }
+        option_map command_seen command
+        ≡ option_map produce (request_of_words (words_lent operands.now))) }
 {
     match request_in(alloc, operands)? {
         Some(request) => Ok(Some(Command::Produce(request))),

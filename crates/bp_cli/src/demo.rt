@@ -3,7 +3,7 @@ ghost use Rattle.std.specs.Prelude.{◌≡◌, IfSome, IsTrue, Some};
 ghost use Rattle.bp_outside.specs.Source.{SourceView};
 ghost use Rattle.bp_cli.specs.Commands.{demo, ReadsAndWorks};
 ghost use Rattle.bp_cli.specs.Demo.{can_be_drawn, demo_of, demo_pages};
-ghost use Rattle.bp_cli.specs.Demoing.{DrawsDemo, FreezesHere, HasRows, KeepsFirst};
+ghost use Rattle.bp_cli.specs.DemoSteps.{DrawsDemo, FreezesHere, HasRows, KeepsFirst};
 ghost use Rattle.bp_cli.specs.Endings.{world};
 ghost use Rattle.bp_cli.specs.Words.{words_lent};
 

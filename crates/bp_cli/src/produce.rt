@@ -5,7 +5,7 @@ ghost use Rattle.bp_outside.specs.Source.{SourceView};
 ghost use Rattle.bp_cli.specs.Commands.{produce, ReadsAndWorks};
 ghost use Rattle.bp_cli.specs.Endings.{world};
 ghost use Rattle.bp_cli.specs.Produce.{request_of_words, request_with, width_of};
-ghost use Rattle.bp_cli.specs.Producing.{Freezes, IsProduced, TellsFrozen};
+ghost use Rattle.bp_cli.specs.ProduceSteps.{Freezes, IsProduced, TellsFrozen};
 ghost use Rattle.bp_cli.specs.Words.{words_lent};
 
 use crate::stops::Stop;

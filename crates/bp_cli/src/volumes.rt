@@ -6,7 +6,7 @@ ghost use Rattle.bp_freeze.specs.Keeping.{KeepsProduction};
 ghost use Rattle.bp_freeze.specs.Log.{label_in};
 ghost use Rattle.bp_press.specs.Volume.{volume_of};
 ghost use Rattle.bp_cli.specs.Produce.{id_told, labels_told, numbers_told, volume_line};
-ghost use Rattle.bp_cli.specs.Producing.{HasLabel, HasLabels, PutsVolume};
+ghost use Rattle.bp_cli.specs.ProduceSteps.{HasLabel, HasLabels, PutsVolume};
 
 use crate::stops::Stop;
 use bp_bates::{Prefix, label_into};

@@ -21,4 +21,5 @@ FindsCode codes bits None = IsErr (next_row codes bits)
 
 -- what an entry of an index says, where it is a code
 abbrev pub found_code : ℕ → Option Found
-found_code entry = if nat_lt entry 256 then None else Some (record { row = entry % 256; len = entry / 256 })
+found_code entry =
+    if nat_lt entry 256 then None else Some (record { row = entry % 256; len = entry / 256 })

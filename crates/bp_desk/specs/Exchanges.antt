@@ -113,4 +113,5 @@ deal_cut seat history x (cut_read short refused none) =
 -- it
 abbrev pub AnswersRead : ℕ → HistoryView → Result Asked WebRefusal → List ℕ → HistoryView → Type 0
 AnswersRead seat before request text after =
-    (x : Exchange) → ReadsAs x.read request → WasReadWhole x → Sent x text → Deals seat before x after
+    (x : Exchange) → ReadsAs x.read request → WasReadWhole x → Sent x text
+    → Deals seat before x after

@@ -31,7 +31,8 @@ Asks x asked = HttpReads x.read (Ok asked)
 
 -- what may be sent in an exchange that made this call: the reply, or that memory ran out for it
 pub data TextOfCall (turn : Turn) (x : Exchange) (text : List ℕ) : Type 0 where
-  reply : Asks x turn.asked → WasReadWhole x → text ≡ reply_text turn.answer → TextOfCall turn x text
+  reply : Asks x turn.asked → WasReadWhole x → text ≡ reply_text turn.answer
+      → TextOfCall turn x text
   no_reply : Asks x turn.asked → WasReadWhole x → text ≡ memory_text → TextOfCall turn x text
 
 -- What may be sent in one that made no call: why the bytes are no request; that the history is

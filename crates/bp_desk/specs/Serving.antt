@@ -27,8 +27,8 @@ DealsAt seat before x made after = Deals seat before x after
 -- the exchanges use up those of the seat. The keeper failed at least as often as was answered, and
 -- in the very exchanges: from what was known before each to what was known after it. A full history
 -- has no new calls.
-pub record ServesCalls (seat tried : ℕ) (before : HistoryView) (door : DoorView) (after : HistoryView)
-    (door' : DoorView) : Type 0 where
+pub record ServesCalls (seat tried : ℕ) (before : HistoryView) (door : DoorView)
+    (after : HistoryView) (door' : DoorView) : Type 0 where
   pub exchanges : List Exchange
   pub made : List Made
   pub faults : ℕ

@@ -29,7 +29,8 @@ field_number m name = of_row (λ row. row.field) (field_with name m)
 
 -- the value of a document in a field; a field that came after it is empty
 abbrev pub value_of_field : Matter → ℕ → ℕ → Option (List ℕ)
-value_of_field m doc field = of_row (λ row. slice_index_or row.values (field - 1) []) (doc_with doc m)
+value_of_field m doc field =
+    of_row (λ row. slice_index_or row.values (field - 1) []) (doc_with doc m)
 
 -- two pages that may not be there agree outside the rectangles
 abbrev pub PagesAgree : List Rect → Option Image → Option Image → Type 0

@@ -68,7 +68,8 @@ abbrev pub pages_of_lines : List WordRow → List OptLine → List Scan → List
 pages_of_lines words [] scans = []
 pages_of_lines words (line ∷ lines) [] = []
 pages_of_lines words (line ∷ lines) (scan ∷ scans) =
-    record { page = scan.page; words = words_on line.image words } ∷ pages_of_lines words lines scans
+    record { page = scan.page; words = words_on line.image words }
+    ∷ pages_of_lines words lines scans
 
 -- each record with its parent and its pages
 abbrev pub docs_of : List Record → List ℕ → List (List BatchPage) → List BatchDoc

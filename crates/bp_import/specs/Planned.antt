@@ -44,7 +44,8 @@ pub record PlanReads {V : Type 0} (said : List ℕ → Result V Rule) (shown : O
   pub says : said bytes ≡ Ok value
 
 -- what a told file says, or the rule where it can't be read
-abbrev pub file_said_at : {V : Type 0} → (List ℕ → Result V Rule) → FileMap → List ℕ → ℕ → Result V Rule
+abbrev pub file_said_at : {V : Type 0} → (List ℕ → Result V Rule) → FileMap → List ℕ → ℕ
+    → Result V Rule
 file_said_at said files path which = batch_file_at files path which 0 >>= said
 
 -- the steps from the document breaks on, up to the lines of the words

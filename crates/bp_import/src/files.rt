@@ -37,7 +37,8 @@ pub(crate) fn read_file<S: Source>(
 ) -> Result<Vec<u8>, ImportRefusal>
     // Over told files it is the file, or the rule.
     ensures told { IfSome (S.shows source.old).files (λ files.
-        Comes (λ bytes. bytes.items) (λ answer. batch_file_at files path.now which line ≡ answer) result) }
+        Comes (λ bytes. bytes.items)
+        (λ answer. batch_file_at files path.now which line ≡ answer) result) }
 
     ensures limit { IfOk result (λ bytes. length bytes.items ≤ FILE_LIMIT) }
 

@@ -52,4 +52,5 @@ told-ascend s =
     if_both P is_table table None (kept-ascend (s.now.trees 0)) tt in
     let all : IfSome (rows_of_database s.now) P =
     if_both P (same_schema s.now.schema no_schema) (Some []) _ refl other in
-    if_both P (s.is_clean && (s.is_open && not s.in_transaction)) (rows_of_database s.now) None all tt
+    if_both P (s.is_clean && (s.is_open && not s.in_transaction)) (rows_of_database s.now) None
+    all tt

@@ -25,7 +25,8 @@ use Rattle.bp_matter.specs.Fields.{byte, word, long_kept, text_kept, list, flag,
 
 -- parts that several bodies share
 abbrev pub entry_part : Entry → List ℕ
-entry_part e = text_kept e.date ++ (text_kept e.author ++ (text_kept e.recipients ++ text_kept e.description))
+entry_part e =
+    text_kept e.date ++ (text_kept e.author ++ (text_kept e.recipients ++ text_kept e.description))
 
 -- a box but its number
 abbrev pub box_rest : BoxRow → List ℕ
@@ -100,7 +101,8 @@ entry_body row = byte 1 ++ entry_part row.entry
 
 -- the body of a prefix
 abbrev pub prefix_body : PrefixRow → List ℕ
-prefix_body row = byte 1 ++ (byte row.prefix.width ++ (long_kept row.next ++ text_kept row.prefix.text))
+prefix_body row =
+    byte 1 ++ (byte row.prefix.width ++ (long_kept row.next ++ text_kept row.prefix.text))
 
 -- the body of a production
 abbrev pub production_body : ProductionRow → List ℕ
@@ -110,7 +112,8 @@ production_body row =
 
 -- the body of a batch
 abbrev pub batch_body : BatchRow → List ℕ
-batch_body row = byte 1 ++ (row.digest ++ (word row.documents ++ (word row.pages ++ text_kept row.name)))
+batch_body row =
+    byte 1 ++ (row.digest ++ (word row.documents ++ (word row.pages ++ text_kept row.name)))
 
 -- the body of the words of a page
 abbrev pub words_body : PageWords → List ℕ

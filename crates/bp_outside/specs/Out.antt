@@ -24,7 +24,8 @@ out_after_refusal out OutOfMemory = out
 
 -- the first so many bytes of a piece were written: at most the piece, and at least one byte where
 -- it has one
-pub record OutWritesFirst (out : OutView) (piece : List ℕ) (count : ℕ) (after : OutView) : Type 0 where
+pub record OutWritesFirst (out : OutView) (piece : List ℕ) (count : ℕ) (after : OutView)
+    : Type 0 where
   pub within : count ≤ length piece
   pub some : 0 < length piece → 0 < count
   pub written : after ≡ with_written out (take count piece)
@@ -37,9 +38,11 @@ pub record OutWritesPrefix (out : OutView) (piece : List ℕ) (after : OutView) 
 -- what a write of a piece leaves
 abbrev pub OutWrites : OutView → List ℕ → Result ℕ OutRefusal → OutView → Type 0
 OutWrites out piece (Ok count) after = OutWritesFirst out piece count after
-OutWrites out piece (Err refusal) after = OutWritesPrefix (out_after_refusal out refusal) piece after
+OutWrites out piece (Err refusal) after =
+    OutWritesPrefix (out_after_refusal out refusal) piece after
 
 -- what a write of a whole piece leaves
 abbrev pub WritesAll : OutView → List ℕ → Result (Unit {0}) OutRefusal → OutView → Type 0
 WritesAll out piece (Ok _) after = after ≡ with_written out piece
-WritesAll out piece (Err refusal) after = OutWritesPrefix (out_after_refusal out refusal) piece after
+WritesAll out piece (Err refusal) after =
+    OutWritesPrefix (out_after_refusal out refusal) piece after

@@ -104,7 +104,8 @@ value_unless None value = unwrap_or value []
 -- by FRCP 26(b)(5)(A)
 abbrev pub value_by : Matter → Item → Option ℕ → List ℕ
 value_by m i None = []
-value_by m i (Some field) = value_unless (held_of_number i.held field) (value_of_field m i.doc.0 field)
+value_by m i (Some field) =
+    value_unless (held_of_number i.held field) (value_of_field m i.doc.0 field)
 
 -- what is shown of the field of a name
 -- by FRCP 26(b)(5)(A)

@@ -47,7 +47,8 @@ impl<'w> Model for FilesInTurn<'w> {
         r.list.items r.next r.manifest.items r.ended };
 
     ghost invariant = { λ r.
-        All (EntryCanBeMade (production_shown r.shown.now) (matter_behind r.shown.now)) r.list.items };
+        All (EntryCanBeMade (production_shown r.shown.now) (matter_behind r.shown.now))
+        r.list.items };
 }
 
 impl<'w> FilesInTurn<'w> {
@@ -105,9 +106,10 @@ fn listed_file(
     manifest: &mut Vec<u8>,
 ) -> Result<MadeFile, OutOfMemory>
     requires place { place < length list.now }
-    requires made { All (EntryCanBeMade (production_shown shown.now) (matter_behind shown.now)) list.now }
-    ensures made { (d : Entry) → IfOk result (λ made. made ≡ file_made_by (production_shown shown.now)
-        (matter_behind shown.now) (slice_index_or list.now place d)) }
+    requires made { All (EntryCanBeMade (production_shown shown.now) (matter_behind shown.now))
+        list.now }
+    ensures made { (d : Entry) → IfOk result (λ made. made
+        ≡ file_made_by (production_shown shown.now) (matter_behind shown.now) (slice_index_or list.now place d)) }
     ensures line { (d : Entry) → OnOk result (manifest.new.items ≡ manifest.old.items
         ++ manifest_line (file_of_entry (production_shown shown.now) (matter_behind shown.now)
         (slice_index_or list.now place d))) }

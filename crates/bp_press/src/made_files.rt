@@ -206,7 +206,8 @@ pub(crate) fn add_beside<P: Shows + Sync, R: Threads + Sync, F: Folder, G: Gate 
         ensures { let m = P.matter maker.entry.now.shown.now in
             let list = maker.entry.now.list.now in
             let piece = slice_range list from coded.entry.now.batch.end in
-            AddsListed (map (file_of_entry maker.entry.now.production.now m) piece) (F.shows folder.entry.now)
+            AddsListed (map (file_of_entry maker.entry.now.production.now m) piece)
+            (F.shows folder.entry.now)
             manifest.entry.now.items result (F.shows folder.exit.now) manifest.exit.now.items }
     { add_batch(maker, alloc, from, coded, folder, manifest) };
     join_mut(maker.rt, &mut code, &mut add)

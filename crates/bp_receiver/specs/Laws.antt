@@ -26,9 +26,11 @@ AnsweredAlike m n grants s first event =
 
 -- what a list of events does in two matters with one outline
 pub record RunsAlike (m n : Matter) (grants : List Grant) (events : List Event) : Type 0 where
-  pub grants_alike : (event_run (over m grants) events).grants ≡ (event_run (over n grants) events).grants
+  pub grants_alike : (event_run (over m grants) events).grants
+      ≡ (event_run (over n grants) events).grants
   pub matters_alike :
-      SameOutline (event_run (over m grants) events).matter (event_run (over n grants) events).matter
+      SameOutline (event_run (over m grants) events).matter
+      (event_run (over n grants) events).matter
   pub answers_alike : (s : ℕ) (first more : List Event) (event : Event)
       → events ≡ first ++ event ∷ more
       → AllAgree (event_run (over m grants) events) s m n

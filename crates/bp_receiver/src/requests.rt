@@ -167,7 +167,8 @@ fn asking_in(
 // How many bytes of body are to come after a head.
 fn wanted_in(route: Option<DeskRoute>, start: &[u8], fields: &[HeaderSpan]) -> usize
     requires { All (IsHeaderWithin (length start.now)) fields.now }
-    ensures { result ≡ event_wanted_by (event_asking_at route (map (header_bytes start.now) fields.now)) }
+    ensures { result
+        ≡ event_wanted_by (event_asking_at route (map (header_bytes start.now) fields.now)) }
 {
     match asking_in(route, start, fields) {
         Ok(asking) => asking.length,

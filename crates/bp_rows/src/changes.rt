@@ -17,7 +17,8 @@ pub fn place_in(places: &[u32], at: usize, width: u32) -> u32
 /// The places of the changing elements of all pixels of the bytes and of a white one after them.
 pub fn find_changes(bytes: &[u8], places: &mut Vec<u32>) -> Result<(), AllocError>
     requires { 8 * length bytes.now ≤ MAX_WIDTH }
-    ensures { OnOk result (places.new.items ≡ changes_of (pixels_in_bytes bytes.now ++ false ∷ [])) }
+    ensures { OnOk result
+        (places.new.items ≡ changes_of (pixels_in_bytes bytes.now ++ false ∷ [])) }
 {
     places.clear();
     let whole = bytes.len() / 8;

@@ -19,7 +19,8 @@ step_without_desk made = asks.Call made.key made.call
 
 -- the matter after calls at a desk is that after the same calls without one
 abbrev pub RunLaw : Type 0
-RunLaw = (m : Matter) (calls : List Made) → run_calls m calls ≡ run_of m (map step_without_desk calls)
+RunLaw = (m : Matter) (calls : List Made)
+    → run_calls m calls ≡ run_of m (map step_without_desk calls)
 
 -- A door was served at a seat that had seen nothing, and the desk is closed: the door's new exchanges
 -- use up the calls of the seat in the whole history.

@@ -262,8 +262,8 @@ pub record SeatCloses (history : List Made) (faults : ℕ) (seat : SeatView) : T
 
 -- the history, with the tables after it and the keeper that has their rows, which wasn't asked to load
 -- since the start
-pub record SeatsClose (desk : Desked) (seats : List SeatView) (history : List Made) (matter : Matter)
-    (keeper : KeeperView) : Type 0 where
+pub record SeatsClose (desk : Desked) (seats : List SeatView) (history : List Made)
+    (matter : Matter) (keeper : KeeperView) : Type 0 where
   pub each : All (SeatCloses history keeper.faults) seats
   pub callers : All (IsSeatCaller desk.seats) history
   pub fits : length history ≤ desk.book.room

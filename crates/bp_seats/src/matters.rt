@@ -116,7 +116,8 @@ fn serve_hall<K: Keeper + Send, D: Door + Send, R: Threads + Wait + Sync>(
 // What a desk leaves.
 fn closed_of<K: Keeper>(desk: Desk<K>, alloc: Global, seats: Vec<Seat<K>>) -> Closed<K>
     requires { AreSeats desk seats.items }
-    ensures { SeatsClose desk seats.items result.history result.tables.matter (K.shows result.keeper) }
+    ensures { SeatsClose desk seats.items result.history result.tables.matter
+        (K.shows result.keeper) }
 {
     match desk.close(alloc, seats) {
         Ok(closed) => closed,

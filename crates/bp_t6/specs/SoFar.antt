@@ -75,7 +75,8 @@ pub record HasRead (reader : ReadSoFar) (lines : List (List Bool)) : Type 0 wher
   pub last : Shows reader.above reader.width (last_line (white_line reader.width) lines)
 
 -- behind these lines one more was read, of these runs
-pub record ReadsNextRow (lines : List (List Bool)) (reader : ReadSoFar) (runs : List ℕ) : Type 0 where
+pub record ReadsNextRow (lines : List (List Bool)) (reader : ReadSoFar) (runs : List ℕ)
+    : Type 0 where
   pub line : List Bool
   pub are : IsRuns runs line
   pub so : HasRead reader (lines ++ line ∷ [])

@@ -28,7 +28,8 @@ pub fn are_canonical(
     requires from { IsNextFrom above.now width under.from under.right under.black }
     ensures { (over : List Bool) (p q : Run) → Shows above.now width over
         → pixels_of_run p ≡ first.pixels → (first.canonical ≡ true → p ≡ written_run first.pixels)
-        → pixels_of_run q ≡ second.pixels → (second.canonical ≡ true → q ≡ written_run second.pixels)
+        → pixels_of_run q ≡ second.pixels
+        → (second.canonical ≡ true → q ≡ written_run second.pixels)
         → result ≡ true → AreCanonicalRuns over (place_under under) p q }
 {
     let a1 = under.right.saturating_sub(1) + first.pixels;

@@ -62,7 +62,8 @@ pub record BrokenLater (One : Lines → Type 0) (Others : Type 0) : Type 0 where
 abbrev pub StripsBreak : List ℕ → Layout → ℕ → ℕ → Rule → Type 0
 StripsBreak bytes l zero k rule = ⊥
 StripsBreak bytes l (suc left) k rule =
-    Breaks bytes l k rule ⊎ BrokenLater (StripHoldsRows bytes l k) (StripsBreak bytes l left (k + 1) rule)
+    Breaks bytes l k rule
+    ⊎ BrokenLater (StripHoldsRows bytes l k) (StripsBreak bytes l left (k + 1) rule)
 
 -- ---- the file
 

@@ -4,7 +4,7 @@ use Rattle.std.specs.FinMap as map
 use Rattle.bp_outside.specs.Source.{ReadOver}
 use Rattle.bp_cli.specs.declared.burn.TheConstants.{FILE_LIMIT}
 use Rattle.bp_cli.specs.declared.stops.Stop.{Stop}
-use Rattle.bp_cli.specs.Burning.{ReadsPageAt}
+use Rattle.bp_cli.specs.BurnSteps.{ReadsPageAt}
 use Rattle.bp_cli.proofs.BurnLemmas.{page_read, read_refused}
 use Rattle.bp_cli.proofs.burn.page_at.Goals as goal
 

@@ -1,6 +1,6 @@
 use Rattle.std.proofs.Common.{◌≡◌, sym, ap, ◌∙◌, length, arith}
 use Rattle.bp_cli.specs.Commands.{command_of}
-use Rattle.bp_cli.specs.Running.{run_asked}
+use Rattle.bp_cli.specs.RunWords.{run_asked}
 use Rattle.bp_cli.specs.Serve.{serve_of}
 use Rattle.bp_cli.specs.Words.{word_bytes}
 use Rattle.bp_cli.proofs.RunningLemmas.{asked_else, asked_to_serve, none_read}

@@ -21,14 +21,14 @@ PARTS = [
         "A volume that is written",
         "What `produce` and `press` promise: the files that are added, and that they are the same for every other matter that shows\n"
         "the same. Of the clause `runs` it is the last case, where the words ask neither to serve nor to deliver.",
-        [("bp_cli", "Running", "RunsCommand")],
+        [("bp_cli", "RunWords", "RunsCommand")],
         {"init", "burn", "import", "log", "check", "claw", "demo"},
     ),
     (
         "Calls that any desks make",
         "What `serve` promises: one history of calls, and of each production that was frozen in it the volume that it keeps. What stands\n"
         "above isn't said again.",
-        [("bp_cli", "Running", "RunsServe")],
+        [("bp_cli", "RunWords", "RunsServe")],
         {"init", "burn", "import", "log", "check", "claw", "demo"},
     ),
 ]

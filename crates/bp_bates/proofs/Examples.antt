@@ -5,7 +5,7 @@ use Rattle.bp_core.specs.Rules.{bates_full_rule}
 use Rattle.bp_bates.specs.declared.prefixes.TheConstants.{MAX_PREFIX, MIN_WIDTH, MAX_WIDTH}
 use Rattle.bp_bates.specs.Prefixes.{is_good_prefix}
 use Rattle.bp_bates.specs.Spans.{largest_of, taken_of}
-use Rattle.bp_bates.specs.Labels.{label_of}
+use Rattle.bp_bates.specs.Labels.{bates_label}
 
 good : is_good_prefix (codes "AB-") 4 ≡ true
 good = refl
@@ -65,5 +65,5 @@ last_two = refl
 one_past : taken_of 10000 4 1 ≡ Err (bates_full_rule 9999)
 one_past = refl
 
-twelfth : label_of (codes "AB-") 4 12 ≡ codes "AB-0012"
+twelfth : bates_label (codes "AB-") 4 12 ≡ codes "AB-0012"
 twelfth = refl

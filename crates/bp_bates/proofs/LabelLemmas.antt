@@ -9,7 +9,7 @@ use Rattle.std.proofs.lemmas.List.{drop-set, same_from_push, drop_all, get_or_ap
 use Rattle.bp_bates.specs.Prefixes.{is_digit}
 use Rattle.bp_bates.specs.Spans.{largest_of}
 use Rattle.bp_bates.proofs.PrefixLemmas.{IsGood}
-use Rattle.bp_bates.specs.Labels.{padded, label_of, IsSameLabel}
+use Rattle.bp_bates.specs.Labels.{padded, bates_label, IsSameLabel}
 
 pub length-padded : (width n : ℕ) → length (padded width n) ≡ width
 length-padded zero n = refl
@@ -77,7 +77,7 @@ same_front p q xs ys e h = (
 )
 
 -- equal labels of good prefixes have equal prefixes and equal digits
-pub label_parts : (p q : List ℕ) (v w m n : ℕ) → IsGood p v → IsGood q w → label_of p v m ≡ label_of q w n → (p ≡ q) × (padded v m ≡ padded w n)
+pub label_parts : (p q : List ℕ) (v w m n : ℕ) → IsGood p v → IsGood q w → bates_label p v m ≡ bates_label q w n → (p ≡ q) × (padded v m ≡ padded w n)
 label_parts p q v w m n good good' e =
     let sizes : length p + v ≡ length q + w = omega (arith, ap length e, length-append p (padded v m), length-append q (padded w n), length-padded v m, length-padded w n) in
     let w4 : 4 ≤ w = good'.wide in
@@ -94,7 +94,7 @@ below_power : (w n : ℕ) → n ≤ 10 ^ w - 1 → n < 10 ^ w
 below_power w n h = omega (arith, pow_positive w)
 
 -- equal labels were made of equal prefixes, widths and numbers
-pub labels_same : (p q : List ℕ) (v w m n : ℕ) → IsGood p v → IsGood q w → m ≤ largest_of v → n ≤ largest_of w → label_of p v m ≡ label_of q w n → IsSameLabel p q v w m n
+pub labels_same : (p q : List ℕ) (v w m n : ℕ) → IsGood p v → IsGood q w → m ≤ largest_of v → n ≤ largest_of w → bates_label p v m ≡ bates_label q w n → IsSameLabel p q v w m n
 labels_same p q v w m n good good' small small' e =
     let parts = label_parts p q v w m n good good' e in
     let widths : v ≡ w = sym (length-padded v m) ∙ ap length parts.1 ∙ length-padded w n in

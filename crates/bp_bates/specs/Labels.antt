@@ -8,8 +8,8 @@ padded zero n = []
 padded (suc width) n = padded width (n / 10) ++ (digit_zero + n % 10) ∷ []
 
 -- the prefix, and the number in the width
-abbrev pub label_of : List ℕ → ℕ → ℕ → List ℕ
-label_of text width number = text ++ padded width number
+abbrev pub bates_label : List ℕ → ℕ → ℕ → List ℕ
+bates_label text width number = text ++ padded width number
 
 -- what two labels were made of is the same
 pub record IsSameLabel (p q : List ℕ) (v w m n : ℕ) : Type 0 where

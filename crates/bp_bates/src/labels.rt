@@ -2,7 +2,7 @@
 ghost use Rattle.std.specs.Prelude.{◌≡◌, ℕ, ◌≤◌, ◌<◌, ◌++◌, List, drop, length, IsTrue};
 ghost use Rattle.bp_bates.specs.Prefixes.{is_good_prefix};
 ghost use Rattle.bp_bates.specs.Spans.{largest_of};
-ghost use Rattle.bp_bates.specs.Labels.{label_of, padded, IsSameLabel};
+ghost use Rattle.bp_bates.specs.Labels.{bates_label, padded, IsSameLabel};
 
 use crate::prefixes::Prefix;
 
@@ -12,8 +12,8 @@ pub fn label_into(prefix: &Prefix, number: u64, into: &mut [u8; 22]) -> usize
     requires good { IsTrue (is_good_prefix prefix.now.text prefix.now.width) }
     requires from { 1 ≤ number }
     requires to { number ≤ largest_of prefix.now.width }
-    ensures length { result ≡ length (label_of prefix.now.text prefix.now.width number) }
-    ensures label { let label = label_of prefix.now.text prefix.now.width number in
+    ensures length { result ≡ length (bates_label prefix.now.text prefix.now.width number) }
+    ensures label { let label = bates_label prefix.now.text prefix.now.width number in
         into.new ≡ label ++ drop (length label) into.old }
 {
     let text = prefix_bytes(prefix);
@@ -52,6 +52,6 @@ pub fn labels_tell_apart()
         → IsTrue (is_good_prefix q w)
         → m ≤ largest_of v
         → n ≤ largest_of w
-        → label_of p v m ≡ label_of q w n
+        → bates_label p v m ≡ bates_label q w n
         → IsSameLabel p q v w m n }
 {}

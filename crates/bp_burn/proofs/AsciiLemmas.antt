@@ -9,7 +9,7 @@ use Rattle.std.proofs.lemmas.List.Sums.{AllPass-from_list_all}
 use Rattle.std.proofs.lemmas.Option.{slice_get_cases}
 use Rattle.std.proofs.lemmas.Str.{encode_ascii}
 use Rattle.bp_codes.specs.Glyphs.{alphabet, glyph_rows, place_of, rows_at}
-use Rattle.bp_burn.specs.Drawn.{has_glyphs, rows_of}
+use Rattle.bp_burn.specs.Drawn.{has_glyphs, glyph_lines}
 
 alphabet_small : list_all (λ c. nat_lt c 128) alphabet ≡ true
 alphabet_small = refl
@@ -48,5 +48,5 @@ short_by None = omega arith
 short_by (Some i) = short_at i
 
 -- a glyph has at most seven rows
-pub rows_short : (c : ℕ) → length (rows_of c) ≤ 7
+pub rows_short : (c : ℕ) → length (glyph_lines c) ≤ 7
 rows_short c = short_by (place_of c)

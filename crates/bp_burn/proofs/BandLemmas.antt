@@ -6,13 +6,13 @@ use Rattle.std.proofs.lemmas.List.{get_or_append_left, get_or-append_right, get_
 use Rattle.std.proofs.Math.Nat.{add-zero, mul-add}
 use Rattle.bp_core.specs.declared.rectangle.Rect.{Rect}
 use Rattle.bp_rows.proofs.GridLemmas.{cell-grid_of, grid_by_cells, grid_of_is_grid}
-use Rattle.bp_rows.specs.Burned.{burned, covers}
+use Rattle.bp_rows.specs.Burned.{burned, covers_pixel}
 use Rattle.bp_rows.specs.Image.{Image, IsGrid, IsPage, grid_of, pixel}
 use Rattle.bp_rows.specs.Limits.{sides_are_allowed, sides_are_imported}
 use Rattle.bp_burn.specs.Band.{band_texts, banded, produced_of}
 use Rattle.bp_burn.specs.Drawn.{columns_of, is_drawn}
 use Rattle.bp_burn.specs.Covered.{covered_pixel, covered_rows}
-use Rattle.bp_burn.specs.Ink.{above, changed, inked, with_white_rows}
+use Rattle.bp_burn.specs.Ink.{above, page_changed, inked, with_white_rows}
 use Rattle.bp_core.specs.declared.stamps.Ink.{Ink}
 use Rattle.bp_core.specs.declared.stamps.Stamp.{Stamp}
 use Rattle.bp_burn.proofs.CopyLemmas.{grid_with_rows}
@@ -65,24 +65,24 @@ pixel_with_rows p more r c grid down across =
 higher_pixel : (p : Image) (more : ℕ) (f g : Change) (r c : ℕ) → IsGrid p.width p.height p.rows
     → Agree p g f → ((r c : ℕ) (was : Bool) → p.height ≤ r → c < p.width → g r c was ≡ was)
     → r < p.height + more → c < p.width
-    → pixel (changed (with_white_rows p more) g) r c ≡ pixel (changed p f) r c
+    → pixel (page_changed (with_white_rows p more) g) r c ≡ pixel (page_changed p f) r c
 higher_pixel p more f g r c grid inside outside down across =
     pixel-changed (with_white_rows p more) g r c down across ∙ ap (g r c) (pixel_with_rows p more r c grid down across)
     ∙ elim (cases_lt r p.height) [
       | inl old ↦ inside r c (pixel p r c) old across ∙ sym (pixel-changed p f r c old across)
       | inr new ↦
           outside r c (pixel p r c) new across ∙ below_white p r c grid new
-          ∙ sym (below_white (changed p f) r c (changed_is_grid p f) new)
+          ∙ sym (below_white (page_changed p f) r c (changed_is_grid p f) new)
     ]
 
 -- the band on the higher page is the band of the page
 pub changed_banded : (p : Image) (f g : Change) (label designation : List ℕ) → IsGrid p.width p.height p.rows
     → Agree p g f → ((r c : ℕ) (was : Bool) → p.height ≤ r → c < p.width → g r c was ≡ was)
-    → inked (changed (with_white_rows p 32) g) (band_texts p.width p.height label designation) ≡ banded (changed p f) label designation
+    → inked (page_changed (with_white_rows p 32) g) (band_texts p.width p.height label designation) ≡ banded (page_changed p f) label designation
 changed_banded p f g label designation grid inside outside =
     let texts = band_texts p.width p.height label designation in
     ap (λ rows. record (with_white_rows p 32) { rows = rows })
-    (same_grid p.width (p.height + 32) (λ r c. texts r c || pixel (changed (with_white_rows p 32) g) r c) (λ r c. texts r c || pixel (changed p f) r c)
+    (same_grid p.width (p.height + 32) (λ r c. texts r c || pixel (page_changed (with_white_rows p 32) g) r c) (λ r c. texts r c || pixel (page_changed p f) r c)
     (λ r c down across. ap (λ b. texts r c || b) (higher_pixel p 32 f g r c grid inside outside down across)))
 
 -- the same of figures that are inked
@@ -94,12 +94,12 @@ higher_banded p f g label designation grid inside outside =
     (λ r c was down across. ap (λ b. b || was) (inside r c down across))
     (λ r c was past across. ap (λ b. b || was) (outside r c past across))
 
-above_inside : (rows : ℕ) (boxes : List Rect) (r c : ℕ) → r < rows → above rows boxes r c ≡ covers boxes r c
-above_inside rows boxes r c down = ap (λ b. b && covers boxes r c) (lt-ltb r rows down)
+above_inside : (rows : ℕ) (boxes : List Rect) (r c : ℕ) → r < rows → above rows boxes r c ≡ covers_pixel boxes r c
+above_inside rows boxes r c down = ap (λ b. b && covers_pixel boxes r c) (lt-ltb r rows down)
 
 -- covered on the higher page, with the band
 pub produced_made : (ink : Ink) (p : Image) (stamps : List Stamp) (label designation : List ℕ) → IsGrid p.width p.height p.rows
-    → inked (changed (with_white_rows p 32) (covered_rows p.height 0 ink stamps)) (band_texts p.width p.height label designation) ≡ produced_of ink p stamps label designation
+    → inked (page_changed (with_white_rows p 32) (covered_rows p.height 0 ink stamps)) (band_texts p.width p.height label designation) ≡ produced_of ink p stamps label designation
 produced_made ink p stamps label designation grid =
     changed_banded p (covered_pixel ink stamps) (covered_rows p.height 0 ink stamps) label designation grid
     (λ r c was down across.
@@ -141,7 +141,7 @@ no_more_rows p =
 -- what of the boxes lies in any row of the page is burned
 pub boxes_inked : (p : Image) (boxes : List Rect) → inked p (above p.height boxes) ≡ burned p boxes
 boxes_inked p boxes =
-    inked-alike p (above p.height boxes) (covers boxes) (λ r c down across. above_inside p.height boxes r c down)
+    inked-alike p (above p.height boxes) (covers_pixel boxes) (λ r c down across. above_inside p.height boxes r c down)
 
 -- burned on a copy of the page
 pub burned_made : (p : Image) (boxes : List Rect) → inked (with_white_rows p 0) (above p.height boxes) ≡ burned p boxes

@@ -3,7 +3,7 @@ use Rattle.std.proofs.Common.{ℕ, ◌≡◌, ◌<◌, Bool, true, false, cond, 
 use Rattle.std.specs.Prelude.{not}
 use Rattle.bp_rows.specs.Image.{Image, IsGrid, IsPage, pixel, with_pixel}
 use Rattle.bp_rows.proofs.GridLemmas.{cell-grid_of, cell-with_cell, grid_of_is_grid, same_grids, grid_by_cells, with_cell, with_cell_is_grid}
-use Rattle.bp_burn.specs.Ink.{changed, erased}
+use Rattle.bp_burn.specs.Ink.{page_changed, erased}
 use Rattle.bp_burn.proofs.InkLemmas.{Alike, Figure, all_before, before, none_before, none_joins, part, part_joins}
 
 abbrev pub Change : Type 0
@@ -16,38 +16,38 @@ Agree p one other = (r c : ℕ) (was : Bool) → r < p.height → c < p.width �
 abbrev with_rows : Image → List (List Bool) → Image
 with_rows p rows = record p { rows = rows }
 
-pub pixel-changed : (p : Image) (f : Change) (r c : ℕ) → r < p.height → c < p.width → pixel (changed p f) r c ≡ f r c (pixel p r c)
+pub pixel-changed : (p : Image) (f : Change) (r c : ℕ) → r < p.height → c < p.width → pixel (page_changed p f) r c ≡ f r c (pixel p r c)
 pixel-changed p f r c down across = cell-grid_of p.width p.height (λ i j. f i j (pixel p i j)) r c down across
 
-pub changed_is_grid : (p : Image) (f : Change) → IsGrid p.width p.height (changed p f).rows
+pub changed_is_grid : (p : Image) (f : Change) → IsGrid p.width p.height (page_changed p f).rows
 changed_is_grid p f = grid_of_is_grid p.width p.height (λ r c. f r c (pixel p r c))
 
 -- a changed page is a page
-pub changed_page : (p : Image) (f : Change) → IsPage p → IsPage (changed p f)
+pub changed_page : (p : Image) (f : Change) → IsPage p → IsPage (page_changed p f)
 changed_page p f page = record { sides = page.sides; xres = page.xres; yres = page.yres; grid = changed_is_grid p f }
 
 -- nothing changed
-pub changed-nothing : (p : Image) (f : Change) → IsGrid p.width p.height p.rows → Agree p f (λ r c was. was) → p ≡ changed p f
+pub changed-nothing : (p : Image) (f : Change) → IsGrid p.width p.height p.rows → Agree p f (λ r c was. was) → p ≡ page_changed p f
 changed-nothing p f grid none =
     ap (with_rows p) (grid_by_cells p.width p.height p.rows (λ r c. f r c (pixel p r c)) grid
     (λ r c down across. sym (none r c (pixel p r c) down across)))
 
 -- changes that agree
-pub changed-alike : (p : Image) (f g : Change) → Agree p f g → changed p f ≡ changed p g
+pub changed-alike : (p : Image) (f g : Change) → Agree p f g → page_changed p f ≡ page_changed p g
 changed-alike p f g same =
     ap (with_rows p)
-    (same_grids p.width p.height (changed p f).rows (changed p g).rows (changed_is_grid p f) (changed_is_grid p g)
+    (same_grids p.width p.height (page_changed p f).rows (page_changed p g).rows (changed_is_grid p f) (changed_is_grid p g)
     (λ r c down across.
     pixel-changed p f r c down across ∙ same r c (pixel p r c) down across ∙ sym (pixel-changed p g r c down across)))
 
 -- one change after another
 pub changed-changed : (p : Image) (first second both : Change) → Agree p (λ r c was. second r c (first r c was)) both
-    → changed (changed p first) second ≡ changed p both
+    → page_changed (page_changed p first) second ≡ page_changed p both
 changed-changed p first second both together =
     ap (with_rows p)
-    (same_grids p.width p.height (changed (changed p first) second).rows (changed p both).rows (changed_is_grid (changed p first) second) (changed_is_grid p both)
+    (same_grids p.width p.height (page_changed (page_changed p first) second).rows (page_changed p both).rows (changed_is_grid (page_changed p first) second) (changed_is_grid p both)
     (λ r c down across.
-    pixel-changed (changed p first) second r c down across
+    pixel-changed (page_changed p first) second r c down across
     ∙ ap (second r c) (pixel-changed p first r c down across)
     ∙ together r c (pixel p r c) down across
     ∙ sym (pixel-changed p both r c down across)))

@@ -8,10 +8,10 @@ use Rattle.bp_core.specs.declared.rectangle.Rect.{Rect}
 use Rattle.bp_core.specs.declared.stamps.Ink.{Ink}
 use Rattle.bp_core.specs.declared.stamps.Ink.TheVariants.{Black, Lettered}
 use Rattle.bp_core.specs.declared.stamps.Stamp.{Stamp}
-use Rattle.bp_rows.specs.Burned.{burned, covers}
+use Rattle.bp_rows.specs.Burned.{burned, covers_pixel}
 use Rattle.bp_rows.specs.Image.{Image, IsGrid}
 use Rattle.bp_burn.specs.Covered.{covered_pixel, covered_rows, has_letter, is_lettered, last_with, letters_in, rects_of, shows_letters}
-use Rattle.bp_burn.specs.Ink.{changed, erased}
+use Rattle.bp_burn.specs.Ink.{page_changed, erased}
 use Rattle.bp_burn.proofs.ChangeLemmas.{Change, changed-changed, changed-nothing}
 use Rattle.bp_burn.proofs.LetterLemmas.{letters_inside}
 
@@ -51,9 +51,9 @@ covered_more : (ink : Ink) (stamps : List Stamp) (s : Stamp) (r c : ℕ) (was : 
     → covered_pixel ink (stamps ++ s ∷ []) r c was
     ≡ (if has_pixel s.rect r c then not (shows_letters ink s && has_letter s r c) else covered_pixel ink stamps r c was)
 covered_more Black stamps s r c was =
-    ap (λ boxes. covers boxes r c || was) (map-append (λ (t : Stamp). t.rect) stamps (s ∷ []))
+    ap (λ boxes. covers_pixel boxes r c || was) (map-append (λ (t : Stamp). t.rect) stamps (s ∷ []))
     ∙ ap (λ b. b || was) (list_any-append (λ (b : Rect). has_pixel b r c) (rects_of stamps) (s.rect ∷ []))
-    ∙ black_more (covers (rects_of stamps) r c) (has_pixel s.rect r c) was
+    ∙ black_more (covers_pixel (rects_of stamps) r c) (has_pixel s.rect r c) was
 covered_more Lettered stamps s r c was =
     ap (decided r c was) (last_more stamps s r c) ∙ decided_by (has_pixel s.rect r c) s r c was (last_with stamps r c)
 
@@ -86,7 +86,7 @@ lettered_choice true false false x was inside = refl
 lettered_choice false h l x was inside = refl
 
 abbrev pub boxing : List Rect → Change
-boxing boxes r c was = covers boxes r c || was
+boxing boxes r c was = covers_pixel boxes r c || was
 
 abbrev CutTo : ℕ → ℕ → ℕ → Rect → Rect → Type 0
 CutTo width rows first box cut = (r c : ℕ) → c < width → has_pixel cut r c ≡ (nat_lt r rows && has_pixel box (first + r) c)
@@ -94,7 +94,7 @@ CutTo width rows first box cut = (r c : ℕ) → c < width → has_pixel cut r c
 -- a stamp more, all black
 pub stamp_laid : (p : Image) (ink : Ink) (stamps : List Stamp) (i rows first : ℕ) (s d : Stamp) (cut : Rect) → i < length stamps → s ≡ get_or stamps i d
     → CutTo p.width rows first s.rect cut → shows_letters ink s ≡ false
-    → burned (changed p (covered_rows rows first ink (take i stamps))) (cut ∷ []) ≡ changed p (covered_rows rows first ink (take (i + 1) stamps))
+    → burned (page_changed p (covered_rows rows first ink (take i stamps))) (cut ∷ []) ≡ page_changed p (covered_rows rows first ink (take (i + 1) stamps))
 stamp_laid p ink stamps i rows first s d cut within is pixels black =
     let before = covered_rows rows first ink (take i stamps) in
     let after = covered_rows rows first ink (take (i + 1) stamps) in
@@ -116,8 +116,8 @@ shown Lettered s shows = shows
 -- a stamp more, with its letters
 pub stamp_lettered : (p : Image) (ink : Ink) (stamps : List Stamp) (i rows first : ℕ) (s d : Stamp) (cut : Rect) → i < length stamps → s ≡ get_or stamps i d
     → CutTo p.width rows first s.rect cut → shows_letters ink s ≡ true
-    → (laid new : Image) → laid ≡ burned (changed p (covered_rows rows first ink (take i stamps))) (cut ∷ []) → new ≡ erased laid (letters_in rows first s)
-    → new ≡ changed p (covered_rows rows first ink (take (i + 1) stamps))
+    → (laid new : Image) → laid ≡ burned (page_changed p (covered_rows rows first ink (take i stamps))) (cut ∷ []) → new ≡ erased laid (letters_in rows first s)
+    → new ≡ page_changed p (covered_rows rows first ink (take (i + 1) stamps))
 stamp_lettered p ink stamps i rows first s d cut within is pixels shows laid new made lettered =
     let before = covered_rows rows first ink (take i stamps) in
     let after = covered_rows rows first ink (take (i + 1) stamps) in
@@ -144,7 +144,7 @@ no_stamp_pixel Black r c was = refl
 no_stamp_pixel Lettered r c was = refl
 
 -- no stamp
-pub no_stamp : (p : Image) (ink : Ink) (rows first : ℕ) → IsGrid p.width p.height p.rows → p ≡ changed p (covered_rows rows first ink [])
+pub no_stamp : (p : Image) (ink : Ink) (rows first : ℕ) → IsGrid p.width p.height p.rows → p ≡ page_changed p (covered_rows rows first ink [])
 no_stamp p ink rows first grid =
     changed-nothing p (covered_rows rows first ink []) grid
     (λ r c was down across. ap (λ b. if nat_lt r rows then b else was) (no_stamp_pixel ink (first + r) c was) ∙ unchanged (nat_lt r rows) was)

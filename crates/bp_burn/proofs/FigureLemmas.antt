@@ -9,7 +9,7 @@ use Rattle.std.proofs.lemmas.Bool.Decides.{nat_tests}
 use Rattle.bp_burn.specs.Drawn.{glyph_bit, row_bit}
 use Rattle.bp_burn.specs.Figures.{bit_figure, glyph_figure, row_figure}
 use Rattle.bp_codes.specs.Bits.{bit}
-use Rattle.bp_rows.specs.Burned.{covers}
+use Rattle.bp_rows.specs.Burned.{covers_pixel}
 use Rattle.bp_rows.specs.Image.{Image}
 use Rattle.bp_burn.specs.Ink.{inked}
 use Rattle.bp_burn.proofs.BoxPartLemmas.{and_or}
@@ -60,9 +60,9 @@ bit_columns at hidden width from to c first last across = grind (arith, nat_test
 
 -- a bit, as far as it lies on the page
 pub bit_blackened : (p : Image) (top at hidden from to : ℕ) → from ≡ min (at - hidden) p.width → to ≡ min (at + 3 - hidden) p.width
-    → inked p (covers (record { left = from; top = top; width = to - from; height = 3 } ∷ [])) ≡ inked p (bit_figure top at hidden)
+    → inked p (covers_pixel (record { left = from; top = top; width = to - from; height = 3 } ∷ [])) ≡ inked p (bit_figure top at hidden)
 bit_blackened p top at hidden from to first last =
-    inked-alike p (covers (record { left = from; top = top; width = to - from; height = 3 } ∷ [])) (bit_figure top at hidden)
+    inked-alike p (covers_pixel (record { left = from; top = top; width = to - from; height = 3 } ∷ [])) (bit_figure top at hidden)
     (λ r c down across.
     and_or (nat_le top r) (nat_lt r (top + 3)) (nat_le from c) (nat_lt c (from + (to - from)))
     ∙ ap (λ b. (nat_le top r && nat_lt r (top + 3)) && b) (bit_columns at hidden p.width from to c first last across))

@@ -7,14 +7,14 @@ use Rattle.bp_core.specs.declared.stamps.Ink.{Ink}
 use Rattle.bp_core.specs.declared.stamps.Stamp.{Stamp}
 use Rattle.bp_codes.specs.declared.span.Fill.TheVariants.{High}
 use Rattle.bp_codes.specs.Bits.{bits_of}
-use Rattle.bp_rows.specs.Burned.{burned, covers, row_part}
+use Rattle.bp_rows.specs.Burned.{burned, covers_pixel, row_part}
 use Rattle.bp_rows.specs.Changes.{Shows, odd, place_at}
 use Rattle.bp_rows.specs.Image.{Image, pixel, row_of, with_row}
 use Rattle.bp_rows.specs.Runs.{painted_runs}
 use Rattle.bp_rows.proofs.BurnedLemmas.{pixel-burned}
 use Rattle.bp_rows.proofs.ShownLemmas.{odd_two, up}
 use Rattle.bp_t6.specs.SoFar.{AddedSoFar, HasAdded, HasNextRow, ReadSoFar, ReadsPage, row_above, unread}
-use Rattle.bp_t6.specs.Written.{strip_of}
+use Rattle.bp_t6.specs.Written.{bits_strip}
 use Rattle.bp_burn.specs.Covered.{covered}
 use Rattle.bp_burn.specs.RowsOut.{AreOf, HasBits, IsGoingOut, IsLine, IsOutRoom, RowsOut, above_out, last_out}
 use Rattle.bp_burn.specs.declared.covered_rows.CoveredRow.{CoveredRow}
@@ -33,7 +33,7 @@ bits_after old new height p bits width has = record { page = has.page; wide = ha
 
 -- before the first row
 pub none_out : (reader : ReadSoFar) (bits : List Bool) (width height : ℕ) (line : Image) (white : List ℕ) (ink : Ink) (stamps : List Stamp) (q : Image)
-    → ((p : Image) (r : ReadSoFar) → r ≡ unread (bits_of High (strip_of p)) p.width → ReadsPage p 0 r)
+    → ((p : Image) (r : ReadSoFar) → r ≡ unread (bits_of High (bits_strip p)) p.width → ReadsPage p 0 r)
     → reader ≡ unread bits width → HasBits width height bits q → IsOutRoom width line white
     → IsGoingOut reader 0 line white ink stamps height 0
 none_out reader bits width height line white ink stamps q begins is has room =
@@ -44,7 +44,7 @@ none_out reader bits width height line white ink stamps q begins is has room =
       own = record { page = has.page; wide = has.wide ∙ sym width_is; high = has.high; codes = bits_are ∙ has.codes };
       reads = λ p these.
           begins p reader
-          (is ∙ ap (λ bs. unread bs width) (sym bits_are ∙ these.codes) ∙ ap (λ w. unread (bits_of High (strip_of p)) w) (sym width_is ∙ sym these.wide));
+          (is ∙ ap (λ bs. unread bs width) (sym bits_are ∙ these.codes) ∙ ap (λ w. unread (bits_of High (bits_strip p)) w) (sym width_is ∙ sym these.wide));
       down = omega arith;
       before = omega arith;
       wide = room.wide ∙ sym width_is;
@@ -69,7 +69,7 @@ next_out reader from line white ink stamps height row so less =
 
 -- ---- a row painted from places
 
-in_part : (a b c : ℕ) → a ≤ c → c < b → covers (row_part 0 a b ∷ []) 0 c ≡ true
+in_part : (a b c : ℕ) → a ≤ c → c < b → covers_pixel (row_part 0 a b ∷ []) 0 c ≡ true
 in_part a b c low high =
     ap (λ x. (x && nat_lt c (a + (b - a))) || false) (le-leb a c low)
     ∙ ap (λ x. x || false) (lt-ltb c (a + (b - a)) (omega arith))
@@ -80,14 +80,14 @@ is_past a c less = grind (arith, nat_tests)
 is_behind : (b c : ℕ) → b ≤ c → nat_lt c b ≡ false
 is_behind b c more = grind (arith, nat_tests)
 
-left_of_part : (a b c : ℕ) → c < a → covers (row_part 0 a b ∷ []) 0 c ≡ false
+left_of_part : (a b c : ℕ) → c < a → covers_pixel (row_part 0 a b ∷ []) 0 c ≡ false
 left_of_part a b c less = ap (λ x. (x && nat_lt c (a + (b - a))) || false) (is_past a c less)
 
 and_false : (x : Bool) → (x && false) ≡ false
 and_false true = refl
 and_false false = refl
 
-right_of_part : (a b c : ℕ) → a ≤ b → b ≤ c → covers (row_part 0 a b ∷ []) 0 c ≡ false
+right_of_part : (a b c : ℕ) → a ≤ b → b ≤ c → covers_pixel (row_part 0 a b ∷ []) 0 c ≡ false
 right_of_part a b c order more =
     ap (λ x. (nat_le a c && x) || false) (is_behind (a + (b - a)) c (omega arith))
     ∙ ap (λ x. x || false) (and_false (nat_le a c))
@@ -118,7 +118,7 @@ module _ (old : Image) (places : List ℕ) (width k : ℕ) (line : List Bool) (s
       let two : k + 1 + 1 ≡ k + 2 = omega arith in
       subst (λ (n : ℕ). to ≤ place_at places width n) two (up places width (k + 1) shows.rises)
 
-  cell : (c : ℕ) → c < width → pixel new 0 c ≡ (covers (row_part 0 from to ∷ []) 0 c || pixel old 0 c)
+  cell : (c : ℕ) → c < width → pixel new 0 c ≡ (covers_pixel (row_part 0 from to ∷ []) 0 c || pixel old 0 c)
   cell c across = pixel-burned old (row_part 0 from to ∷ []) 0 c high (omega (arith, wide))
 
   odd_next : odd (k + 1) ≡ true

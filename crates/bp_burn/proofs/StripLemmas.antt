@@ -9,7 +9,7 @@ use Rattle.bp_core.specs.declared.rectangle.Rect.{Rect}
 use Rattle.bp_core.specs.declared.stamps.Ink.{Ink}
 use Rattle.bp_core.specs.declared.stamps.Ink.TheVariants.{Black, Lettered}
 use Rattle.bp_core.specs.declared.stamps.Stamp.{Stamp}
-use Rattle.bp_rows.specs.Burned.{covers}
+use Rattle.bp_rows.specs.Burned.{covers_pixel}
 use Rattle.bp_rows.specs.Image.{Image, IsGrid, grid_of, pixel, row_of}
 use Rattle.bp_rows.proofs.GridLemmas.{cell-grid_of, grid_of_is_grid, same_grids}
 use Rattle.bp_burn.specs.Band.{band_texts, banded, produced_of}
@@ -35,11 +35,11 @@ no_pixel : (box : Rect) (row c : ℕ) → has_row box row ≡ false → has_pixe
 no_pixel box row c none =
     no_column (nat_le box.top row) (nat_lt row (box.top + box.height)) (nat_le box.left c) (nat_lt c (box.left + box.width)) none
 
-no_cover : (stamps : List Stamp) (row c : ℕ) → touches_row stamps row ≡ false → covers (rects_of stamps) row c ≡ false
+no_cover : (stamps : List Stamp) (row c : ℕ) → touches_row stamps row ≡ false → covers_pixel (rects_of stamps) row c ≡ false
 no_cover [] row c none = refl
 no_cover (s ∷ stamps) row c none =
     let parts = neither (has_row s.rect row) (touches_row stamps row) none in
-    ap (λ b. b || covers (rects_of stamps) row c) (no_pixel s.rect row c parts.0) ∙ no_cover stamps row c parts.1
+    ap (λ b. b || covers_pixel (rects_of stamps) row c) (no_pixel s.rect row c parts.0) ∙ no_cover stamps row c parts.1
 
 abbrev or_first : Option Stamp → Stamp → Bool → Option Stamp
 or_first later s has = elim later [ None ↦ (if has then Some s else None) | Some t ↦ Some t ]

@@ -10,7 +10,7 @@ use Rattle.std.proofs.lemmas.Nat.Bits.{bit_at-zero}
 use Rattle.bp_core.specs.Characters.{space}
 use Rattle.bp_codes.specs.Bits.{bit}
 use Rattle.bp_codes.specs.Glyphs.{glyph_rows, rows_at}
-use Rattle.bp_burn.specs.Drawn.{glyph_bit, is_drawn, row_bit, rows_of, text_pixel}
+use Rattle.bp_burn.specs.Drawn.{glyph_bit, is_drawn, row_bit, glyph_lines, text_pixel}
 use Rattle.bp_burn.specs.Figures.{glyph_figure}
 use Rattle.bp_burn.proofs.AsciiLemmas.{rows_short}
 use Rattle.bp_burn.proofs.FigureLemmas.{past_rows}
@@ -45,20 +45,20 @@ no_column : (rows : List ℕ) (g k : ℕ) → 5 ≤ k → glyph_bit rows g k ≡
 no_column rows g k past = none_first (nat_lt k 5) (bit (slice_index_or rows g 0) (5 - 1 - k)) (le-ltb k 5 past)
 
 same_place : (text : List ℕ) (j n v k m : ℕ) → j ≡ n → k ≡ m
-    → glyph_bit (rows_of (slice_index_or text n space)) v m ≡ glyph_bit (rows_of (slice_index_or text j space)) v k
+    → glyph_bit (glyph_lines (slice_index_or text n space)) v m ≡ glyph_bit (glyph_lines (slice_index_or text j space)) v k
 same_place text j n v k m place column =
-    ap (λ i. glyph_bit (rows_of (slice_index_or text i space)) v m) (sym place)
-    ∙ ap (glyph_bit (rows_of (slice_index_or text j space)) v) (sym column)
+    ap (λ i. glyph_bit (glyph_lines (slice_index_or text i space)) v m) (sym place)
+    ∙ ap (glyph_bit (glyph_lines (slice_index_or text j space)) v) (sym column)
 
 -- a glyph is its part of the text
 pub glyph_part_of : (text : List ℕ) (top left hidden n r c : ℕ)
-    → glyph_figure (rows_of (slice_index_or text n space)) top (left + 18 * n) hidden r c ≡ part (λ r c. eighteenth left (c + hidden)) (is_drawn text top left hidden) n r c
+    → glyph_figure (glyph_lines (slice_index_or text n space)) top (left + 18 * n) hidden r c ≡ part (λ r c. eighteenth left (c + hidden)) (is_drawn text top left hidden) n r c
 glyph_part_of text top left hidden n r c =
     let x = c + hidden in
     let at = left + 18 * n in
     let g = (r - top) / 3 in
-    let mine = glyph_bit (rows_of (slice_index_or text n space)) g ((x - at) / 3) in
-    let theirs = glyph_bit (rows_of (slice_index_or text (eighteenth left x) space)) g ((x - left) % 18 / 3) in
+    let mine = glyph_bit (glyph_lines (slice_index_or text n space)) g ((x - at) / 3) in
+    let theirs = glyph_bit (glyph_lines (slice_index_or text (eighteenth left x) space)) g ((x - left) % 18 / 3) in
     elim (cases_lt x at) [
       | inl before ↦
           none_two (nat_le top r) (nat_le at x && mine) (none_first (nat_le at x) mine (is_left at x before))
@@ -75,17 +75,17 @@ glyph_part_of text top left hidden n r c =
             ∙ sym (ap (λ b. b && (nat_le top r && (nat_le left x && theirs))) (eq-eqb (eighteenth left x) n place)
             ∙ ap (λ b. nat_le top r && (b && theirs)) (is_right left x (omega arith)))
         | inr after ↦
-            none_three (nat_le top r) (nat_le at x) mine (no_column (rows_of (slice_index_or text n space)) g ((x - at) / 3) (omega arith))
+            none_three (nat_le top r) (nat_le at x) mine (no_column (glyph_lines (slice_index_or text n space)) g ((x - at) / 3) (omega arith))
             ∙ sym (none_first (eighteenth left x == n) (nat_le top r && (nat_le left x && theirs)) (other_place (eighteenth left x) n (λ e. omega arith)))
       ]
     ]
 
 -- a character without a glyph has no pixel
-pub no_glyph_part : (text : List ℕ) (top left hidden n r c : ℕ) → rows_of (slice_index_or text n space) ≡ []
+pub no_glyph_part : (text : List ℕ) (top left hidden n r c : ℕ) → glyph_lines (slice_index_or text n space) ≡ []
     → part (λ r c. eighteenth left (c + hidden)) (is_drawn text top left hidden) n r c ≡ false
 no_glyph_part text top left hidden n r c none =
     sym (glyph_part_of text top left hidden n r c)
-    ∙ none_three (nat_le top r) (nat_le (left + 18 * n) (c + hidden)) (glyph_bit (rows_of (slice_index_or text n space)) ((r - top) / 3) ((c + hidden - (left + 18 * n)) / 3))
+    ∙ none_three (nat_le top r) (nat_le (left + 18 * n) (c + hidden)) (glyph_bit (glyph_lines (slice_index_or text n space)) ((r - top) / 3) ((c + hidden - (left + 18 * n)) / 3))
     (ap (λ rows. glyph_bit rows ((r - top) / 3) ((c + hidden - (left + 18 * n)) / 3)) none ∙ zero_bit ((c + hidden - (left + 18 * n)) / 3))
   where
     zero_bit : (k : ℕ) → row_bit 0 k ≡ false
@@ -94,18 +94,18 @@ no_glyph_part text top left hidden n r c none =
 -- ---- the rows that a table has for a character of a text
 
 found_rows : (found : Option (List ℕ)) (text : List ℕ) (n c : ℕ) (table : List (List ℕ)) → n < length text → c ≡ get_or text n 0
-    → table ≡ glyph_rows → found ≡ rows_at table c → rows_of (slice_index_or text n space) ≡ unwrap_or found []
+    → table ≡ glyph_rows → found ≡ rows_at table c → glyph_lines (slice_index_or text n space) ≡ unwrap_or found []
 found_rows found text n c table within is all found_is =
-    ap rows_of (get_or_default_zero text n space within ∙ sym is)
+    ap glyph_lines (get_or_default_zero text n space within ∙ sym is)
     ∙ ap (λ rows. unwrap_or (rows_at rows c) []) (sym all) ∙ ap (λ rows. unwrap_or rows []) (sym found_is)
 
 pub some_rows : (found : Option (List ℕ)) (rows text : List ℕ) (n c : ℕ) (table : List (List ℕ)) → n < length text → c ≡ get_or text n 0
-    → table ≡ glyph_rows → found ≡ rows_at table c → found ≡ Some rows → rows_of (slice_index_or text n space) ≡ rows
+    → table ≡ glyph_rows → found ≡ rows_at table c → found ≡ Some rows → glyph_lines (slice_index_or text n space) ≡ rows
 some_rows found rows text n c table within is all found_is there =
     found_rows found text n c table within is all found_is ∙ ap (λ o. unwrap_or o []) there
 
 pub no_rows : (found : Option (List ℕ)) (text : List ℕ) (n c : ℕ) (table : List (List ℕ)) → n < length text → c ≡ get_or text n 0
-    → table ≡ glyph_rows → found ≡ rows_at table c → found ≡ None → rows_of (slice_index_or text n space) ≡ []
+    → table ≡ glyph_rows → found ≡ rows_at table c → found ≡ None → glyph_lines (slice_index_or text n space) ≡ []
 no_rows found text n c table within is all found_is none =
     found_rows found text n c table within is all found_is ∙ ap (λ o. unwrap_or o []) none
 
@@ -114,7 +114,7 @@ no_rows found text n c table within is all found_is none =
 abbrev zeros : List ℕ
 zeros = replicate 7 0
 
-space_rows : rows_of space ≡ zeros
+space_rows : glyph_lines space ≡ zeros
 unfolding glyph_rows
 space_rows = refl
 
@@ -125,7 +125,7 @@ white_rows g =
       | inr past ↦ get_or_past zeros g 0 (omega (arith, length-replicate {A = ℕ} 7 0))
     ]
 
-space_bit : (g k : ℕ) → glyph_bit (rows_of space) g k ≡ false
+space_bit : (g k : ℕ) → glyph_bit (glyph_lines space) g k ≡ false
 space_bit g k =
     ap (λ rows. glyph_bit rows g k) space_rows ∙ ap (λ row. row_bit row k) (white_rows g)
     ∙ none_two (nat_lt k 5) (bit 0 (5 - 1 - k)) (ap (λ n. n == 1) (bit_at-zero (5 - 1 - k)))
@@ -133,10 +133,10 @@ space_bit g k =
 -- a pixel past the text's end is white
 pub past_text : (text : List ℕ) (v u : ℕ) → length text ≤ u / 18 → text_pixel text v u ≡ false
 past_text text v u past =
-    ap (λ c. glyph_bit (rows_of c) (v / 3) (u % 18 / 3)) (get_or_past text (u / 18) space past) ∙ space_bit (v / 3) (u % 18 / 3)
+    ap (λ c. glyph_bit (glyph_lines c) (v / 3) (u % 18 / 3)) (get_or_past text (u / 18) space past) ∙ space_bit (v / 3) (u % 18 / 3)
 
 -- nor has a character without a glyph any
-pub no_rows_pixel : (text : List ℕ) (v u : ℕ) → rows_of (slice_index_or text (u / 18) space) ≡ [] → text_pixel text v u ≡ false
+pub no_rows_pixel : (text : List ℕ) (v u : ℕ) → glyph_lines (slice_index_or text (u / 18) space) ≡ [] → text_pixel text v u ≡ false
 no_rows_pixel text v u none =
     ap (λ rows. glyph_bit rows (v / 3) (u % 18 / 3)) none
     ∙ none_two (nat_lt (u % 18 / 3) 5) (bit 0 (5 - 1 - u % 18 / 3)) (ap (λ n. n == 1) (bit_at-zero (5 - 1 - u % 18 / 3)))
@@ -159,7 +159,7 @@ text_within text top left hidden r c is =
 -- a text has 21 rows
 pub drawn_above : (text : List ℕ) (top left hidden r c : ℕ) → top + 21 ≤ r → is_drawn text top left hidden r c ≡ false
 drawn_above text top left hidden r c past =
-    let rows = rows_of (slice_index_or text ((c + hidden - left) / 18) space) in
+    let rows = glyph_lines (slice_index_or text ((c + hidden - left) / 18) space) in
     let k = (c + hidden - left) % 18 / 3 in
     let below : 7 ≤ (r - top) / 3 = omega arith in
     none_three (nat_le top r) (nat_le left (c + hidden)) (glyph_bit rows ((r - top) / 3) k)

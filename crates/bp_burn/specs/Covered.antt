@@ -7,10 +7,10 @@ use Rattle.bp_core.specs.declared.rectangle.Rect.{Rect}
 use Rattle.bp_core.specs.declared.stamps.Ink.{Ink}
 use Rattle.bp_core.specs.declared.stamps.Ink.TheVariants.{Black, Lettered}
 use Rattle.bp_core.specs.declared.stamps.Stamp.{Stamp}
-use Rattle.bp_rows.specs.Burned.{covers}
+use Rattle.bp_rows.specs.Burned.{covers_pixel}
 use Rattle.bp_rows.specs.Image.{Image}
 use Rattle.bp_burn.specs.Drawn.{is_drawn}
-use Rattle.bp_burn.specs.Ink.{changed}
+use Rattle.bp_burn.specs.Ink.{page_changed}
 use Rattle.bp_burn.specs.declared.letters.TheConstants.{LETTERED_WIDTH, LETTERED_HEIGHT, LETTERS_IN}
 
 -- ---- one stamp: a box with its ground
@@ -43,7 +43,7 @@ last_with (s ∷ stamps) r c = elim (last_with stamps r c) [
 -- whose rectangle has it decides, and it is white where that stamp is lettered and its letters have
 -- it, and black otherwise.
 abbrev pub covered_pixel : Ink → List Stamp → ℕ → ℕ → Bool → Bool
-covered_pixel Black stamps r c was = covers (rects_of stamps) r c || was
+covered_pixel Black stamps r c was = covers_pixel (rects_of stamps) r c || was
 covered_pixel Lettered stamps r c was = elim (last_with stamps r c) [
   | None ↦ was
   | Some s ↦ not (is_lettered s && has_letter s r c)
@@ -51,7 +51,7 @@ covered_pixel Lettered stamps r c was = elim (last_with stamps r c) [
 
 -- Covered: the page of the same sides, resolutions and unit, its pixels covered
 abbrev pub covered : Ink → Image → List Stamp → Image
-covered ink p stamps = changed p (covered_pixel ink stamps)
+covered ink p stamps = page_changed p (covered_pixel ink stamps)
 
 -- ---- the steps of covering
 

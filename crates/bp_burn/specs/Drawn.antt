@@ -24,13 +24,13 @@ abbrev pub glyph_bit : List ℕ → ℕ → ℕ → Bool
 glyph_bit rows g k = row_bit (slice_index_or rows g 0) k
 
 -- the rows of a character's glyph; a character without one has none
-abbrev pub rows_of : ℕ → List ℕ
-rows_of c = unwrap_or (rows_at glyph_rows c) []
+abbrev pub glyph_lines : ℕ → List ℕ
+glyph_lines c = unwrap_or (rows_at glyph_rows c) []
 
 -- the pixel in a row and a column of a text, counted from its upper left corner
 abbrev pub text_pixel : List ℕ → ℕ → ℕ → Bool
 text_pixel text v u =
-    glyph_bit (rows_of (slice_index_or text (u / PITCH) space)) (v / SCALE) (u % PITCH / SCALE)
+    glyph_bit (glyph_lines (slice_index_or text (u / PITCH) space)) (v / SCALE) (u % PITCH / SCALE)
 
 -- the pixel of a page that a text blackens, whose upper left corner is in the row top and the
 -- column left - hidden, which may lie left of the page

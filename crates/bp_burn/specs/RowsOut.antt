@@ -7,7 +7,7 @@ use Rattle.bp_codes.specs.Bits.{bits_of}
 use Rattle.bp_rows.specs.Changes.{Shows}
 use Rattle.bp_rows.specs.Image.{Image, IsPage, row_of}
 use Rattle.bp_t6.specs.SoFar.{ReadSoFar, ReadsPage, row_above}
-use Rattle.bp_t6.specs.Written.{row_code, strip_of}
+use Rattle.bp_t6.specs.Written.{row_code, bits_strip}
 use Rattle.bp_burn.specs.Covered.{covered}
 use Rattle.bp_burn.specs.Strips.{touches_above, touches_row}
 use Rattle.bp_burn.specs.declared.covered_rows.CoveredRow.{CoveredRow}
@@ -28,14 +28,14 @@ pub record HasBits (width height : ℕ) (bits : List Bool) (p : Image) : Type 0 
   pub page : IsPage p
   pub wide : p.width ≡ width
   pub high : p.height ≡ height
-  pub codes : bits ≡ bits_of High (strip_of p)
+  pub codes : bits ≡ bits_of High (bits_strip p)
 
 -- rows of the page
 abbrev pub AreOf : RowsOut → Image → Type 0
 AreOf rows p = HasBits rows.width rows.height rows.bits p
 
 -- rows of some page
-pub record HasPage (rows : RowsOut) : Type 0 where
+pub record OfSomePage (rows : RowsOut) : Type 0 where
   pub page : Image
   pub are : AreOf rows page
 

@@ -5,7 +5,7 @@ use Rattle.bp_core.specs.declared.rectangle.Rect.{Rect}
 use Rattle.bp_core.specs.declared.review.Basis.{Basis}
 use Rattle.bp_core.specs.declared.stamps.Stamp.{Stamp}
 use Rattle.bp_rows.specs.Image.{Image, IsPage, grid_of}
-use Rattle.bp_t6.specs.Written.{strip_of, white_line}
+use Rattle.bp_t6.specs.Written.{bits_strip, white_line}
 use Rattle.bp_burn.specs.Band.{band_texts, slip_text}
 use Rattle.bp_burn.specs.Drawn.{is_drawn}
 use Rattle.bp_burn.specs.declared.band.TheConstants.{BAND_ROWS}
@@ -17,7 +17,7 @@ pub record HasStrip (width height : ℕ) (strip : List ℕ) (p : Image) : Type 0
   pub page : IsPage p
   pub wide : p.width ≡ width
   pub high : p.height ≡ height
-  pub codes : strip ≡ strip_of p
+  pub codes : strip ≡ bits_strip p
 
 -- the strip of some page of these sides
 pub record IsPageStrip (width height : ℕ) (strip : List ℕ) : Type 0 where

@@ -1,7 +1,7 @@
 // Boxes burned into pages.
 ghost use Rattle.std.specs.Prelude.{◌≡◌, ◌+◌, ◌<◌, ◌≤◌, ◌&&◌, ℕ, ◌∷◌, [], IfOk, IsTrue, nat_le, nat_lt};
 ghost use Rattle.bp_core.specs.Rectangle.{LiesInside, has_pixel};
-ghost use Rattle.bp_rows.specs.Burned.{burned, covers};
+ghost use Rattle.bp_rows.specs.Burned.{burned, covers_pixel};
 ghost use Rattle.bp_rows.specs.Limits.{sides_are_allowed};
 ghost use Rattle.bp_burn.specs.Ink.{above, in_row, inked, with_white_rows};
 

@@ -1,7 +1,7 @@
 // The strip of the sheet that stands for a withheld document, made a row at a time.
 ghost use Rattle.std.specs.Prelude.{◌≡◌, ◌++◌, ◌<◌, ◌≤◌, Bool, List, IfOk, IsTrue, OnOk};
 ghost use Rattle.bp_t6.specs.SoFar.{HasAdded};
-ghost use Rattle.bp_t6.specs.Written.{strip_of};
+ghost use Rattle.bp_t6.specs.Written.{bits_strip};
 ghost use Rattle.bp_burn.specs.Band.{slip_of};
 ghost use Rattle.bp_burn.specs.Drawn.{has_glyphs};
 ghost use Rattle.bp_burn.specs.Strips.{slip_text_rows, white_rows};
@@ -25,7 +25,7 @@ pub fn slip_strip(
 ) -> Result<Bytes, OutOfMemory>
     requires label { IsTrue (has_glyphs label.now) }
     requires designation { IsTrue (has_glyphs designation.now) }
-    ensures { IfOk result (λ strip. strip ≡ strip_of (slip_of basis label.now designation.now)) }
+    ensures { IfOk result (λ strip. strip ≡ bits_strip (slip_of basis label.now designation.now)) }
 {
     let mut writer = StripWriter::start(alloc, SLIP_WIDTH)?;
     add_white_rows(&mut writer, SLIP_TOP)?;

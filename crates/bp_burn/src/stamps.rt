@@ -4,7 +4,7 @@ ghost use Rattle.bp_core.specs.Rectangle.{LiesInside, has_pixel};
 ghost use Rattle.bp_rows.specs.Image.{Image, row_of};
 ghost use Rattle.bp_rows.specs.Runs.{IsRuns, painted_runs};
 ghost use Rattle.bp_burn.specs.Covered.{covered, covered_rows};
-ghost use Rattle.bp_burn.specs.Ink.{changed};
+ghost use Rattle.bp_burn.specs.Ink.{page_changed};
 
 use crate::letters::{erase_letters, shows_letters};
 use crate::paper::white_page;
@@ -67,7 +67,7 @@ fn width_of(runs: &Runs) -> u32
 /// of the stamps.
 pub fn cover_rows(page: &mut Page, rows: u32, first: u32, ink: Ink, stamps: &[Stamp])
     requires { rows ≤ page.old.height }
-    ensures { page.new ≡ changed page.old (covered_rows rows first ink stamps.now) }
+    ensures { page.new ≡ page_changed page.old (covered_rows rows first ink stamps.now) }
 {
     let width = page.width();
     for stamp in stamps {

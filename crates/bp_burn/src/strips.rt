@@ -3,11 +3,11 @@ ghost use Rattle.std.specs.Prelude.{◌≡◌, ◌++◌, ◌∷◌, ◌<◌, ◌
 ghost use Rattle.bp_rows.specs.Image.{Image};
 ghost use Rattle.bp_rows.specs.Limits.{sides_are_imported};
 ghost use Rattle.bp_t6.specs.SoFar.{HasAdded, last_line};
-ghost use Rattle.bp_t6.specs.Written.{strip_of, white_line};
+ghost use Rattle.bp_t6.specs.Written.{bits_strip, white_line};
 ghost use Rattle.bp_burn.specs.Band.{produced_of};
 ghost use Rattle.bp_burn.specs.Covered.{covered};
 ghost use Rattle.bp_burn.specs.Drawn.{has_glyphs};
-ghost use Rattle.bp_burn.specs.RowsOut.{AreOf, HasPage, IsLine};
+ghost use Rattle.bp_burn.specs.RowsOut.{AreOf, OfSomePage, IsLine};
 ghost use Rattle.bp_burn.specs.Strips.{HasStrip, IsPageStrip, band_rows};
 
 use crate::band::{BAND_ROWS, draw_band};
@@ -38,7 +38,7 @@ pub fn produced_strip(
     requires designation { IsTrue (has_glyphs designation.now) }
     ensures { (p : Image) → HasStrip width height strip.now p
         → IfOk result (λ out.
-        out ≡ strip_of (produced_of ink p stamps.now label.now designation.now)) }
+        out ≡ bits_strip (produced_of ink p stamps.now label.now designation.now)) }
 {
     let room = OutRoom::take(alloc, width)?;
     let rows = CoveredRows::over(room, ink, strip, height, stamps);
@@ -55,13 +55,13 @@ pub fn strip_of_rows(
     designation: &Text,
 ) -> Result<Bytes, OutOfMemory>
     requires sides { IsTrue (sides_are_imported rows.width rows.height) }
-    requires page { HasPage rows }
+    requires page { OfSomePage rows }
     requires none { rows.row ≡ 0 }
     requires label { IsTrue (has_glyphs label.now) }
     requires designation { IsTrue (has_glyphs designation.now) }
     ensures { (p : Image) → AreOf rows.entry p
         → IfOk result (λ out.
-        out ≡ strip_of
+        out ≡ bits_strip
         (produced_of rows.entry.ink p rows.entry.stamps label.now designation.now)) }
 {
     let width = rows.width();
@@ -73,7 +73,7 @@ pub fn strip_of_rows(
 // The strip under way of the page covered. What adds a row sees it covered.
 fn covered_strip(alloc: Global, lent: CoveredRows<'_>) -> Result<StripWriter, OutOfMemory>
     requires sides { IsTrue (sides_are_imported lent.width lent.height) }
-    requires page { HasPage lent }
+    requires page { OfSomePage lent }
     requires none { lent.row ≡ 0 }
     ensures width { IfOk result (λ writer. writer.width ≡ lent.entry.width) }
     ensures added { (p : Image) → AreOf lent.entry p

@@ -10,26 +10,26 @@ use Rattle.bp_core.specs.declared.refusals.Refusal.{Refusal}
 use Rattle.bp_core.specs.declared.refusals.Refusal.TheVariants as calls
 use Rattle.bp_core.specs.declared.rules.Rule.{Rule}
 use Rattle.bp_core.specs.declared.rules.RuleKind.TheVariants.{DatShape, ManifestShape, OptShape}
-use Rattle.bp_load.specs.Dat.{after_header, dat_of, row_of, values_of, with_rows, table_of}
+use Rattle.bp_load.specs.Dat.{after_header, dat_of, row_of_values, values_of_line, table_with_rows, table_of}
 use Rattle.bp_load.specs.Lines.{filled_lines, without_mark}
 use Rattle.bp_load.specs.Opt.{opt_line_of, opt_of}
 use Rattle.bp_load.specs.declared.opt.OptLine.{OptLine}
 use Rattle.bp_outside.specs.Source.{SourceView}
-use Rattle.bp_check.specs.Breaks.{breaks_from, breaks_of, fits}
+use Rattle.bp_check.specs.Breaks.{breaks_from, breaks_hold, fits}
 use Rattle.bp_check.specs.Check.{agrees}
-use Rattle.bp_check.specs.Checking.{after_kind, after_step}
+use Rattle.bp_check.specs.Checking.{after_rule, after_check_step}
 use Rattle.bp_check.specs.Counts.{counts_from, is_counted}
 use Rattle.bp_check.specs.Labels.{Label, gap_rule, is_next, label_at, labels_from, labels_of}
 use Rattle.bp_check.specs.Listing.{listed_all, lists}
-use Rattle.bp_check.specs.Manifest.{Listed, between_newlines, listed_from, listed_in, manifest_of}
-use Rattle.bp_check.specs.Refusals.{BecomesRefusal}
-use Rattle.bp_check.specs.Steps.{demand}
+use Rattle.bp_check.specs.Manifest.{Listed, between_newlines, listed_from, listed_in, listed_files}
+use Rattle.bp_check.specs.Refusals.{BecomesCheckRefusal}
+use Rattle.bp_check.specs.Steps.{must_pass}
 use Rattle.bp_check.specs.declared.records.Record.{Record}
 use Rattle.bp_check.specs.declared.refusals.ImportRefusal.{ImportRefusal}
 use Rattle.bp_load.specs.Documents.{docs_after}
 
 abbrev pub Calm : Rule → Type 0
-Calm rule = (source : SourceView) → after_kind source rule.kind ≡ source
+Calm rule = (source : SourceView) → after_rule source rule.kind ≡ source
 
 -- whatever rule it is, it comes from no read
 abbrev pub AllCalm : {V : Type 0} → Result V Rule → Type 0
@@ -45,7 +45,7 @@ calm_cond : {V : Type 0} (b : Bool) (r s : Result V Rule) → AllCalm r → AllC
 calm_cond true r s one other = one
 calm_cond false r s one other = other
 
-calm_demand : (passes : Bool) (rule : Rule) → Calm rule → AllCalm (demand passes rule)
+calm_demand : (passes : Bool) (rule : Rule) → Calm rule → AllCalm (must_pass passes rule)
 calm_demand true rule calm = calm_ok tt
 calm_demand false rule calm = calm_err rule calm
 
@@ -71,17 +71,17 @@ calm_each read rule calm n (piece ∷ pieces) = calm_first (read piece) (rule n)
 
 -- ---- each step
 
-calm_rows : (columns : List (List ℕ)) (r : Result (List (List (List ℕ))) Rule) → AllCalm r → AllCalm (with_rows columns r)
+calm_rows : (columns : List (List ℕ)) (r : Result (List (List (List ℕ))) Rule) → AllCalm r → AllCalm (table_with_rows columns r)
 calm_rows columns (Ok rows) calm = calm_ok _
 calm_rows columns (Err rule) calm = calm_err rule (calm rule refl)
 
 calm_header : (o : Option (List (List ℕ))) (records : List (List ℕ)) → AllCalm (after_header o records)
 calm_header None records = calm_err _ (λ source. refl)
-calm_header (Some columns) records = calm_rows columns _ (calm_each (row_of _) (rule_at_line DatShape) (λ n source. refl) 2 records)
+calm_header (Some columns) records = calm_rows columns _ (calm_each (row_of_values _) (rule_at_line DatShape) (λ n source. refl) 2 records)
 
 calm_table : (lines : List (List ℕ)) → AllCalm (table_of lines)
 calm_table [] = calm_err _ (λ source. refl)
-calm_table (header ∷ records) = calm_header (values_of header) records
+calm_table (header ∷ records) = calm_header (values_of_line header) records
 
 pub dat_calm : (bytes : List ℕ) → AllCalm (dat_of bytes)
 dat_calm bytes = calm_cond _ _ _ (calm_table (filled_lines (without_mark bytes))) (calm_err _ (λ source. refl))
@@ -94,13 +94,13 @@ calm_listed n [] = calm_ok []
 calm_listed n (line ∷ []) = calm_cond (length line == 0) _ _ (calm_ok []) (calm_err _ (λ source. refl))
 calm_listed n (line ∷ next ∷ lines) = calm_first (listed_in line) (rule_at_line ManifestShape n) (listed_from (n + 1) (next ∷ lines)) (λ source. refl) (calm_listed (n + 1) (next ∷ lines))
 
-pub manifest_calm : (bytes : List ℕ) → AllCalm (manifest_of bytes)
+pub manifest_calm : (bytes : List ℕ) → AllCalm (listed_files bytes)
 manifest_calm bytes = calm_listed 1 (between_newlines bytes)
 
 calm_label : (n : ℕ) (before : Option Label) (line : OptLine) → AllCalm (label_at n before line)
 calm_label n before line =
     calm_next (ok_or _ _) _ (calm_ok_or _ _ (λ source. refl))
-    (λ label. calm_next (demand (is_next before label) (gap_rule n before label)) _ (calm_demand _ _ (λ source. refl)) (λ _. calm_ok label))
+    (λ label. calm_next (must_pass (is_next before label) (gap_rule n before label)) _ (calm_demand _ _ (λ source. refl)) (λ _. calm_ok label))
 
 calm_labels : (n : ℕ) (before : Option Label) (lines : List OptLine) → AllCalm (labels_from n before lines)
 calm_labels n before [] = calm_ok tt
@@ -117,7 +117,7 @@ calm_counts n docs (line ∷ lines) = calm_cond (is_counted docs line lines) _ _
 pub agrees_calm : (docs : List Record) (lines : List OptLine) → AllCalm (agrees docs lines)
 agrees_calm docs lines =
     calm_next (labels_of lines) _ (calm_labels 1 None lines)
-    (λ _. calm_next (breaks_of docs lines) _ (calm_breaks 1 docs lines) (λ _. calm_counts 1 docs lines))
+    (λ _. calm_next (breaks_hold docs lines) _ (calm_breaks 1 docs lines) (λ _. calm_counts 1 docs lines))
 
 pub listed_calm : (listed : List Listed) (place : ℕ) (paths : List (List ℕ)) → AllCalm (listed_all listed place paths)
 listed_calm listed place [] = calm_ok tt
@@ -127,15 +127,15 @@ listed_calm listed place (path ∷ paths) = calm_cond (lists listed path) _ _ (l
 
 -- the source stays where a step that reads nothing is refused
 after_bad : {Y V : Type 0} (view : Y → V) (refusal : Refusal) (given : ImportRefusal) (answer : Result V Rule) (source : SourceView)
-    → AllCalm answer → BecomesRefusal refusal given → Answers view (Err refusal) answer
-    → (X : Type 0) → source ≡ after_step {X = X} source (Err given)
+    → AllCalm answer → BecomesCheckRefusal refusal given → Answers view (Err refusal) answer
+    → (X : Type 0) → source ≡ after_check_step {X = X} source (Err given)
 after_bad view (calls.Rule rule) given answer source calm is said X =
-    sym (ap (λ g. after_step {X = X} source (Err g)) is ∙ calm rule said source)
+    sym (ap (λ g. after_check_step {X = X} source (Err g)) is ∙ calm rule said source)
 after_bad view calls.OutOfMemory given answer source calm is said X =
-    sym (ap (λ g. after_step {X = X} source (Err g)) is)
+    sym (ap (λ g. after_check_step {X = X} source (Err g)) is)
 
 pub bad_after : {X Y V : Type 0} (view : Y → V) (r : Result X ImportRefusal) (refusal : Refusal) (answer : Result V Rule) (source : SourceView)
-    → AllCalm answer → IsErrAnd r (BecomesRefusal refusal) → Answers view (Err refusal) answer
-    → source ≡ after_step source r
+    → AllCalm answer → IsErrAnd r (BecomesCheckRefusal refusal) → Answers view (Err refusal) answer
+    → source ≡ after_check_step source r
 bad_after {X} view (Ok x) refusal answer source calm is said = absurd is
 bad_after {X} view (Err given) refusal answer source calm is said = after_bad view refusal given answer source calm is said X

@@ -13,15 +13,15 @@ use Rattle.bp_outside.specs.Source.{SourceView}
 use Rattle.bp_outside.specs.declared.files.FileRow.{FileRow}
 use Rattle.bp_rows.specs.Image.{Image}
 use Rattle.bp_rows.specs.declared.resolution.Unit.TheVariants as units
-use Rattle.bp_check.specs.Breaks.{breaks_of}
+use Rattle.bp_check.specs.Breaks.{breaks_hold}
 use Rattle.bp_check.specs.Check.{Operands, check_by}
-use Rattle.bp_check.specs.Checking.{after_step}
+use Rattle.bp_check.specs.Checking.{after_check_step}
 use Rattle.bp_check.specs.Counts.{counts_of, says_number}
-use Rattle.bp_check.specs.Files.{file_read, file_rule}
+use Rattle.bp_check.specs.Files.{checked_file, file_rule}
 use Rattle.bp_check.specs.Images.{Judging, Reading}
 use Rattle.bp_core.specs.declared.rules.RuleKind.TheVariants.{CheckBreaks, CheckColumns, CheckCount, CheckGap, CheckLabel, DigestDiffers, ManifestShape, NotListed}
 use Rattle.bp_check.specs.Labels.{end_digits, label_of, labels_of}
-use Rattle.bp_check.specs.Manifest.{listed_in, manifest_of}
+use Rattle.bp_check.specs.Manifest.{listed_in, listed_files}
 use Rattle.bp_check.specs.declared.checked.Checked.{Checked}
 use Rattle.bp_check.specs.declared.files.TheConstants.{DAT, FILE_LIMIT, IMAGE, LISTED, MANIFEST, OPT, TEXT}
 use Rattle.bp_check.specs.declared.labels.TheConstants.{MOST_LABEL_DIGITS}
@@ -123,25 +123,25 @@ three_lines = line (codes "A1") true (codes "2") ∷ line (codes "A2") false [] 
 abbrev two_docs : List Record
 two_docs = doc (codes "A1") (codes "A2") (codes "2") ∷ doc (codes "A3") (codes "A3") [] ∷ []
 
-breaks_fit : breaks_of two_docs three_lines ≡ Ok tt
+breaks_fit : breaks_hold two_docs three_lines ≡ Ok tt
 breaks_fit = refl
 
-nothing : breaks_of [] [] ≡ Ok tt
+nothing : breaks_hold [] [] ≡ Ok tt
 nothing = refl
 
-ends_early : breaks_of (doc (codes "A1") (codes "A1") [] ∷ doc (codes "A3") (codes "A3") [] ∷ []) three_lines ≡ Err (rule_at_line CheckBreaks 1)
+ends_early : breaks_hold (doc (codes "A1") (codes "A1") [] ∷ doc (codes "A3") (codes "A3") [] ∷ []) three_lines ≡ Err (rule_at_line CheckBreaks 1)
 ends_early = refl
 
-begins_elsewhere : breaks_of (doc (codes "A1") (codes "A2") [] ∷ doc (codes "A4") (codes "A3") [] ∷ []) three_lines ≡ Err (rule_at_line CheckBreaks 3)
+begins_elsewhere : breaks_hold (doc (codes "A1") (codes "A2") [] ∷ doc (codes "A4") (codes "A3") [] ∷ []) three_lines ≡ Err (rule_at_line CheckBreaks 3)
 begins_elsewhere = refl
 
-no_record : breaks_of (doc (codes "A1") (codes "A2") [] ∷ []) three_lines ≡ Err (rule_at_line CheckBreaks 3)
+no_record : breaks_hold (doc (codes "A1") (codes "A2") [] ∷ []) three_lines ≡ Err (rule_at_line CheckBreaks 3)
 no_record = refl
 
-record_left : breaks_of (two_docs ++ doc (codes "A4") (codes "A4") [] ∷ []) three_lines ≡ Err (rule_at_line CheckBreaks 4)
+record_left : breaks_hold (two_docs ++ doc (codes "A4") (codes "A4") [] ∷ []) three_lines ≡ Err (rule_at_line CheckBreaks 4)
 record_left = refl
 
-no_break : breaks_of two_docs (line (codes "A1") false [] ∷ []) ≡ Err (rule_at_line CheckBreaks 1)
+no_break : breaks_hold two_docs (line (codes "A1") false [] ∷ []) ≡ Err (rule_at_line CheckBreaks 1)
 no_break = refl
 
 counts_right : counts_of two_docs three_lines ≡ Ok tt
@@ -240,7 +240,7 @@ find_in [] path = None
 find_in (file ∷ files) path = if bytes_eq file.path path then Some file.bytes else find_in files path
 
 abbrev reading : List FileRow → Reading
-reading files which line path = file_read which line (find_in files path)
+reading files which line path = checked_file which line (find_in files path)
 
 abbrev all_three : Operands
 all_three = record { dat = codes "V1/DATA/V1.DAT"; opt = codes "V1/DATA/V1.OPT"; manifest = Some (codes "V1/MANIFEST.TXT") }
@@ -315,19 +315,19 @@ empty_volume = refl
 abbrev sixty_four : List ℕ
 sixty_four = replicate 64 97
 
-one_listed : manifest_of (sixty_four ++ codes "  V\\a\n") ≡ Ok (record { digest = sixty_four; path = codes "V/a" } ∷ [])
+one_listed : listed_files (sixty_four ++ codes "  V\\a\n") ≡ Ok (record { digest = sixty_four; path = codes "V/a" } ∷ [])
 unfolding chars is_utf8 encode digits
 one_listed = refl
 
-empty_manifest : manifest_of [] ≡ Ok []
+empty_manifest : listed_files [] ≡ Ok []
 empty_manifest = refl
 
-no_end : manifest_of (sixty_four ++ codes "  a") ≡ Err (rule_at_line ManifestShape 1)
+no_end : listed_files (sixty_four ++ codes "  a") ≡ Err (rule_at_line ManifestShape 1)
 unfolding chars is_utf8 encode digits
 no_end = refl
 
 -- no line may be empty
-empty_line : manifest_of (sixty_four ++ codes "  a\n\n") ≡ Err (rule_at_line ManifestShape 2)
+empty_line : listed_files (sixty_four ++ codes "  a\n\n") ≡ Err (rule_at_line ManifestShape 2)
 unfolding chars is_utf8 encode digits
 empty_line = refl
 
@@ -349,13 +349,13 @@ abbrev quiet : SourceView
 quiet = record { files = None; faults = 0; absences = 0; overlong = 0; sure = false }
 
 -- where the digest of line 2 differs no count rose
-digest_differs : after_step {X = Checked} quiet (Err (refusals.Rule (rule_at_line DigestDiffers 2))) ≡ quiet
+digest_differs : after_check_step {X = Checked} quiet (Err (refusals.Rule (rule_at_line DigestDiffers 2))) ≡ quiet
 digest_differs = refl
 
 -- where the file of line 4 is absent that count alone rose
-file_is_absent : after_step {X = Checked} quiet (Err (refusals.Rule (file_rule kinds.FileAbsent LISTED 4))) ≡ record quiet { absences = 1 }
+file_is_absent : after_check_step {X = Checked} quiet (Err (refusals.Rule (file_rule kinds.FileAbsent LISTED 4))) ≡ record quiet { absences = 1 }
 file_is_absent = refl
 
 -- a source that failed has that count risen, and no other
-failed_alone : after_step {X = Checked} quiet (Err refusals.SourceFault) ≡ record quiet { faults = 1 }
+failed_alone : after_check_step {X = Checked} quiet (Err refusals.SourceFault) ≡ record quiet { faults = 1 }
 failed_alone = refl

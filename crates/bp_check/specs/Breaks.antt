@@ -6,7 +6,7 @@ use Rattle.bp_core.specs.declared.rules.Rule.{Rule}
 use Rattle.bp_load.specs.Documents.{docs_after}
 use Rattle.bp_load.specs.declared.opt.OptLine.{OptLine}
 use Rattle.bp_core.specs.declared.rules.RuleKind.TheVariants.{CheckBreaks}
-use Rattle.bp_check.specs.Steps.{demand}
+use Rattle.bp_check.specs.Steps.{must_pass}
 use Rattle.bp_check.specs.declared.records.Record.{Record}
 
 -- the last image id of the document that goes on behind a line
@@ -29,12 +29,12 @@ fits n docs line lines = if line.doc_break then has_record docs line lines else 
 -- lines and records go together from line n on; or the first line that doesn't fit, which is the
 -- one past the last where records are left
 abbrev pub breaks_from : ℕ → List Record → List OptLine → Result (Unit {0}) Rule
-breaks_from n docs [] = demand (length docs == 0) (rule_at_line CheckBreaks n)
+breaks_from n docs [] = must_pass (length docs == 0) (rule_at_line CheckBreaks n)
 breaks_from n docs (line ∷ lines) =
     if fits n docs line lines
     then breaks_from (n + 1) (docs_after docs line) lines
     else Err (rule_at_line CheckBreaks n)
 
 -- the documents of the lines are the records, from line 1 on
-abbrev pub breaks_of : List Record → List OptLine → Result (Unit {0}) Rule
-breaks_of docs lines = breaks_from 1 docs lines
+abbrev pub breaks_hold : List Record → List OptLine → Result (Unit {0}) Rule
+breaks_hold docs lines = breaks_from 1 docs lines

@@ -12,16 +12,16 @@ use Rattle.bp_load.specs.Opt.{opt_of}
 use Rattle.bp_load.specs.Table.{Table}
 use Rattle.bp_load.specs.declared.opt.OptLine.{OptLine}
 use Rattle.bp_outside.specs.Source.{FileMap}
-use Rattle.bp_check.specs.Breaks.{breaks_of}
+use Rattle.bp_check.specs.Breaks.{breaks_hold}
 use Rattle.bp_check.specs.Columns.{are_columns}
 use Rattle.bp_check.specs.Counts.{counts_of}
-use Rattle.bp_check.specs.Files.{file_at}
-use Rattle.bp_check.specs.Images.{Judging, Reading, images_of, texts_of}
+use Rattle.bp_check.specs.Files.{file_there}
+use Rattle.bp_check.specs.Images.{Judging, Reading, images_of, texts_there}
 use Rattle.bp_check.specs.Labels.{labels_of}
 use Rattle.bp_check.specs.Listing.{digest_text, digests_by, listed_all}
-use Rattle.bp_check.specs.Manifest.{Listed, manifest_of}
+use Rattle.bp_check.specs.Manifest.{Listed, listed_files}
 use Rattle.bp_check.specs.Records.{records_of}
-use Rattle.bp_check.specs.Steps.{demand}
+use Rattle.bp_check.specs.Steps.{must_pass}
 use Rattle.bp_check.specs.declared.checked.Checked.{Checked}
 use Rattle.bp_check.specs.declared.files.TheConstants.{DAT, MANIFEST, OPT}
 use Rattle.bp_check.specs.declared.paths.Paths.{Paths}
@@ -67,7 +67,7 @@ lines_at read path = do
 abbrev pub manifest_at : Reading → List ℕ → Result (List Listed) Rule
 manifest_at read path = do
   bytes ← read MANIFEST 0 path
-  manifest_of bytes
+  listed_files bytes
 
 -- the manifest is read where one is asked for
 abbrev pub listing_at : Reading → Option (List ℕ) → Result (Option (List Listed)) Rule
@@ -75,7 +75,7 @@ listing_at read None = Ok None
 listing_at read (Some path) = manifest_at read path >>= (λ listed. Ok (Some listed))
 
 -- what the load files and the manifest of a volume say
-pub record Plan : Type 0 where
+pub record CheckPlan : Type 0 where
   -- the paths of DAT and OPT
   pub paths : List (List ℕ)
   pub docs : List Record
@@ -83,9 +83,9 @@ pub record Plan : Type 0 where
   pub listed : Option (List Listed)
 
 -- the DAT has the columns of a check
-abbrev pub plan_with : Paths → Table → List OptLine → Option (List Listed) → Result Plan Rule
+abbrev pub plan_with : Paths → Table → List OptLine → Option (List Listed) → Result CheckPlan Rule
 plan_with paths table lines listed = do
-  _ ← demand (are_columns table.columns) (bare_rule CheckColumns)
+  _ ← must_pass (are_columns table.columns) (bare_rule CheckColumns)
   Ok (record {
     paths = paths.dat ∷ paths.opt ∷ [];
     docs = records_of table;
@@ -94,7 +94,7 @@ plan_with paths table lines listed = do
   })
 
 -- the load files and the manifest are read
-abbrev pub plan_at : Reading → Paths → Result Plan Rule
+abbrev pub plan_at : Reading → Paths → Result CheckPlan Rule
 plan_at read paths = do
   table ← table_at read paths.dat
   lines ← lines_at read paths.opt
@@ -102,8 +102,8 @@ plan_at read paths = do
   plan_with paths table lines listed
 
 -- the first steps, up to the columns
-abbrev pub plan_by : Reading → Operands → Result Plan Rule
-plan_by read operands = do
+abbrev pub check_plan_by : Reading → Operands → Result CheckPlan Rule
+check_plan_by read operands = do
   paths ← paths_of operands
   plan_at read paths
 
@@ -111,7 +111,7 @@ plan_by read operands = do
 abbrev pub agrees : List Record → List OptLine → Result (Unit {0}) Rule
 agrees docs lines = do
   _ ← labels_of lines
-  _ ← breaks_of docs lines
+  _ ← breaks_hold docs lines
   counts_of docs lines
 
 -- all paths are listed, and each listed file has its digest; how many are listed
@@ -124,14 +124,14 @@ listing_by digest read (Some listed) paths = do
   Ok (length listed)
 
 -- the files that are named are there and whole: each line's image, each record's text, the listing
-abbrev pub files_by : (List ℕ → List ℕ) → Reading → Judging → Plan → Result ℕ Rule
+abbrev pub files_by : (List ℕ → List ℕ) → Reading → Judging → CheckPlan → Result ℕ Rule
 files_by digest read tiff plan = do
   images ← images_of read tiff plan.lines
-  texts ← texts_of read plan.docs
+  texts ← texts_there read plan.docs
   listing_by digest read plan.listed (plan.paths ++ images ++ texts)
 
 -- the three numbers of a volume whose load files are read
-abbrev pub checked_by : (List ℕ → List ℕ) → Reading → Judging → Plan → Result Checked Rule
+abbrev pub checked_by : (List ℕ → List ℕ) → Reading → Judging → CheckPlan → Result Checked Rule
 checked_by digest read tiff plan = do
   _ ← agrees plan.docs plan.lines
   files ← files_by digest read tiff plan
@@ -141,9 +141,9 @@ checked_by digest read tiff plan = do
 -- the digest of a file is
 abbrev pub check_by : (List ℕ → List ℕ) → Reading → Judging → Operands → Result Checked Rule
 check_by digest read tiff operands = do
-  plan ← plan_by read operands
+  plan ← check_plan_by read operands
   checked_by digest read tiff plan
 
 -- CheckOf: the check of these files
 abbrev pub check_of : FileMap → Judging → Operands → Result Checked Rule
-check_of files tiff operands = check_by digest_text (file_at files) tiff operands
+check_of files tiff operands = check_by digest_text (file_there files) tiff operands

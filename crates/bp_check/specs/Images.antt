@@ -26,29 +26,29 @@ abbrev pub IsTiff : Judging → Type 0
 IsTiff tiff = (bytes : List ℕ) → TiffAnswers bytes (tiff bytes)
 
 -- there is a value, or the same rule at line n
-abbrev pub at_line : {V : Type 0} → ℕ → Result V Rule → Result (Unit {0}) Rule
-at_line n (Ok value) = Ok tt
-at_line n (Err rule) = Err (rule_with_line rule n)
+abbrev pub ok_at_line : {V : Type 0} → ℕ → Result V Rule → Result (Unit {0}) Rule
+ok_at_line n (Ok value) = Ok tt
+ok_at_line n (Err rule) = Err (rule_with_line rule n)
 
 -- the path that a text names at line n
 abbrev pub path_at : ℕ → List ℕ → Result (List ℕ) Rule
 path_at n text = ok_or (path_in text) (rule_at_line PathRefused n)
 
 -- the image of line n is one page; its path
-abbrev pub image_at : Reading → Judging → ℕ → OptLine → Result (List ℕ) Rule
-image_at read tiff n line = do
+abbrev pub judged_image : Reading → Judging → ℕ → OptLine → Result (List ℕ) Rule
+judged_image read tiff n line = do
   path ← path_at n line.path
   bytes ← read IMAGE n path
-  _ ← at_line n (tiff bytes)
+  _ ← ok_at_line n (tiff bytes)
   Ok path
 
 -- the paths of all images
 abbrev pub images_of : Reading → Judging → List OptLine → Result (List (List ℕ)) Rule
-images_of read tiff lines = each (image_at read tiff) 1 lines
+images_of read tiff lines = each (judged_image read tiff) 1 lines
 
 -- the text of record n is there; its path
-abbrev pub text_at : Reading → ℕ → List ℕ → Result (List ℕ) Rule
-text_at read n text = do
+abbrev pub text_there : Reading → ℕ → List ℕ → Result (List ℕ) Rule
+text_there read n text = do
   path ← path_at n text
   _ ← read TEXT n path
   Ok path
@@ -59,8 +59,8 @@ texts_from read n [] = Ok []
 texts_from read n (doc ∷ docs) =
     if length doc.text == 0
     then texts_from read (n + 1) docs
-    else in_turn (text_at read n doc.text) (texts_from read (n + 1) docs)
+    else in_turn (text_there read n doc.text) (texts_from read (n + 1) docs)
 
 -- the paths of all texts
-abbrev pub texts_of : Reading → List Record → Result (List (List ℕ)) Rule
-texts_of read docs = texts_from read 1 docs
+abbrev pub texts_there : Reading → List Record → Result (List (List ℕ)) Rule
+texts_there read docs = texts_from read 1 docs

@@ -12,7 +12,7 @@ use Rattle.bp_core.specs.declared.rules.RuleKind.TheVariants.{CheckLabel}
 use Rattle.bp_check.specs.declared.labels.EndNumber.{EndNumber}
 use Rattle.bp_check.specs.declared.labels.TheConstants.{MOST_LABEL_DIGITS}
 use Rattle.bp_core.specs.RuleSteps.{◌>>=◌}
-use Rattle.bp_check.specs.Steps.{demand}
+use Rattle.bp_check.specs.Steps.{must_pass}
 
 -- what stands before the digits at the end of a label, how many digits there are, and their number
 pub record Label : Type 0 where
@@ -69,7 +69,7 @@ gap_rule n before label = check_gap_rule n (number_due before) label.number
 abbrev pub label_at : ℕ → Option Label → OptLine → Result Label Rule
 label_at n before line = do
   label ← ok_or (label_of (encode_utf8_all line.image)) (rule_at_line CheckLabel n)
-  _ ← demand (is_next before label) (gap_rule n before label)
+  _ ← must_pass (is_next before label) (gap_rule n before label)
   Ok label
 
 -- the labels of the lines from line n on follow one another; or the first line whose doesn't

@@ -10,7 +10,7 @@ use Rattle.bp_check.specs.Images.{Reading}
 use Rattle.bp_core.specs.declared.rules.RuleKind.TheVariants.{DigestDiffers}
 use Rattle.bp_check.specs.Manifest.{Listed}
 use Rattle.bp_core.specs.RuleSteps.{◌>>=◌}
-use Rattle.bp_check.specs.Steps.{demand}
+use Rattle.bp_check.specs.Steps.{must_pass}
 use Rattle.bp_check.specs.declared.files.TheConstants.{LISTED}
 
 -- a manifest lists a path
@@ -33,7 +33,7 @@ digest_text bytes = encode_lower (sha256 bytes)
 abbrev pub digest_at : (List ℕ → List ℕ) → Reading → ℕ → Listed → Result (Unit {0}) Rule
 digest_at digest read n row = do
   bytes ← read LISTED n row.path
-  demand (bytes_eq row.digest (digest bytes)) (rule_at_line DigestDiffers n)
+  must_pass (bytes_eq row.digest (digest bytes)) (rule_at_line DigestDiffers n)
 
 -- the files from line n on are there, each with its digest; or the first that isn't
 abbrev pub digests_by : (List ℕ → List ℕ) → Reading → ℕ → List Listed → Result (Unit {0}) Rule

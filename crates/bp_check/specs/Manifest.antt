@@ -54,5 +54,5 @@ listed_from n (line ∷ next ∷ lines) =
 
 -- the files that a manifest lists, or ManifestShape with its first line that isn't so. Each line
 -- ends in LF, and no other
-abbrev pub manifest_of : List ℕ → Result (List Listed) Rule
-manifest_of bytes = listed_from 1 (between_newlines bytes)
+abbrev pub listed_files : List ℕ → Result (List Listed) Rule
+listed_files bytes = listed_from 1 (between_newlines bytes)

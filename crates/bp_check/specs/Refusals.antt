@@ -11,16 +11,16 @@ use Rattle.bp_check.specs.declared.refusals.ImportRefusal.{ImportRefusal}
 use Rattle.bp_check.specs.declared.refusals.ImportRefusal.TheVariants as refusals
 
 -- a refusal of a call as one of a check
-abbrev pub BecomesRefusal : Refusal → ImportRefusal → Type 0
-BecomesRefusal (calls.Rule rule) refusal = refusal ≡ refusals.Rule rule
-BecomesRefusal calls.OutOfMemory refusal = refusal ≡ refusals.OutOfMemory
+abbrev pub BecomesCheckRefusal : Refusal → ImportRefusal → Type 0
+BecomesCheckRefusal (calls.Rule rule) refusal = refusal ≡ refusals.Rule rule
+BecomesCheckRefusal calls.OutOfMemory refusal = refusal ≡ refusals.OutOfMemory
 
 -- the refusal of a read of one of the files, at the line that names it
-abbrev pub read_refused : ℕ → ℕ → ReadRefusal → ImportRefusal
-read_refused which line reads.Absent = refusals.Rule (file_rule FileAbsent which line)
-read_refused which line reads.TooLong = refusals.Rule (file_rule FileTooLong which line)
-read_refused which line reads.Failed = refusals.SourceFault
-read_refused which line reads.OutOfMemory = refusals.OutOfMemory
+abbrev pub check_read_refused : ℕ → ℕ → ReadRefusal → ImportRefusal
+check_read_refused which line reads.Absent = refusals.Rule (file_rule FileAbsent which line)
+check_read_refused which line reads.TooLong = refusals.Rule (file_rule FileTooLong which line)
+check_read_refused which line reads.Failed = refusals.SourceFault
+check_read_refused which line reads.OutOfMemory = refusals.OutOfMemory
 
 -- a refusal of a call at a line
 abbrev pub refused_at : ℕ → Refusal → ImportRefusal

@@ -5,8 +5,8 @@ use Rattle.bp_core.specs.InTurn.{onto}
 use Rattle.bp_core.specs.RuleSteps.{◌>>=◌}
 
 -- a test passes, or a rule is broken
-abbrev pub demand : Bool → Rule → Result (Unit {0}) Rule
-demand passes rule = if passes then Ok tt else Err rule
+abbrev pub must_pass : Bool → Rule → Result (Unit {0}) Rule
+must_pass passes rule = if passes then Ok tt else Err rule
 
 -- the value of the first before those of the others; the first rule that is broken stops all
 abbrev pub in_turn : {V : Type 0} → Result V Rule → Result (List V) Rule → Result (List V) Rule

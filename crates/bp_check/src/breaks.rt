@@ -1,6 +1,6 @@
 // Where documents begin and end among the lines of an OPT file.
 ghost use Rattle.std.specs.Prelude.{◌≡◌, ◌<◌, ◌^◌, ◌+◌, length};
-ghost use Rattle.bp_check.specs.Breaks.{breaks_of, fits, has_record, last_image};
+ghost use Rattle.bp_check.specs.Breaks.{breaks_hold, fits, has_record, last_image};
 
 use crate::records::Record;
 use bp_core::{Rule, RuleKind, Text};
@@ -14,7 +14,7 @@ use bp_load::{OptLine, docs_after};
 /// A document's last line is looked for at its break alone, so each line is seen twice.
 pub(crate) fn breaks_fit(docs: &[Record], lines: &[OptLine]) -> Result<(), Rule>
     requires { length lines.now + 1 < 2 ^ 32 }
-    ensures { result ≡ breaks_of docs.now lines.now }
+    ensures { result ≡ breaks_hold docs.now lines.now }
 {
     let mut left = docs;
     let mut number = 1;

@@ -3,8 +3,8 @@ ghost use Rattle.std.specs.Prelude.{◌≡◌, ◌<◌, ◌+◌, ◌++◌, ◌^�
 ghost use Rattle.std.specs.Option.{option_copied, option_map};
 ghost use Rattle.bp_core.specs.Answers.{Answers};
 ghost use Rattle.bp_check.specs.Check.{agrees, checked_by, files_by, listing_by};
-ghost use Rattle.bp_check.specs.Checking.{ChecksAs, Gives, ReadsAtMost, after_step};
-ghost use Rattle.bp_check.specs.Files.{file_at};
+ghost use Rattle.bp_check.specs.Checking.{ChecksAs, StepGives, ReadsAtMost, after_check_step};
+ghost use Rattle.bp_check.specs.Files.{file_there};
 ghost use Rattle.bp_check.specs.Images.{IsTiff, Judging};
 ghost use Rattle.bp_check.specs.Listing.{digest_text};
 ghost use Rattle.bp_check.specs.Seen.{listed_seen, plan_seen};
@@ -41,7 +41,7 @@ pub fn check_volume<S: Source>(
         (record { dat = dat.now; opt = opt.now; manifest = option_copied manifest.entry }) result) }
 
     // Of the source the count of the refusal's own cause alone rises.
-    ensures after { S.shows source.new ≡ after_step (S.shows source.old) result }
+    ensures after { S.shows source.new ≡ after_check_step (S.shows source.old) result }
 
     // Each file is read once for each time that it is named.
     ensures reads { IfOk result (λ checked. ReadsAtMost
@@ -62,9 +62,9 @@ fn check_planned<S: Source>(
     requires docs { length plan.docs.items + 1 < 2 ^ 32 }
     requires listed { IfSome plan.listed (λ rows. length rows.items + 1 < 2 ^ 32) }
     ensures told { IfSome (S.shows source.old).files (λ files. (tiff : Judging) → IsTiff tiff
-        → Gives (λ checked. checked) result
-        (checked_by digest_text (file_at files) tiff (plan_seen plan))) }
-    ensures after { S.shows source.new ≡ after_step (S.shows source.old) result }
+        → StepGives (λ checked. checked) result
+        (checked_by digest_text (file_there files) tiff (plan_seen plan))) }
+    ensures after { S.shows source.new ≡ after_check_step (S.shows source.old) result }
     ensures reads { IfOk result (λ checked. ReadsAtMost
         (checked.images + checked.documents + checked.files)
         (S.reads source.old) (S.reads source.new)) }
@@ -100,9 +100,9 @@ fn check_files<S: Source>(
     requires docs { length plan.docs.items + 1 < 2 ^ 32 }
     requires listed { IfSome plan.listed (λ rows. length rows.items + 1 < 2 ^ 32) }
     ensures told { IfSome (S.shows source.old).files (λ files. (tiff : Judging) → IsTiff tiff
-        → Gives (λ count. count) result
-        (files_by digest_text (file_at files) tiff (plan_seen plan))) }
-    ensures after { S.shows source.new ≡ after_step (S.shows source.old) result }
+        → StepGives (λ count. count) result
+        (files_by digest_text (file_there files) tiff (plan_seen plan))) }
+    ensures after { S.shows source.new ≡ after_check_step (S.shows source.old) result }
     ensures reads { IfOk result (λ count. ReadsAtMost
         (length plan.lines + length plan.docs.items + count)
         (S.reads source.old) (S.reads source.new)) }
@@ -127,9 +127,9 @@ fn check_listing<S: Source>(
 ) -> Result<u32, ImportRefusal>
     requires { IfSome listed (λ rows. length rows.items + 1 < 2 ^ 32) }
     ensures told { let rows = option_map (λ rows. map listed_seen rows.items) listed in
-        IfSome (S.shows source.old).files (λ files. Gives (λ count. count) result
-        (listing_by digest_text (file_at files) rows paths.now)) }
-    ensures after { S.shows source.new ≡ after_step (S.shows source.old) result }
+        IfSome (S.shows source.old).files (λ files. StepGives (λ count. count) result
+        (listing_by digest_text (file_there files) rows paths.now)) }
+    ensures after { S.shows source.new ≡ after_check_step (S.shows source.old) result }
     ensures reads { IfOk result (λ count. ReadsAtMost (count)
         (S.reads source.old) (S.reads source.new)) }
 {

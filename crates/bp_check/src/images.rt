@@ -4,9 +4,9 @@ ghost use Rattle.bp_core.specs.Paths.{path_in};
 ghost use Rattle.bp_core.specs.declared.rules.Rule.{Rule};
 ghost use Rattle.bp_rows.specs.Image.{Image};
 ghost use Rattle.bp_tiff.specs.Read.{TiffAnswers};
-ghost use Rattle.bp_check.specs.Checking.{Gives, IsCalm, ReadsAtMost, after_step};
-ghost use Rattle.bp_check.specs.Files.{file_at};
-ghost use Rattle.bp_check.specs.Images.{IsTiff, Judging, at_line, image_at, images_of, path_at, text_at, texts_of};
+ghost use Rattle.bp_check.specs.Checking.{StepGives, IsCalmRefusal, ReadsAtMost, after_check_step};
+ghost use Rattle.bp_check.specs.Files.{file_there};
+ghost use Rattle.bp_check.specs.Images.{IsTiff, Judging, ok_at_line, judged_image, images_of, path_at, text_there, texts_there};
 ghost use Rattle.bp_check.specs.Refusals.{refused_at};
 ghost use Rattle.bp_check.specs.Steps.{behind};
 
@@ -30,9 +30,9 @@ pub(crate) fn check_images<S: Source>(
 ) -> Result<Vec<Text>, ImportRefusal>
     requires { length lines.now + 1 < 2 ^ 32 }
     ensures told { IfSome (S.shows source.old).files (λ files. (tiff : Judging) → IsTiff tiff
-        → Gives (λ found. found.items) result
-        (behind paths.items (images_of (file_at files) tiff lines.now))) }
-    ensures after { S.shows source.new ≡ after_step (S.shows source.old) result }
+        → StepGives (λ found. found.items) result
+        (behind paths.items (images_of (file_there files) tiff lines.now))) }
+    ensures after { S.shows source.new ≡ after_check_step (S.shows source.old) result }
     ensures reads { ReadsAtMost (length lines.now) (S.reads source.old) (S.reads source.new) }
 {
     let mut number = 0;
@@ -57,8 +57,8 @@ fn check_image<S: Source>(
     number: u32,
 ) -> Result<Text, ImportRefusal>
     ensures told { IfSome (S.shows source.old).files (λ files. (tiff : Judging) → IsTiff tiff
-        → Gives (λ path. path) result (image_at (file_at files) tiff number line.now)) }
-    ensures after { S.shows source.new ≡ after_step (S.shows source.old) result }
+        → StepGives (λ path. path) result (judged_image (file_there files) tiff number line.now)) }
+    ensures after { S.shows source.new ≡ after_check_step (S.shows source.old) result }
     ensures reads { ReadsAtMost 1 (S.reads source.old) (S.reads source.new) }
 {
     let path = path_at(alloc, &line.path, number)?;
@@ -77,9 +77,9 @@ pub(crate) fn check_texts<S: Source>(
 ) -> Result<Vec<Text>, ImportRefusal>
     requires { length docs.now + 1 < 2 ^ 32 }
     ensures told { IfSome (S.shows source.old).files (λ files.
-        Gives (λ found. found.items) result
-        (behind paths.items (texts_of (file_at files) docs.now))) }
-    ensures after { S.shows source.new ≡ after_step (S.shows source.old) result }
+        StepGives (λ found. found.items) result
+        (behind paths.items (texts_there (file_there files) docs.now))) }
+    ensures after { S.shows source.new ≡ after_check_step (S.shows source.old) result }
     ensures reads { ReadsAtMost (length docs.now) (S.reads source.old) (S.reads source.new) }
 {
     let mut number = 0;
@@ -106,8 +106,8 @@ fn check_text<S: Source>(
     number: u32,
 ) -> Result<Text, ImportRefusal>
     ensures told { IfSome (S.shows source.old).files (λ files.
-        Gives (λ path. path) result (text_at (file_at files) number text.now)) }
-    ensures after { S.shows source.new ≡ after_step (S.shows source.old) result }
+        StepGives (λ path. path) result (text_there (file_there files) number text.now)) }
+    ensures after { S.shows source.new ≡ after_check_step (S.shows source.old) result }
     ensures reads { ReadsAtMost 1 (S.reads source.old) (S.reads source.new) }
 {
     let path = path_at(alloc, text, number)?;
@@ -117,8 +117,8 @@ fn check_text<S: Source>(
 
 // The path that a text names at line `number`.
 fn path_at(alloc: Global, text: &Text, number: u32) -> Result<Text, ImportRefusal>
-    ensures answer { Gives (λ path. path) result (path_at number text.now) }
-    ensures calm { IfErr result IsCalm }
+    ensures answer { StepGives (λ path. path) result (path_at number text.now) }
+    ensures calm { IfErr result IsCalmRefusal }
 {
     match path_of(alloc, text.as_str()) {
         Ok(path) => Ok(path),
@@ -129,8 +129,8 @@ fn path_at(alloc: Global, text: &Text, number: u32) -> Result<Text, ImportRefusa
 // The bytes at line `number` are one page.
 fn check_page(alloc: Global, bytes: &[u8], number: u32) -> Result<(), ImportRefusal>
     ensures answer { (page : Result Image Rule) → TiffAnswers bytes.now page
-        → Gives (λ _. tt) result (at_line number page) }
-    ensures calm { IfErr result IsCalm }
+        → StepGives (λ _. tt) result (ok_at_line number page) }
+    ensures calm { IfErr result IsCalmRefusal }
 {
     match read_tiff(alloc, bytes) {
         Ok(_) => Ok(()),

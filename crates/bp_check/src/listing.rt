@@ -1,15 +1,15 @@
 // What a manifest lists, held against the files of the volume.
 ghost use Rattle.std.specs.Prelude.{◌≡◌, ◌<◌, ◌+◌, ◌^◌, length, map, IfErr, IfOk, IfSome};
 ghost use Rattle.std.specs.Str.{bytes_eq};
-ghost use Rattle.bp_check.specs.Checking.{Gives, IsCalm, ReadsAtMost, after_step};
-ghost use Rattle.bp_check.specs.Files.{file_at};
+ghost use Rattle.bp_check.specs.Checking.{StepGives, IsCalmRefusal, ReadsAtMost, after_check_step};
+ghost use Rattle.bp_check.specs.Files.{file_there};
 ghost use Rattle.bp_core.specs.Answers.{Answers};
 ghost use Rattle.bp_core.specs.Rules.{rule_at_line};
 ghost use Rattle.bp_core.specs.declared.rules.RuleKind.TheVariants.{DigestDiffers};
 ghost use Rattle.bp_check.specs.ListedPaths.{Knows};
 ghost use Rattle.bp_check.specs.Listing.{digest_at, digest_text, digests_of, listed_all};
 ghost use Rattle.bp_check.specs.Seen.{listed_seen};
-ghost use Rattle.bp_check.specs.Steps.{demand};
+ghost use Rattle.bp_check.specs.Steps.{must_pass};
 
 use crate::files::{LISTED, read_file};
 use crate::manifest::ListedFile;
@@ -58,9 +58,9 @@ pub(crate) fn digests_hold<S: Source>(
     listed: &[ListedFile],
 ) -> Result<(), ImportRefusal>
     requires { length listed.now + 1 < 2 ^ 32 }
-    ensures told { IfSome (S.shows source.old).files (λ files. Gives (λ _. tt) result
-        (digests_of (file_at files) (map listed_seen listed.now))) }
-    ensures after { S.shows source.new ≡ after_step (S.shows source.old) result }
+    ensures told { IfSome (S.shows source.old).files (λ files. StepGives (λ _. tt) result
+        (digests_of (file_there files) (map listed_seen listed.now))) }
+    ensures after { S.shows source.new ≡ after_check_step (S.shows source.old) result }
     ensures reads { ReadsAtMost (length listed.now) (S.reads source.old) (S.reads source.new) }
 {
     let mut number = 0;
@@ -83,9 +83,9 @@ fn check_listed<S: Source>(
     file: &ListedFile,
     number: u32,
 ) -> Result<(), ImportRefusal>
-    ensures told { IfSome (S.shows source.old).files (λ files. Gives (λ _. tt) result
-        (digest_at digest_text (file_at files) number (listed_seen file.now))) }
-    ensures after { S.shows source.new ≡ after_step (S.shows source.old) result }
+    ensures told { IfSome (S.shows source.old).files (λ files. StepGives (λ _. tt) result
+        (digest_at digest_text (file_there files) number (listed_seen file.now))) }
+    ensures after { S.shows source.new ≡ after_check_step (S.shows source.old) result }
     ensures reads { ReadsAtMost 1 (S.reads source.old) (S.reads source.new) }
 {
     let bytes = read_file(alloc, source, LISTED, number, &file.path)?;
@@ -94,9 +94,10 @@ fn check_listed<S: Source>(
 
 // Bytes have the digest that line `number` lists.
 fn check_digest(bytes: &[u8], digest: &[u8; 64], number: u32) -> Result<(), ImportRefusal>
-    ensures answer { Gives (λ _. tt) result
-        (demand (bytes_eq digest.now (digest_text bytes.now)) (rule_at_line DigestDiffers number)) }
-    ensures calm { IfErr result IsCalm }
+    ensures answer { StepGives (λ _. tt) result
+        (must_pass (bytes_eq digest.now (digest_text bytes.now))
+        (rule_at_line DigestDiffers number)) }
+    ensures calm { IfErr result IsCalmRefusal }
 {
     if digest_text(bytes) == *digest {
         Ok(())

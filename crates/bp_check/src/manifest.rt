@@ -5,7 +5,7 @@ ghost use Rattle.std.specs.Option.{ok_or};
 ghost use Rattle.std.specs.Str.{chars};
 ghost use Rattle.bp_core.specs.Answers.{Answers};
 ghost use Rattle.bp_core.specs.Rules.{rule_at_line};
-ghost use Rattle.bp_check.specs.Manifest.{between_newlines, is_lower_hex, listed_at, listed_behind, listed_in, listed_named, manifest_of};
+ghost use Rattle.bp_check.specs.Manifest.{between_newlines, is_lower_hex, listed_at, listed_behind, listed_in, listed_named, listed_files};
 ghost use Rattle.bp_check.specs.Seen.{listed_seen};
 
 use bp_core::{Refusal, Rule, RuleKind, Text, path_of};
@@ -23,7 +23,7 @@ pub(crate) struct ListedFile {
 /// characters of 0-9 and a-f, two spaces, a path and LF, in UTF-8.
 pub(crate) fn read_manifest(alloc: Global, bytes: &[u8]) -> Result<Vec<ListedFile>, Refusal>
     requires { length bytes.now + 1 < 2 ^ 32 }
-    ensures { Answers (λ rows. map listed_seen rows.items) result (manifest_of bytes.now) }
+    ensures { Answers (λ rows. map listed_seen rows.items) result (listed_files bytes.now) }
 {
     let mut listed = Vec::new(alloc);
     let mut number = 0;

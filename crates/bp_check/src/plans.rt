@@ -1,9 +1,9 @@
 // What the load files and the manifest of a volume say.
 ghost use Rattle.std.specs.Prelude.{◌≡◌, ◌<◌, ◌+◌, ◌^◌, ◌∷◌, [], length, map, IfErr, IfOk, IfSome};
 ghost use Rattle.std.specs.Option.{option_copied, option_map};
-ghost use Rattle.bp_check.specs.Check.{lines_at, listing_at, manifest_at, plan_at, plan_by, plan_with, table_at};
-ghost use Rattle.bp_check.specs.Checking.{Gives, IsCalm, ReadsAtMost, after_step};
-ghost use Rattle.bp_check.specs.Files.{file_at};
+ghost use Rattle.bp_check.specs.Check.{lines_at, listing_at, manifest_at, plan_at, check_plan_by, plan_with, table_at};
+ghost use Rattle.bp_check.specs.Checking.{StepGives, IsCalmRefusal, ReadsAtMost, after_check_step};
+ghost use Rattle.bp_check.specs.Files.{file_there};
 ghost use Rattle.bp_check.specs.Seen.{listed_seen, plan_seen};
 
 use crate::columns::are_columns;
@@ -34,8 +34,8 @@ pub(crate) fn read_plan<S: Source>(
     opt: &Text,
     manifest: Option<&Text>,
 ) -> Result<Planned, ImportRefusal>
-    ensures told { IfSome (S.shows source.old).files (λ files. Gives plan_seen result
-        (plan_by (file_at files)
+    ensures told { IfSome (S.shows source.old).files (λ files. StepGives plan_seen result
+        (check_plan_by (file_there files)
         (record { dat = dat.now; opt = opt.now; manifest = option_copied manifest.entry }))) }
 
     // Told or not, lines, records and listed files are few, as the files are short.
@@ -43,7 +43,7 @@ pub(crate) fn read_plan<S: Source>(
     ensures docs { IfOk result (λ plan. length plan.docs.items + 1 < 2 ^ 32) }
     ensures listed { IfOk result (λ plan.
         IfSome plan.listed (λ rows. length rows.items + 1 < 2 ^ 32)) }
-    ensures after { S.shows source.new ≡ after_step (S.shows source.old) result }
+    ensures after { S.shows source.new ≡ after_check_step (S.shows source.old) result }
     ensures reads { ReadsAtMost 3 (S.reads source.old) (S.reads source.new) }
 {
     let paths = paths_of(alloc, dat, opt, manifest)?;
@@ -56,13 +56,13 @@ fn read_paths<S: Source>(
     source: &mut S,
     paths: Paths,
 ) -> Result<Planned, ImportRefusal>
-    ensures told { IfSome (S.shows source.old).files (λ files. Gives plan_seen result
-        (plan_at (file_at files) paths)) }
+    ensures told { IfSome (S.shows source.old).files (λ files. StepGives plan_seen result
+        (plan_at (file_there files) paths)) }
     ensures lines { IfOk result (λ plan. length plan.lines + 1 < 2 ^ 32) }
     ensures docs { IfOk result (λ plan. length plan.docs.items + 1 < 2 ^ 32) }
     ensures listed { IfOk result (λ plan.
         IfSome plan.listed (λ rows. length rows.items + 1 < 2 ^ 32)) }
-    ensures after { S.shows source.new ≡ after_step (S.shows source.old) result }
+    ensures after { S.shows source.new ≡ after_check_step (S.shows source.old) result }
     ensures reads { ReadsAtMost 3 (S.reads source.old) (S.reads source.new) }
 {
     let table = match read_table(alloc, source, &paths.dat) {
@@ -83,9 +83,9 @@ fn read_paths<S: Source>(
 // The table of the DAT.
 fn read_table<S: Source>(alloc: Global, source: &mut S, path: &Text) -> Result<Dat, ImportRefusal>
     ensures told { IfSome (S.shows source.old).files (λ files.
-        Gives (λ table. table) result (table_at (file_at files) path.now)) }
+        StepGives (λ table. table) result (table_at (file_there files) path.now)) }
     ensures few { IfOk result (λ table. length table.rows + 1 < 2 ^ 32) }
-    ensures after { S.shows source.new ≡ after_step (S.shows source.old) result }
+    ensures after { S.shows source.new ≡ after_check_step (S.shows source.old) result }
     ensures reads { ReadsAtMost 1 (S.reads source.old) (S.reads source.new) }
 {
     let bytes = read_file(alloc, source, DAT, 0, path)?;
@@ -99,9 +99,9 @@ fn read_lines<S: Source>(
     path: &Text,
 ) -> Result<OptList, ImportRefusal>
     ensures told { IfSome (S.shows source.old).files (λ files.
-        Gives (λ lines. lines) result (lines_at (file_at files) path.now)) }
+        StepGives (λ lines. lines) result (lines_at (file_there files) path.now)) }
     ensures few { IfOk result (λ lines. length lines + 1 < 2 ^ 32) }
-    ensures after { S.shows source.new ≡ after_step (S.shows source.old) result }
+    ensures after { S.shows source.new ≡ after_check_step (S.shows source.old) result }
     ensures reads { ReadsAtMost 1 (S.reads source.old) (S.reads source.new) }
 {
     let bytes = read_file(alloc, source, OPT, 0, path)?;
@@ -115,11 +115,11 @@ fn read_listing<S: Source>(
     path: &Option<Text>,
 ) -> Result<Option<Vec<ListedFile>>, ImportRefusal>
     ensures told { IfSome (S.shows source.old).files (λ files.
-        Gives (λ listed. option_map (λ rows. map listed_seen rows.items) listed) result
-        (listing_at (file_at files) path.now)) }
+        StepGives (λ listed. option_map (λ rows. map listed_seen rows.items) listed) result
+        (listing_at (file_there files) path.now)) }
     ensures few { IfOk result (λ listed.
         IfSome listed (λ rows. length rows.items + 1 < 2 ^ 32)) }
-    ensures after { S.shows source.new ≡ after_step (S.shows source.old) result }
+    ensures after { S.shows source.new ≡ after_check_step (S.shows source.old) result }
     ensures reads { ReadsAtMost 1 (S.reads source.old) (S.reads source.new) }
 {
     match path {
@@ -138,9 +138,10 @@ fn read_listed<S: Source>(
     path: &Text,
 ) -> Result<Vec<ListedFile>, ImportRefusal>
     ensures told { IfSome (S.shows source.old).files (λ files.
-        Gives (λ rows. map listed_seen rows.items) result (manifest_at (file_at files) path.now)) }
+        StepGives (λ rows. map listed_seen rows.items) result
+        (manifest_at (file_there files) path.now)) }
     ensures few { IfOk result (λ rows. length rows.items + 1 < 2 ^ 32) }
-    ensures after { S.shows source.new ≡ after_step (S.shows source.old) result }
+    ensures after { S.shows source.new ≡ after_check_step (S.shows source.old) result }
     ensures reads { ReadsAtMost 1 (S.reads source.old) (S.reads source.new) }
 {
     let bytes = read_file(alloc, source, MANIFEST, 0, path)?;
@@ -156,11 +157,11 @@ fn plan_with(
     listed: Option<Vec<ListedFile>>,
 ) -> Result<Planned, ImportRefusal>
     ensures answer { let rows = option_map (λ rows. map listed_seen rows.items) listed in
-        Gives plan_seen result (plan_with paths table lines rows) }
+        StepGives plan_seen result (plan_with paths table lines rows) }
     ensures lines { IfOk result (λ plan. plan.lines ≡ lines) }
     ensures docs { IfOk result (λ plan. length plan.docs.items ≡ length table.rows) }
     ensures listed { IfOk result (λ plan. plan.listed ≡ listed) }
-    ensures calm { IfErr result IsCalm }
+    ensures calm { IfErr result IsCalmRefusal }
 {
     let (columns, rows) = table.into_parts();
     if !are_columns(alloc, columns.as_slice())? {

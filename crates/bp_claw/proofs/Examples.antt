@@ -26,7 +26,7 @@ use Rattle.bp_matter.specs.Treatments.{is_withheld}
 use Rattle.bp_burn.specs.Band.{slip_of}
 use Rattle.bp_tiff.specs.Tiff.{tiff_of}
 use Rattle.bp_tiff.specs.declared.form.Form.TheVariants.{G4}
-use Rattle.bp_press.specs.Contents.{image_in, slip_sheet}
+use Rattle.bp_press.specs.Contents.{page_image, slip_sheet}
 use Rattle.bp_press.specs.Volume.{file_at, files_of, volume_of}
 use Rattle.bp_press.proofs.Examples.{area, blank, dat_line, doc, entry, frozen, smith}
 use Rattle.bp_press.proofs.TwelveExamples.{twelve, twelve_asked}
@@ -248,7 +248,7 @@ other_letter = record smith {
   words = record { doc = record { 0 = 1 }; page = record { 0 = 1 }; words = [] } ∷ drop 1 smith.words;
 }
 
-letters_differ : (pixel (image_in smith 1 1) 0 0 ∷ pixel (image_in other_letter 1 1) 0 0 ∷ []) ≡ (false ∷ true ∷ [])
+letters_differ : (pixel (page_image smith 1 1) 0 0 ∷ pixel (page_image other_letter 1 1) 0 0 ∷ []) ≡ (false ∷ true ∷ [])
 letters_differ = refl
 
 number_agrees : (k : ℕ) (d : List ℕ) → k < 1 → field_number smith (get_or frozen.request.fields k d) ≡ field_number other_letter (get_or frozen.request.fields k d)

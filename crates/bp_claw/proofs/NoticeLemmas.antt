@@ -19,7 +19,7 @@ use Rattle.bp_matter.specs.ValidEntries.{entry_fits}
 use Rattle.bp_matter.specs.declared.limits.TheConstants.{MAX_DESCRIPTION, MAX_NAME}
 use Rattle.bp_matter.specs.declared.rows.Entry.{Entry}
 use Rattle.bp_claw.specs.Claims.{claim_fits}
-use Rattle.bp_claw.specs.NoticeFiles.{claim_in, claim_of, claims_of, entry_of, privilege_of, text_of, text_within}
+use Rattle.bp_claw.specs.NoticeFiles.{claim_in, claim_of, claims_of, claimed_entry, privilege_of, claimed_text, text_within}
 use Rattle.bp_claw.specs.declared.notice_files.TheConstants.{AUTHOR, BASIS, DATE, DESCRIPTION, DOCUMENT, FIELDS, RECIPIENTS}
 use Rattle.bp_claw.specs.declared.notices.Claim.{Claim}
 
@@ -49,17 +49,17 @@ within_by limit text found true fits is =
     ap (is_text limit) (sym same) ∙ fits
 within_by limit text found false fits is = absurd cc
 
-text_fits : (limit : ℕ) (field found : List ℕ) → text_of limit field ≡ Some found → is_text limit found ≡ true
+text_fits : (limit : ℕ) (field found : List ℕ) → claimed_text limit field ≡ Some found → is_text limit found ≡ true
 text_fits limit field found is =
     let read = bound (characters_of field) (text_within limit) found is in
     within_by limit read.0 found (is_text limit read.0) refl read.2
 
-entry_taken : (fields : List (List ℕ)) (entry : Entry) → entry_of fields ≡ Some entry → entry_fits entry ≡ true
+entry_taken : (fields : List (List ℕ)) (entry : Entry) → claimed_entry fields ≡ Some entry → entry_fits entry ≡ true
 entry_taken fields entry is =
-    let date = bound (text_of MAX_NAME (field_of fields DATE)) _ entry is in
-    let author = bound (text_of MAX_NAME (field_of fields AUTHOR)) _ entry date.2 in
-    let recipients = bound (text_of MAX_NAME (field_of fields RECIPIENTS)) _ entry author.2 in
-    let description = bound (text_of MAX_DESCRIPTION (field_of fields DESCRIPTION)) _ entry recipients.2 in
+    let date = bound (claimed_text MAX_NAME (field_of fields DATE)) _ entry is in
+    let author = bound (claimed_text MAX_NAME (field_of fields AUTHOR)) _ entry date.2 in
+    let recipients = bound (claimed_text MAX_NAME (field_of fields RECIPIENTS)) _ entry author.2 in
+    let description = bound (claimed_text MAX_DESCRIPTION (field_of fields DESCRIPTION)) _ entry recipients.2 in
     let made : Entry = record { date = date.0; author = author.0; recipients = recipients.0; description = description.0 } in
     let same : made ≡ entry = the_same made entry description.2 in
     ap entry_fits (sym same)
@@ -73,7 +73,7 @@ claim_taken : (fields : List (List ℕ)) (claim : Claim) → claim_in fields ≡
 claim_taken fields claim is =
     let doc = bound (ordinal_in (field_of fields DOCUMENT)) _ claim is in
     let basis = bound (privilege_of (field_of fields BASIS)) _ claim doc.2 in
-    let entry = bound (entry_of fields) _ claim basis.2 in
+    let entry = bound (claimed_entry fields) _ claim basis.2 in
     let made : Claim = record { doc = record { 0 = doc.0 }; basis = basis.0; entry = entry.0 } in
     let same : made ≡ claim = the_same made claim entry.2 in
     ap claim_fits (sym same)

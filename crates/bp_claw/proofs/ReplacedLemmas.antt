@@ -10,7 +10,7 @@ use Rattle.bp_matter.specs.Valid.{IsValid}
 use Rattle.bp_matter.specs.ValidEntries.{entry_fits}
 use Rattle.bp_matter.specs.declared.rows.Item.{Item}
 use Rattle.bp_matter.specs.declared.rows.Production.{Production}
-use Rattle.bp_freeze.specs.Keeping.{Keeps}
+use Rattle.bp_freeze.specs.Keeping.{KeepsProduction}
 use Rattle.bp_outside.specs.Folder.{FolderView}
 use Rattle.bp_outside.specs.declared.refusals.FolderRefusal.TheVariants.{OutOfMemory}
 use Rattle.bp_press.specs.Needs.{CanBePressed}
@@ -97,14 +97,14 @@ replaced-presses m f notice volume fit presses =
       few = omega (arith, length-map f.items (replaced_item notice), presses.few);
     }
 
-pub replaced-pressed : (m : Matter) → IsValid m → (f : Production) → Keeps m f → (notice : List Claim) → list_all claim_fits notice ≡ true
+pub replaced-pressed : (m : Matter) → IsValid m → (f : Production) → KeepsProduction m f → (notice : List Claim) → list_all claim_fits notice ≡ true
     → (volume : List ℕ) → is_volume volume ≡ true → CanBePressed (replaced f notice volume) m
 replaced-pressed m valid f kept notice fit volume is =
     pressed-by m valid (replaced f notice volume) (replaced-presses m f notice volume fit (kept-presses m valid f kept))
     (record { volume = volume_clean volume is; fields = (kept-request m valid f kept).fields })
 
 -- items can be counted in 32 bits
-pub few-items : (m : Matter) → IsValid m → (f : Production) → Keeps m f → length f.items + 1 < 2 ^ 32
+pub few-items : (m : Matter) → IsValid m → (f : Production) → KeepsProduction m f → length f.items + 1 < 2 ^ 32
 few-items m valid f kept = omega (arith, items-few m valid f kept, leb-true (length m.docs) 10000 valid.docs.few)
 
 -- ---- its files

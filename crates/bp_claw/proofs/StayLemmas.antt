@@ -20,7 +20,7 @@ use Rattle.bp_matter.specs.Valid.{IsValid}
 use Rattle.bp_matter.specs.declared.rows.Item.{Item}
 use Rattle.bp_matter.specs.declared.rows.Production.{Production}
 use Rattle.bp_matter.specs.declared.rows.Request.{Request}
-use Rattle.bp_freeze.specs.Keeping.{Keeps}
+use Rattle.bp_freeze.specs.Keeping.{KeepsProduction}
 use Rattle.bp_freeze.specs.Log.{label_in}
 use Rattle.bp_press.specs.Contents.{Content, content_by, ground_of, part_of, produced_page, slip_sheet}
 use Rattle.bp_press.specs.Files.{Placed, image_files, item_files, placed}
@@ -32,7 +32,7 @@ use Rattle.bp_press.proofs.KeptItemLemmas.{ItemStands}
 use Rattle.bp_press.proofs.PlacedLemmas.{count_is, image_count-part, kept-presses}
 use Rattle.bp_claw.specs.Claims.{claim_fits, claim_for, is_named}
 use Rattle.bp_claw.specs.Replacement.{renamed, replaced, replaced_by, replaced_item, replacement_of}
-use Rattle.bp_claw.specs.Staying.{Standing, Stays, others_in, standing_of}
+use Rattle.bp_claw.specs.Staying.{Standing, StaysInPlace, others_in, standing_of}
 use Rattle.bp_claw.specs.declared.notices.Claim.{Claim}
 use Rattle.bp_claw.proofs.AgreeLemmas.{unnamed}
 use Rattle.bp_claw.proofs.ReplacedLemmas.{ClaimFits, found_fits, numbers_stay, stands_by}
@@ -197,7 +197,7 @@ bytes_of_items q r (p ∷ ps) =
 
 -- ---- all of it
 
-pub replacement-stays : (m : Matter) → IsValid m → (f : Production) → Keeps m f → (notice : List Claim) → list_all claim_fits notice ≡ true → (volume : List ℕ) → Stays f notice volume m
+pub replacement-stays : (m : Matter) → IsValid m → (f : Production) → KeepsProduction m f → (notice : List Claim) → list_all claim_fits notice ≡ true → (volume : List ℕ) → StaysInPlace f notice volume m
 unfolding replacement_of
 replacement-stays m valid f kept notice fit volume =
     let r = (renamed f volume).request in

@@ -25,9 +25,9 @@ IsRuled (Err refusals.OutOfMemory) broken = broken ≡ None
 
 -- a rule leaves the folder; after the other refusals the first of the files were added, of the next one
 -- perhaps a part, and the count of faults rose where the folder failed
-abbrev pub Leaves : FolderView → List FileRow → ClawRefusal → FolderView → Type 0
-Leaves before files (refusals.Rule rule) after = after ≡ before
-Leaves before files refusals.FolderFault after =
+abbrev pub LeavesFolder : FolderView → List FileRow → ClawRefusal → FolderView → Type 0
+LeavesFolder before files (refusals.Rule rule) after = after ≡ before
+LeavesFolder before files refusals.FolderFault after =
     AddsPart (after_refusal before folder.Failed) files after
-Leaves before files refusals.OutOfMemory after =
+LeavesFolder before files refusals.OutOfMemory after =
     AddsPart (after_refusal before folder.OutOfMemory) files after

@@ -31,17 +31,17 @@ text_within limit text = if is_text limit text then Some text else None
 
 -- the text in a field
 -- by RFC 3629
-abbrev pub text_of : ℕ → List ℕ → Option (List ℕ)
-text_of limit field = characters_of field >>= text_within limit
+abbrev pub claimed_text : ℕ → List ℕ → Option (List ℕ)
+claimed_text limit field = characters_of field >>= text_within limit
 
 -- what the privilege log is to say of the document
 -- by FRCP 26(b)(5)(A)
-abbrev pub entry_of : List (List ℕ) → Option Entry
-entry_of fields = do
-  date ← text_of MAX_NAME (field_of fields DATE)
-  author ← text_of MAX_NAME (field_of fields AUTHOR)
-  recipients ← text_of MAX_NAME (field_of fields RECIPIENTS)
-  description ← text_of MAX_DESCRIPTION (field_of fields DESCRIPTION)
+abbrev pub claimed_entry : List (List ℕ) → Option Entry
+claimed_entry fields = do
+  date ← claimed_text MAX_NAME (field_of fields DATE)
+  author ← claimed_text MAX_NAME (field_of fields AUTHOR)
+  recipients ← claimed_text MAX_NAME (field_of fields RECIPIENTS)
+  description ← claimed_text MAX_DESCRIPTION (field_of fields DESCRIPTION)
   Some (record { date = date; author = author; recipients = recipients; description = description })
 
 -- the claim in the fields document, basis, date, author, recipients and description
@@ -50,7 +50,7 @@ abbrev pub claim_in : List (List ℕ) → Option Claim
 claim_in fields = do
   doc ← ordinal_in (field_of fields DOCUMENT)
   basis ← privilege_of (field_of fields BASIS)
-  entry ← entry_of fields
+  entry ← claimed_entry fields
   Some (record { doc = record { 0 = doc }; basis = basis; entry = entry })
 
 -- what a record claims

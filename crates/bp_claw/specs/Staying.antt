@@ -36,15 +36,15 @@ bytes_of_others notice f m =
 -- each item stands where it stood, each path is that of the volume but for the volume's name, the
 -- OPT is that of the volume under that name, an item that isn't named shows what it showed, and each
 -- of its files has the bytes that it had
-pub record Stays (f : Production) (notice : List Claim) (volume : List ℕ) (m : Matter) : Type 0
-  where
-    pub items : map standing_of (placed_items (replaced f notice volume) m)
-        ≡ map standing_of (placed_items f m)
-    pub paths : map (λ row. row.path) (replacement_of f notice volume m)
-        ≡ map (λ row. row.path) (volume_of (renamed f volume) m)
-    pub opt : opt_bytes (renamed f volume).request (placed_items (replaced f notice volume) m)
-        ≡ opt_bytes (renamed f volume).request (placed_items (renamed f volume) m)
-    pub others : All (λ i. is_named notice i.doc.0 ≡ false
-        → (part_of (replaced f notice volume) m (replaced_item notice i)).content
-        ≡ (part_of f m i).content) f.items
-    pub taken : bytes_of_others notice (replaced f notice volume) m ≡ bytes_of_others notice f m
+pub record StaysInPlace (f : Production) (notice : List Claim) (volume : List ℕ) (m : Matter)
+    : Type 0 where
+  pub items : map standing_of (placed_items (replaced f notice volume) m)
+      ≡ map standing_of (placed_items f m)
+  pub paths : map (λ row. row.path) (replacement_of f notice volume m)
+      ≡ map (λ row. row.path) (volume_of (renamed f volume) m)
+  pub opt : opt_bytes (renamed f volume).request (placed_items (replaced f notice volume) m)
+      ≡ opt_bytes (renamed f volume).request (placed_items (renamed f volume) m)
+  pub others : All (λ i. is_named notice i.doc.0 ≡ false
+      → (part_of (replaced f notice volume) m (replaced_item notice i)).content
+      ≡ (part_of f m i).content) f.items
+  pub taken : bytes_of_others notice (replaced f notice volume) m ≡ bytes_of_others notice f m

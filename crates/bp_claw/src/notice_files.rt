@@ -5,7 +5,7 @@ ghost use Rattle.std.specs.Str.{chars};
 ghost use Rattle.csv.specs.Records.{fields_of};
 ghost use Rattle.bp_core.specs.Answers.{Answers};
 ghost use Rattle.bp_claw.specs.Claims.{claim_fits};
-ghost use Rattle.bp_claw.specs.NoticeFiles.{claim_in, claim_of, entry_of, notice_of, privilege_of, text_of, text_within};
+ghost use Rattle.bp_claw.specs.NoticeFiles.{claim_in, claim_of, claimed_entry, notice_of, privilege_of, claimed_text, text_within};
 
 use crate::notices::{Claim, Notice};
 use bp_core::{Basis, DocNo, OutOfMemory, Refusal, RuleKind, Text, ordinal_in};
@@ -102,7 +102,7 @@ fn claim_in(alloc: Global, row: &ByteRecord) -> Result<Option<Claim>, OutOfMemor
 // What the privilege log is to say of the document.
 fn entry_in(alloc: Global, row: &ByteRecord) -> Result<Option<Entry>, OutOfMemory>
     requires { length (fields_of row.now) ≡ FIELDS }
-    ensures { IfOk result (λ entry. entry ≡ entry_of (fields_of row.now)) }
+    ensures { IfOk result (λ entry. entry ≡ claimed_entry (fields_of row.now)) }
 {
     let Some(date) = entry_text(alloc, field_at(row, DATE), MAX_NAME)? else {
         return Ok(None);
@@ -139,7 +139,7 @@ fn privilege_of(field: &[u8]) -> Option<Basis>
 
 // The text in a field, where a log entry takes it.
 fn entry_text(alloc: Global, field: &[u8], limit: usize) -> Result<Option<Text>, OutOfMemory>
-    ensures { IfOk result (λ text. text ≡ text_of limit field.now) }
+    ensures { IfOk result (λ text. text ≡ claimed_text limit field.now) }
 {
     match text_in(field) {
         Some(text) => text_within(text_from(alloc, text)?, limit),

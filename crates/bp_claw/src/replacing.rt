@@ -4,15 +4,15 @@ ghost use Rattle.std.specs.List.{list_all};
 ghost use Rattle.std.specs.Result.{IfErr, OnOk};
 ghost use Rattle.bp_matter.specs.Matter.{Matter};
 ghost use Rattle.bp_matter.specs.Texts.{is_volume};
-ghost use Rattle.bp_freeze.specs.Keeping.{Keeps};
+ghost use Rattle.bp_freeze.specs.Keeping.{KeepsProduction};
 ghost use Rattle.bp_press.specs.Pressed.{pressed_of};
 ghost use Rattle.bp_press.specs.Writing.{AddsAll, LeavesCut, with_files};
 ghost use Rattle.bp_claw.specs.AgreeBut.{AgreeBut};
-ghost use Rattle.bp_claw.specs.Answering.{IsRuled, Leaves, claw_refusal_of};
+ghost use Rattle.bp_claw.specs.Answering.{IsRuled, LeavesFolder, claw_refusal_of};
 ghost use Rattle.bp_claw.specs.Claims.{claim_fits};
 ghost use Rattle.bp_claw.specs.Refusing.{replace_rule};
 ghost use Rattle.bp_claw.specs.Replacement.{replacement_of};
-ghost use Rattle.bp_claw.specs.Staying.{Stays};
+ghost use Rattle.bp_claw.specs.Staying.{StaysInPlace};
 
 use crate::notices::Notice;
 use crate::refusals::ClawRefusal;
@@ -82,7 +82,7 @@ fn add_replacement<F: Folder>(
     notice: &Notice,
     folder: &mut F,
 ) -> Result<Pressed, FolderRefusal>
-    requires kept { Keeps tables.now.matter production.now }
+    requires kept { KeepsProduction tables.now.matter production.now }
     requires fits { IsTrue (list_all claim_fits notice.now) }
     requires named { IsTrue (is_volume volume.now) }
     ensures told { let m = tables.now.matter in
@@ -129,7 +129,7 @@ pub fn replace<F: Folder>(
     notice: &Notice,
     folder: &mut F,
 ) -> Result<Pressed, ClawRefusal>
-    requires kept { Keeps tables.now.matter production.now }
+    requires kept { KeepsProduction tables.now.matter production.now }
     requires fits { IsTrue (list_all claim_fits notice.now) }
     ensures ruled { let m = tables.now.matter in
         IsRuled result (replace_rule m production.now volume.now notice.now) }
@@ -141,7 +141,8 @@ pub fn replace<F: Folder>(
         OnOk result (F.shows folder.new ≡ with_files (F.shows folder.old) files) }
     ensures left { let m = tables.now.matter in
         let files = replacement_of production.now notice.now volume.now m in
-        IfErr result (λ refusal. Leaves (F.shows folder.old) files refusal (F.shows folder.new)) }
+        IfErr result
+        (λ refusal. LeavesFolder (F.shows folder.old) files refusal (F.shows folder.new)) }
     ensures alike { (other : Matter)
         → AgreeBut production.now notice.now tables.now.matter other
         → let files = replacement_of production.now notice.now volume.now other in
@@ -150,7 +151,7 @@ pub fn replace<F: Folder>(
         → AgreeBut production.now notice.now tables.now.matter other
         → let files = replacement_of production.now notice.now volume.now other in
         IfOk result (λ pressed. pressed ≡ pressed_of files) }
-    ensures stays { Stays production.now notice.now volume.now tables.now.matter }
+    ensures stays { StaysInPlace production.now notice.now volume.now tables.now.matter }
 {
     tables.know_valid();
     if let Some(rule) = refusal(tables, production, volume, notice) {

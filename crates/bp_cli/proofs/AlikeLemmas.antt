@@ -35,7 +35,7 @@ use Rattle.bp_cli.proofs.ImportLemmas.{SomeBatch}
 use Rattle.bp_cli.specs.Runs.{Tells}
 use Rattle.bp_cli.specs.Words.{◌>>=◌}
 use Rattle.bp_cli.specs.Check.{CheckOutcome}
-use Rattle.bp_cli.specs.Burn.{BurnLine, BurnPaths, HasPage, BurnAlike, lacks_a_side, burn_page, burn_read, burn_gives, paths_of, path_refused, FileAnswers, PathAnswers, BurnsAt, BurnComes}
+use Rattle.bp_cli.specs.Burn.{BurnLine, BurnPaths, HoldsPageAt, BurnAlike, lacks_a_side, burn_page, burn_read, burn_gives, burn_paths, path_refused, PageFileAnswers, PathAnswers, BurnsAt, BurnComes}
 use Rattle.bp_cli.specs.Commands.{CommandLine, Inputs, burn, init, import, produce, press, log, check, claw, demo, uses_of, AreKnown, AlikeFor, ComesTo, IsOutcome, RowsAlike, ShowAlike}
 use Rattle.bp_cli.specs.Claw.{ClawOutcome, claw_gives}
 use Rattle.bp_cli.specs.Demo.{demo_gives}
@@ -107,7 +107,7 @@ rows_one : RowsLaw → (gives : Result Matter Rule → Outcome) (rows : List Row
 rows_one law gives rows o o' x y = sym x.given ∙ ap gives (matter_one law rows x.tables y.tables x.kept y.kept) ∙ y.given
 
 pub one_outcome : Laws → (c : CommandLine) (inputs : Inputs) (o o' : Outcome) → ComesTo c inputs o → ComesTo c inputs o' → o ≡ o'
-one_outcome laws (burn b) inputs o o' x y = comes_one laws.one b (paths_of b) inputs.files o o' x y
+one_outcome laws (burn b) inputs o o' x y = comes_one laws.one b (burn_paths b) inputs.files o o' x y
 one_outcome laws (init digest) inputs o o' x y = sym x ∙ y
 one_outcome laws (import name) inputs o o' x y = import_one laws name inputs o o' x y
 one_outcome laws (produce q) inputs o o' x y = rows_one laws.rows (produce_gives q) inputs.rows o o' x y
@@ -137,7 +137,7 @@ rows_known : (gives : Result Matter Rule → Outcome) (rows : List Row) (answer 
 rows_known gives rows answer is = record { tables = answer; loaded = answers_loaded rows answer is; kept = is; given = refl }
 
 pub some_outcome : Laws → (c : CommandLine) (inputs : Inputs) → AreKnown c inputs → (o : Outcome) × ComesTo c inputs o
-some_outcome laws (burn b) inputs known = some_comes laws.some b (paths_of b) inputs.files
+some_outcome laws (burn b) inputs known = some_comes laws.some b (burn_paths b) inputs.files
 some_outcome laws (init digest) inputs known = (init_gives digest inputs.rows, refl)
 some_outcome laws (import name) inputs known =
     let found = laws.some_batch inputs.files (chars name) in
@@ -168,12 +168,12 @@ pages_alike area p q agree =
     ∙ ap (burn_by area q.width q.height) (burned-AgreeOutside (area ∷ []) p q agree)
 
 -- a file that is short enough answers with its page
-page_found : (bytes : List ℕ) (p : Image) → length bytes ≤ FILE_LIMIT → TiffReads bytes p → FileAnswers bytes (Ok p)
+page_found : (bytes : List ℕ) (p : Image) → length bytes ≤ FILE_LIMIT → TiffReads bytes p → PageFileAnswers bytes (Ok p)
 page_found bytes p short reads =
     let P : Bool → Type 0 = λ long. elim long [ true ↦ Ok p ≡ Err (bare_rule kinds.FileTooLong) | false ↦ TiffAnswers bytes (Ok p) ] in
     subst P (sym (le-ltb FILE_LIMIT (length bytes) short)) reads
 
-path_found : (files : FileMap) (from : List ℕ) (text : List ℕ) (p : Image) → path_in text ≡ Some from → HasPage files text p → PathAnswers (map.get files from) (Ok p)
+path_found : (files : FileMap) (from : List ℕ) (text : List ℕ) (p : Image) → path_in text ≡ Some from → HoldsPageAt files text p → PathAnswers (map.get files from) (Ok p)
 path_found files from text p named has =
     let same : Some has.path ≡ Some from = sym has.named ∙ named in
     let path : has.path ≡ from = cc in

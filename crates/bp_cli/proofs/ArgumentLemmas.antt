@@ -17,10 +17,10 @@ use Rattle.sqlite.specs.Held.{Held}
 use Rattle.sqlite_trees.specs.declared.store.Store.{Ghosts}
 use Rattle.bp_cli.specs.Arguments.{Answer, TakesWords, StopsAtOnce, RunsArguments, RunsFrom, EndsStopped, beginning, opened_keeper}
 use Rattle.bp_cli.specs.Words.{word_bytes}
-use Rattle.bp_cli.specs.Endings.{status_of, text_of}
+use Rattle.bp_cli.specs.Endings.{status_of, ending_text}
 use Rattle.bp_cli.specs.Printing.{Prints}
 use Rattle.bp_outside.specs.Untold.{untold_out}
-use Rattle.bp_cli.specs.Running.{Moment, RunsWords, moment}
+use Rattle.bp_cli.specs.RunWords.{Moment, RunsWords, moment}
 use Rattle.bp_cli.specs.Runs.{outside}
 
 pub stopped_at_once : {D : Type 0} (shows : D → DoorView) (before : Moment D) (history : Option (List Made)) (after : Moment D) (stop : Stop) (status : ℕ) (answer : Answer) → TakesWords answer (Err stop) → StopsAtOnce stop before history after status → RunsArguments shows answer before history after status
@@ -71,7 +71,7 @@ with_connection P Q None handed is some give = absurd some
 with_connection P Q (Some k) handed is some give = subst (λ (o : Option _). IsSomeAnd o Q) (sym is) (give k some)
 
 -- what was printed where nothing is done
-pub ends_stopped : (stop known : Stop) (o after : OutView) (status : ℕ) → stop ≡ known → o ≡ untold_out 0 → Prints (text_of (Err stop)) (status_of (Err stop)) o after status → EndsStopped known status
+pub ends_stopped : (stop known : Stop) (o after : OutView) (status : ℕ) → stop ≡ known → o ≡ untold_out 0 → Prints (ending_text (Err stop)) (status_of (Err stop)) o after status → EndsStopped known status
 ends_stopped stop known o after status is same printed =
     subst (λ (s : Stop). EndsStopped s status) is
-    (record { out = after; printed = subst (λ (x : OutView). Prints (text_of (Err stop)) (status_of (Err stop)) x after status) same printed })
+    (record { out = after; printed = subst (λ (x : OutView). Prints (ending_text (Err stop)) (status_of (Err stop)) x after status) same printed })

@@ -38,8 +38,8 @@ use Rattle.bp_core.specs.declared.rules.RuleKind.{RuleKind}
 use Rattle.bp_core.specs.declared.refusals.Refusal.{Refusal}
 use Rattle.bp_core.specs.declared.refusals.Refusal.TheVariants as refusals
 use Rattle.bp_rows.specs.Limits.{sides_are_imported}
-use Rattle.bp_cli.specs.Burn.{BurnLine, BurnPaths, paths_of, path_refused, lacks_a_side, burn_page, burn_read, FileAnswers, PathAnswers, BurnsAt, BurnComes, BurnOutcome, burn_done, burn_gives, counted_line}
-use Rattle.bp_cli.specs.Burning.{AnswersAt, ReadsPage, HoldsPage, NamesPath, NamesPaths, PutsPage}
+use Rattle.bp_cli.specs.Burn.{BurnLine, BurnPaths, burn_paths, path_refused, lacks_a_side, burn_page, burn_read, PageFileAnswers, PathAnswers, BurnsAt, BurnComes, BurnOutcome, burn_done, burn_gives, counted_line}
+use Rattle.bp_cli.specs.BurnSteps.{AnswersAt, ReadsPageAt, AnswersPage, NamesPath, NamesPaths, PutsPage}
 use Rattle.bp_cli.specs.Commands.{burn, uses_of, IsOutcome, ReadsAndWorks}
 use Rattle.bp_cli.specs.Stops.{StopsFor, StopsForFolder, read_stop}
 use Rattle.bp_cli.proofs.KeptLemmas.{rows_itself, told_itself}
@@ -61,12 +61,12 @@ get-one_file path (Some bytes) =
     map.get-from_entries nat_list_cmp_total ((path, bytes) ∷ []) path ∙ ap (λ b. cond b (Some bytes) None) (same_path path)
 
 -- what comes of an answer at IN, where the line names its paths
-comes_of : (b : BurnLine) (paths : BurnPaths) (files : FileMap) (outcome : Outcome) → paths_of b ≡ Some paths → BurnsAt b paths files outcome → BurnComes b files outcome
+comes_of : (b : BurnLine) (paths : BurnPaths) (files : FileMap) (outcome : Outcome) → burn_paths b ≡ Some paths → BurnsAt b paths files outcome → BurnComes b files outcome
 comes_of b paths files outcome named at =
     let P : Option BurnPaths → Type 0 = λ o. elim o [ None ↦ outcome ≡ refused path_refused | Some ps ↦ BurnsAt b ps files outcome ] in
     subst P (sym named) at
 
-outcome_at : (b : BurnLine) (paths : BurnPaths) (told : Option FileMap) (found : Option (List ℕ)) (answer : Result Image Rule) → paths_of b ≡ Some paths → PathAnswers found answer → IfSome told (λ files. map.get files paths.from ≡ found) → BurnOutcome b told (burn_gives b.form paths.to (burn_read b.area answer))
+outcome_at : (b : BurnLine) (paths : BurnPaths) (told : Option FileMap) (found : Option (List ℕ)) (answer : Result Image Rule) → burn_paths b ≡ Some paths → PathAnswers found answer → IfSome told (λ files. map.get files paths.from ≡ found) → BurnOutcome b told (burn_gives b.form paths.to (burn_read b.area answer))
 outcome_at b paths (Some files) found answer named answers there = record {
   files = files;
   same = refl;
@@ -79,18 +79,18 @@ outcome_at b paths None found answer named answers there = record {
 }
 
 -- the outcome over what stands at IN, by its answer
-outcome_is : (b : BurnLine) (paths : BurnPaths) (told : Option FileMap) (found : Option (List ℕ)) (answer : Result Image Rule) (outcome : Outcome) → paths_of b ≡ Some paths → PathAnswers found answer → IfSome told (λ files. map.get files paths.from ≡ found) → burn_gives b.form paths.to (burn_read b.area answer) ≡ outcome → BurnOutcome b told outcome
+outcome_is : (b : BurnLine) (paths : BurnPaths) (told : Option FileMap) (found : Option (List ℕ)) (answer : Result Image Rule) (outcome : Outcome) → burn_paths b ≡ Some paths → PathAnswers found answer → IfSome told (λ files. map.get files paths.from ≡ found) → burn_gives b.form paths.to (burn_read b.area answer) ≡ outcome → BurnOutcome b told outcome
 outcome_is b paths told found answer outcome named answers there is =
     subst (BurnOutcome b told) is (outcome_at b paths told found answer named answers there)
 
 -- ---- a word that names no path
 
-no_path_over : (b : BurnLine) (files : FileMap) → paths_of b ≡ None → BurnComes b files (refused path_refused)
+no_path_over : (b : BurnLine) (files : FileMap) → burn_paths b ≡ None → BurnComes b files (refused path_refused)
 no_path_over b files none =
     let P : Option BurnPaths → Type 0 = λ o. elim o [ None ↦ refused path_refused ≡ refused path_refused | Some ps ↦ BurnsAt b ps files (refused path_refused) ] in
     subst P (sym none) refl
 
-no_path_outcome : (b : BurnLine) (told : Option FileMap) → paths_of b ≡ None → BurnOutcome b told (refused path_refused)
+no_path_outcome : (b : BurnLine) (told : Option FileMap) → burn_paths b ≡ None → BurnOutcome b told (refused path_refused)
 no_path_outcome b (Some files) none = record { files = files; same = refl; comes = no_path_over b files none }
 no_path_outcome b None none = record { files = one_file [] None; same = tt; comes = no_path_over b (one_file [] None) none }
 
@@ -127,12 +127,12 @@ box_rule source false false true limit x rule calm broken = cc
 box_rule source false false false limit x rule calm broken = same_kind source (bare_rule kinds.BoxOutside) rule (same_rule (bare_rule kinds.BoxOutside) rule broken) refl
 
 -- a file was refused
-pub file_refused : (bytes : List ℕ) (refusal : Refusal) (stop : Stop) → IfRule (TiffFault bytes) refusal → IfRule (λ rule. IsPageRule rule.kind) refusal → StopsFor refusal stop → HoldsPage bytes (Err stop)
+pub file_refused : (bytes : List ℕ) (refusal : Refusal) (stop : Stop) → IfRule (TiffFault bytes) refusal → IfRule (λ rule. IsPageRule rule.kind) refusal → StopsFor refusal stop → AnswersPage bytes (Err stop)
 file_refused bytes (refusals.Rule rule) stop fault kind is =
-    subst (λ (s : Stop). HoldsPage bytes (Err s)) (sym is)
+    subst (λ (s : Stop). AnswersPage bytes (Err s)) (sym is)
     (record { answers = fault; calm = λ source. page_rule_calm source rule.kind kind })
 file_refused bytes refusals.OutOfMemory stop fault kind is =
-    subst (λ (s : Stop). HoldsPage bytes (Err s)) (sym is) tt
+    subst (λ (s : Stop). AnswersPage bytes (Err s)) (sym is) tt
 
 -- a file answers by its length and its bytes
 abbrev too_long_rule : Rule
@@ -141,16 +141,16 @@ too_long_rule = bare_rule kinds.FileTooLong
 abbrev FileAnswersIf : Bool → List ℕ → Result Image Rule → Type 0
 FileAnswersIf long bytes answer = elim long [ true ↦ answer ≡ Err too_long_rule | false ↦ TiffAnswers bytes answer ]
 
-short_answers : (bytes : List ℕ) (answer : Result Image Rule) → length bytes ≤ FILE_LIMIT → TiffAnswers bytes answer → FileAnswers bytes answer
+short_answers : (bytes : List ℕ) (answer : Result Image Rule) → length bytes ≤ FILE_LIMIT → TiffAnswers bytes answer → PageFileAnswers bytes answer
 short_answers bytes answer short is =
     subst (λ (long : Bool). FileAnswersIf long bytes answer) (sym (le-ltb FILE_LIMIT (length bytes) short)) is
 
-long_answers : (bytes : List ℕ) (answer : Result Image Rule) → FILE_LIMIT < length bytes → answer ≡ Err too_long_rule → FileAnswers bytes answer
+long_answers : (bytes : List ℕ) (answer : Result Image Rule) → FILE_LIMIT < length bytes → answer ≡ Err too_long_rule → PageFileAnswers bytes answer
 long_answers bytes answer long is =
     subst (λ (b : Bool). FileAnswersIf b bytes answer) (sym (lt-ltb FILE_LIMIT (length bytes) long)) is
 
 -- the page was read, or the rule met, where a file was read
-pub page_read : (from : List ℕ) (before after : SourceView) (bytes : List ℕ) (r : Result Image Stop) → length bytes ≤ FILE_LIMIT → IfSome before.files (λ files. map.get files from ≡ Some bytes) → after ≡ before → HoldsPage bytes r → ReadsPage from before r after
+pub page_read : (from : List ℕ) (before after : SourceView) (bytes : List ℕ) (r : Result Image Stop) → length bytes ≤ FILE_LIMIT → IfSome before.files (λ files. map.get files from ≡ Some bytes) → after ≡ before → AnswersPage bytes r → ReadsPageAt from before r after
 page_read from before after bytes (Ok p) short there stays it =
     (record { found = Some bytes; there = there; answers = short_answers bytes (Ok p) short it }, stays)
 page_read from before after bytes (Err (stops.Broken rule)) short there stays it =
@@ -178,7 +178,7 @@ too_long from None long = record {
 }
 
 -- the read was refused
-pub read_refused : (from : List ℕ) (before after : SourceView) (refusal : ReadRefusal) → IfSome before.files (ReadOver from FILE_LIMIT (Err refusal)) → after ≡ after_read before (Err refusal) → ReadsPage from before (Err (read_stop refusal)) after
+pub read_refused : (from : List ℕ) (before after : SourceView) (refusal : ReadRefusal) → IfSome before.files (ReadOver from FILE_LIMIT (Err refusal)) → after ≡ after_read before (Err refusal) → ReadsPageAt from before (Err (read_stop refusal)) after
 read_refused from before after reads.Absent there is = (record { found = None; there = there; answers = refl }, is)
 read_refused from before after reads.TooLong there is = (too_long from before.files there, is)
 read_refused from before after reads.Failed there is = is
@@ -230,10 +230,10 @@ put_refused to bytes folder folder' folders.OutOfMemory stop is part = subst (λ
 -- ---- where the steps before the file stopped
 
 -- what stands at IN gives this outcome
-answered : (b : BurnLine) (paths : BurnPaths) (told : Option FileMap) (answer : Result Image Rule) (outcome : Outcome) → paths_of b ≡ Some paths → AnswersAt paths.from told answer → burn_gives b.form paths.to (burn_read b.area answer) ≡ outcome → BurnOutcome b told outcome
+answered : (b : BurnLine) (paths : BurnPaths) (told : Option FileMap) (answer : Result Image Rule) (outcome : Outcome) → burn_paths b ≡ Some paths → AnswersAt paths.from told answer → burn_gives b.form paths.to (burn_read b.area answer) ≡ outcome → BurnOutcome b told outcome
 answered b paths told answer outcome named at is = outcome_is b paths told at.found answer outcome named at.answers at.there is
 
-read_stop_ends : (b : BurnLine) (paths : BurnPaths) (before : World) (source' : SourceView) (stop : Stop) → paths_of b ≡ Some paths → ReadsPage paths.from before.source (Err stop) source' → BurnEnds b before (Err stop) (world source' before.keeper before.folder)
+read_stop_ends : (b : BurnLine) (paths : BurnPaths) (before : World) (source' : SourceView) (stop : Stop) → burn_paths b ≡ Some paths → ReadsPageAt paths.from before.source (Err stop) source' → BurnEnds b before (Err stop) (world source' before.keeper before.folder)
 read_stop_ends b paths before source' stops.WordsRefused named read = absurd read
 read_stop_ends b paths before source' (stops.Broken rule) named read = record {
   outcome = answered b paths before.source.files (Err rule) (refused rule) named read.0 refl;
@@ -248,13 +248,13 @@ read_stop_ends b paths before source' stops.KeeperFault named read = absurd read
 read_stop_ends b paths before source' stops.OutOfMemory named read = untouched read (unused before.keeper) refl
 
 -- the same, by the result that a `?` hands on
-pub read_stops : (b : BurnLine) (paths : BurnPaths) (before : World) (source' : SourceView) (stop : Stop) (r : Ending) → IsErr r → IsErrAnd r (λ s. s ≡ stop) → paths_of b ≡ Some paths → ReadsPage paths.from before.source (Err stop) source' → BurnEnds b before r (world source' before.keeper before.folder)
+pub read_stops : (b : BurnLine) (paths : BurnPaths) (before : World) (source' : SourceView) (stop : Stop) (r : Ending) → IsErr r → IsErrAnd r (λ s. s ≡ stop) → burn_paths b ≡ Some paths → ReadsPageAt paths.from before.source (Err stop) source' → BurnEnds b before r (world source' before.keeper before.folder)
 read_stops b paths before source' stop (Ok line) is same named read = absurd same
 read_stops b paths before source' stop (Err s) is same named read =
     subst (λ (t : Stop). BurnEnds b before (Err t) (world source' before.keeper before.folder)) (sym same) (read_stop_ends b paths before source' stop named read)
 
 -- a page was read, and a rule met by it or by the box
-pub box_refused : (b : BurnLine) (paths : BurnPaths) (before : World) (source' : SourceView) (p : Image) (rule : Rule) → paths_of b ≡ Some paths → ReadsPage paths.from before.source (Ok p) source' → Err rule ≡ burn_page b.area p → BurnEnds b before (Err (stops.Broken rule)) (world source' before.keeper before.folder)
+pub box_refused : (b : BurnLine) (paths : BurnPaths) (before : World) (source' : SourceView) (p : Image) (rule : Rule) → burn_paths b ≡ Some paths → ReadsPageAt paths.from before.source (Ok p) source' → Err rule ≡ burn_page b.area p → BurnEnds b before (Err (stops.Broken rule)) (world source' before.keeper before.folder)
 box_refused b paths before source' p rule named read met = record {
   outcome = answered b paths before.source.files (Ok p) (refused rule) named read.0 (ap (burn_gives b.form paths.to) (sym met));
   source = read.1
@@ -266,7 +266,7 @@ box_refused b paths before source' p rule named read met = record {
 }
 
 -- or the box burned, and the file of the burned page put
-pub burned_ends : (b : BurnLine) (paths : BurnPaths) (before : World) (source' : SourceView) (folder' : FolderView) (p q : Image) (e : Ending) → paths_of b ≡ Some paths → ReadsPage paths.from before.source (Ok p) source' → Ok q ≡ burn_page b.area p → PutsPage paths.to (tiff_of b.form q) before.folder e folder' → BurnEnds b before e (world source' before.keeper folder')
+pub burned_ends : (b : BurnLine) (paths : BurnPaths) (before : World) (source' : SourceView) (folder' : FolderView) (p q : Image) (e : Ending) → burn_paths b ≡ Some paths → ReadsPageAt paths.from before.source (Ok p) source' → Ok q ≡ burn_page b.area p → PutsPage paths.to (tiff_of b.form q) before.folder e folder' → BurnEnds b before e (world source' before.keeper folder')
 burned_ends b paths before source' folder' p q e named read is put =
     put_ends b paths.to before source' folder' (tiff_of b.form q) e
     (answered b paths before.source.files (Ok p) (burn_done paths.to (tiff_of b.form q)) named read.0 (ap (burn_gives b.form paths.to) (sym is))) read.1 put

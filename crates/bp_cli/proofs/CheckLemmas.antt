@@ -13,7 +13,7 @@ use Rattle.bp_rows.specs.Image.{Image}
 use Rattle.bp_tiff.specs.Read.{TiffAnswers}
 use Rattle.bp_tiff.proofs.OneAnswerLemmas.{OneAnswer}
 use Rattle.bp_check.specs.Check.{Operands, check_of}
-use Rattle.bp_check.specs.Checking.{ChecksAs, after_step}
+use Rattle.bp_check.specs.Checking.{ChecksAs, after_check_step}
 use Rattle.bp_check.specs.Checking as checking
 use Rattle.bp_check.specs.Images.{IsTiff, Judging}
 use Rattle.bp_check.specs.declared.checked.Checked.{Checked}
@@ -67,7 +67,7 @@ pieces a b c d e f =
 -- ---- the source that a check leaves
 
 -- the two crates that read from a source say alike what a rule leaves of it
-same_kind : (source : SourceView) (kind : RuleKind) → checking.after_kind source kind ≡ after_kind source kind
+same_kind : (source : SourceView) (kind : RuleKind) → checking.after_rule source kind ≡ after_kind source kind
 same_kind source kinds.FileAbsent = refl
 same_kind source kinds.FileTooLong = refl
 same_kind source _ = refl
@@ -107,7 +107,7 @@ checked_ends some asked named s s' checked line same answered stays is = λ keep
 }
 
 -- or it stopped
-stop_ends : SomeAnswer → (asked : Operands) (s s' : SourceView) (refusal : ImportRefusal) → IfSome s.files (λ files. ChecksAs files asked (Err refusal)) → s' ≡ after_step {X = Checked} s (Err refusal) → (stop : Stop) → StopsForCheck refusal stop → CheckEnds asked s (Err stop) s'
+stop_ends : SomeAnswer → (asked : Operands) (s s' : SourceView) (refusal : ImportRefusal) → IfSome s.files (λ files. ChecksAs files asked (Err refusal)) → s' ≡ after_check_step {X = Checked} s (Err refusal) → (stop : Stop) → StopsForCheck refusal stop → CheckEnds asked s (Err stop) s'
 stop_ends some asked s s' (refusals.Rule rule) answered left stop is =
     subst (λ (x : Stop). CheckEnds asked s (Err x) s') (sym is)
     (λ keeper folder. record {
@@ -132,7 +132,7 @@ stop_ends some asked s s' refusals.OutOfMemory answered left stop is =
 
 -- by the result that a `?` hands on
 pub refused_ends : SomeAnswer → (asked named : Operands) (s s' : SourceView) (refusal : ImportRefusal) (r : Ending) → IsErr r → IsErrAnd r (StopsForCheck refusal) → named ≡ asked
-    → IfSome s.files (λ files. ChecksAs files named (Err refusal)) → s' ≡ after_step {X = Checked} s (Err refusal) → CheckEnds asked s r s'
+    → IfSome s.files (λ files. ChecksAs files named (Err refusal)) → s' ≡ after_check_step {X = Checked} s (Err refusal) → CheckEnds asked s r s'
 refused_ends some asked named s s' refusal r is stop same answered left =
     by_stop (λ e. CheckEnds asked s e s') (StopsForCheck refusal) r is stop
     (stop_ends some asked s s' refusal (subst (λ (o : Operands). IfSome s.files (λ files. ChecksAs files o (Err refusal))) same answered) left)

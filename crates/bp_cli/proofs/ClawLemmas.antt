@@ -38,11 +38,11 @@ use Rattle.bp_cli.specs.declared.stops.Stop.{Stop}
 use Rattle.bp_cli.specs.declared.stops.Stop.TheVariants as stops
 use Rattle.bp_cli.specs.declared.burn.TheConstants.{FILE_LIMIT}
 use Rattle.bp_cli.specs.Claw.{ClawAsked, ClawOutcome, ShowSameBut, claw_gives, file_gives, notice_gives, replaced_unless, replacement_done}
-use Rattle.bp_cli.specs.Clawing.{PutsReplacement, ReadsFile, ReplacesAfter, ReplacesBy, StopsAt, all_added, none_added, some_added}
+use Rattle.bp_cli.specs.ClawSteps.{PutsReplacement, ReadsFile, ReplacesAfter, ReplacesBy, StopsAtNotice, all_added, none_added, some_added}
 use Rattle.bp_cli.specs.Commands.{claw, uses_of, IsOutcome, ReadsAndWorks}
 use Rattle.bp_cli.specs.Endings.{Ending, Ends, Outcome, World, done, partly, refused, untouched, wholly, world}
 use Rattle.bp_cli.specs.Kept.{MatterAnswers, OfTwo}
-use Rattle.bp_cli.specs.NamedFiles.{FileAnswers}
+use Rattle.bp_cli.specs.NamedFiles.{NamedFileAnswers}
 use Rattle.bp_cli.specs.Press.{kept_gives}
 use Rattle.bp_cli.specs.Stops.{StopsForMatter, read_stop}
 use Rattle.bp_cli.proofs.KeptLemmas.{as_loaded, by_stop, kept_matter, kept_rule, load_calls, load_calm, load_left, read_itself}
@@ -185,7 +185,7 @@ lacked asked s s' before mid folder tables r loaded now is stop =
 
 -- the outcome, by the file that was read
 outcome_of : (asked : ClawAsked) (s : SourceView) (before mid : KeeperView) (tables : Shown) (file : Result (List ℕ) Rule) (outcome : Outcome) → IsValid tables.matter → LoadsTables before (Ok tables) mid
-    → FileAnswers s.files asked.notice file → file_gives asked tables.matter file ≡ outcome → ClawOutcome asked s.files mid.rows outcome
+    → NamedFileAnswers s.files asked.notice file → file_gives asked tables.matter file ≡ outcome → ClawOutcome asked s.files mid.rows outcome
 outcome_of asked s before mid tables file outcome valid loaded found gives = record {
   tables = Ok tables.matter;
   loaded = valid;
@@ -287,7 +287,7 @@ files_work asked s s' before mid folder folder' tables bytes f notice (Err stops
 
 rule_works : (asked : ClawAsked) (s s' : SourceView) (before mid : KeeperView) (folder folder' : FolderView) (tables : Shown) (bytes : List ℕ) (rule : Rule) (r : Ending)
     → IsValid tables.matter → LoadsTables before (Ok tables) mid → ReadsFile asked.notice s (Ok bytes) s'
-    → file_gives asked tables.matter (Ok bytes) ≡ refused rule → s ≡ after_kind s rule.kind → StopsAt rule folder r folder' → ClawWorks asked s before mid folder r s' folder'
+    → file_gives asked tables.matter (Ok bytes) ≡ refused rule → s ≡ after_kind s rule.kind → StopsAtNotice rule folder r folder' → ClawWorks asked s before mid folder r s' folder'
 rule_works asked s s' before mid folder folder' tables bytes rule (Ok line) valid loaded read gives calm stops = absurd stops
 rule_works asked s s' before mid folder folder' tables bytes rule (Err stop) valid loaded read gives calm at =
     subst (λ (view : FolderView). ClawWorks asked s before mid folder (Err stop) s' view) (sym at.1)
@@ -319,19 +319,19 @@ claw_one asked files rows o o' one x y =
     ∙ ap (claw_gives asked y.tables) (one_file files asked.notice x.file y.file x.found y.found) ∙ y.gives
 
 same_notice : (asked : ClawAsked) (files : FileMap) (m n : Matter) (f : Production) (bytes : List ℕ) (answer : Result (List Claim) Rule) → notice_of bytes ≡ answer → kept_production m.productions asked.id ≡ Some f
-    → FileAnswers (Some files) asked.notice (Ok bytes) → ShowSameBut asked files m n → notice_gives asked.volume m f answer ≡ notice_gives asked.volume n f answer
+    → NamedFileAnswers (Some files) asked.notice (Ok bytes) → ShowSameBut asked files m n → notice_gives asked.volume m f answer ≡ notice_gives asked.volume n f answer
 same_notice asked files m n f bytes (Err rule) is kept found same = refl
 same_notice asked files m n f bytes (Ok notice) is kept found same =
     let v = asked.volume in
     ap (λ (t : Bool). replaced_unless (rule_or (first_rule (unless (is_volume v) (bare_rule kinds.BadVolume) ∷ unless (not t) (bare_rule kinds.VolumeTaken) ∷ [])) (claims_rule f [] 1 notice)) v f (replacement_of f notice v m)) same.taken
     ∙ ap (replaced_unless (replace_rule n f v notice) v f) (replacement-same f notice v m n (same.shown f bytes notice kept found is))
 
-same_kept : (asked : ClawAsked) (files : FileMap) (m n : Matter) (bytes : List ℕ) (kept : Option Production) → kept_production m.productions asked.id ≡ kept → FileAnswers (Some files) asked.notice (Ok bytes) → ShowSameBut asked files m n
+same_kept : (asked : ClawAsked) (files : FileMap) (m n : Matter) (bytes : List ℕ) (kept : Option Production) → kept_production m.productions asked.id ≡ kept → NamedFileAnswers (Some files) asked.notice (Ok bytes) → ShowSameBut asked files m n
     → kept_gives (λ f. notice_gives asked.volume m f (notice_of bytes)) kept ≡ kept_gives (λ f. notice_gives asked.volume n f (notice_of bytes)) kept
 same_kept asked files m n bytes None is found same = refl
 same_kept asked files m n bytes (Some f) is found same = same_notice asked files m n f bytes (notice_of bytes) refl is found same
 
-pub same_clawed : (asked : ClawAsked) (files : FileMap) (m n : Matter) (file : Result (List ℕ) Rule) → FileAnswers (Some files) asked.notice file → ShowSameBut asked files m n → file_gives asked m file ≡ file_gives asked n file
+pub same_clawed : (asked : ClawAsked) (files : FileMap) (m n : Matter) (file : Result (List ℕ) Rule) → NamedFileAnswers (Some files) asked.notice file → ShowSameBut asked files m n → file_gives asked m file ≡ file_gives asked n file
 same_clawed asked files m n (Err rule) found same = refl
 same_clawed asked files m n (Ok bytes) found same =
     same_kept asked files m n bytes (kept_production m.productions asked.id) refl found same

@@ -17,11 +17,11 @@ use Rattle.bp_receiver.specs.Delivered.Delivered.{made, nobody, unmade}
 use Rattle.bp_receiver.specs.EventServing.{MayCommit, MayCommitIn}
 use Rattle.bp_receiver.specs.EventServing.MayCommit.{at_call, no_call}
 use Rattle.bp_receiver.specs.EventServing.MayCommitIn.{no_exchange, one_more}
-use Rattle.bp_receiver.specs.Events.{Holding, event_of, run_of}
+use Rattle.bp_receiver.specs.Events.{Holding, event_of, event_run}
 use Rattle.bp_receiver.specs.Granting.{grant_each}
 use Rattle.bp_receiver.specs.declared.events.Event.{Event}
 use Rattle.bp_receiver.specs.declared.grants.Grant.{Grant}
-use Rattle.bp_cli.specs.Deliver.{DeliverAsked, DeliverPromises, Delivers, DeliversOver, InputsServe, Office, OpensOver, desk_with, opened_by, opening_of, records_of, with_opened}
+use Rattle.bp_cli.specs.Deliver.{DeliverAsked, DeliverPromises, DeliversEvents, DeliversOver, InputsServe, Office, OpensOver, desk_with, opened_by, opening_of, grant_records, with_opened}
 use Rattle.bp_cli.specs.Endings.{RowsRead}
 use Rattle.bp_cli.specs.Kept.{MatterAnswers}
 
@@ -58,7 +58,7 @@ by_records m (Err rule) opening is = absurd cc
 
 -- the desk holds the matter of the rows
 opening_matter : (tables : Result Matter Rule) (file : Result (List ℕ) Rule) (opening : Holding) → opening_of tables file ≡ Ok opening → tables ≡ Ok opening.matter
-opening_matter (Ok m) file opening is = ap (λ (n : Matter). Ok n) (by_records m (records_of file) opening is)
+opening_matter (Ok m) file opening is = ap (λ (n : Matter). Ok n) (by_records m (grant_records file) opening is)
 opening_matter (Err rule) file opening is = absurd cc
 
 rows_of_opening : (rows : List Row) (m : Matter) → MatterAnswers rows (Ok m) → rows ≡ rows_of m
@@ -134,7 +134,7 @@ same_rows asked before after rows now xs was stands opened closed over =
     let is : Some (xs ++ []) ≡ Some (xs ++ served.exchanges) = sym closed ∙ served.told ∙ ap more opened in
     let same : length served.exchanges ≡ 0 = as_many xs [] served.exchanges is in
     let none : run.events ≡ [] = none_made _ delivers.opening run.events run.faults served.exchanges (nil_from_length served.exchanges same) run.delivered in
-    let left : delivers.closing ≡ delivers.opening = run.run ∙ ap (run_of delivers.opening) none in
+    let left : delivers.closing ≡ delivers.opening = run.run ∙ ap (event_run delivers.opening) none in
     let kept : now ≡ rows_of delivers.closing.matter =
     subst (λ (o : Option (List Row)). IfSome o (λ r. r ≡ rows_of delivers.closing.matter)) stands delivers.kept in
     let loaded : MatterAnswers rows delivers.opens.tables =

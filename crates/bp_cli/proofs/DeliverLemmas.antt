@@ -46,11 +46,11 @@ use Rattle.bp_cli.specs.declared.burn.TheConstants.{FILE_LIMIT}
 use Rattle.bp_cli.specs.declared.stops.Stop.{Stop}
 use Rattle.bp_cli.specs.declared.stops.Stop.TheVariants as stops
 use Rattle.bp_cli.specs.Burn.{path_refused}
-use Rattle.bp_cli.specs.Burning.{NamesPath}
+use Rattle.bp_cli.specs.BurnSteps.{NamesPath}
 use Rattle.bp_cli.specs.Words.{is_bad_word, word_of}
 use Rattle.bp_cli.specs.declared.deliver.TheConstants.{DELIVER_WORDS}
-use Rattle.bp_cli.specs.Deliver.{DeliverAsked, DeliverEnds, Delivers, DeliversNothing, deliver_named, deliver_of, deliver_with, delivered_line, desk_with, nobody, office, opened_by, unsaid, with_opened}
-use Rattle.bp_cli.specs.Delivering.{DeliversAnyhow, DeliversWith, HoldsGrants, ReadsGrants, touched}
+use Rattle.bp_cli.specs.Deliver.{DeliverAsked, DeliverEnds, DeliversEvents, DeliversNothing, deliver_named, deliver_of, deliver_with, delivered_line, desk_with, nobody, office, opened_by, unsaid, with_opened}
+use Rattle.bp_cli.specs.DeliverSteps.{DeliversAnyhow, DeliversWith, HoldsGrants, ReadsGrants, touched}
 use Rattle.bp_cli.specs.Endings.{Ending, KeeperLeft}
 use Rattle.bp_cli.specs.NamedFiles.{FileNamed}
 use Rattle.bp_cli.specs.Stops.{StopsFor, StopsForMatter, read_stop}
@@ -328,7 +328,7 @@ module _ (asked : DeliverAsked) (s s' : SourceView) (before mid k' : KeeperView)
   keeps_opening : KeepsRows mid desk.matter
   keeps_opening = subst (λ (m : Matter). IfSome mid.rows (λ there. there ≡ rows_of m)) (sym over) (keeps_matter mid.rows tables loaded.told_after)
 
-  delivers : (out out' : OutView) → Delivers asked (with_opened mid.rows (office s before d out)) count (office s' k' d' out')
+  delivers : (out out' : OutView) → DeliversEvents asked (with_opened mid.rows (office s before d out)) count (office s' k' d' out')
   delivers out out' = record {
     opening = desk;
     opens = record {

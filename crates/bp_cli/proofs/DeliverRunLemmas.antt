@@ -9,10 +9,10 @@ use Rattle.bp_outside.specs.Out.{OutView}
 use Rattle.bp_outside.specs.Source.{FileMap, SourceView}
 use Rattle.bp_receiver.specs.Events.{Holding}
 use Rattle.bp_cli.specs.declared.stops.Stop.TheVariants as stops
-use Rattle.bp_cli.specs.Deliver.{DeliverAsked, DeliverEnded, DeliverEnds, DeliverPromises, DeliverRanShort, DeliverWasCut, DeliversOver, InputsServe, Office, Opens, OpensOver, deliver_statuses, opening_of, with_opened}
-use Rattle.bp_cli.specs.Delivering.{DeliversWith}
-use Rattle.bp_cli.specs.Endings.{Ending, status_of, text_of}
-use Rattle.bp_cli.specs.NamedFiles.{FileAnswers}
+use Rattle.bp_cli.specs.Deliver.{DeliverAsked, DeliverEnded, DeliverEnds, DeliverPromises, DeliverRanShort, DeliverWasCut, DeliversOver, InputsServe, Office, OpensHolding, OpensOver, deliver_statuses, opening_of, with_opened}
+use Rattle.bp_cli.specs.DeliverSteps.{DeliversWith}
+use Rattle.bp_cli.specs.Endings.{Ending, status_of, ending_text}
+use Rattle.bp_cli.specs.NamedFiles.{NamedFileAnswers}
 use Rattle.bp_cli.specs.Kept.{MatterAnswers}
 use Rattle.bp_cli.specs.Printing.{Prints, whole, cut, lacking, instead}
 use Rattle.bp_cli.specs.Runs.{IsAmong}
@@ -22,10 +22,10 @@ use Rattle.bp_cli.proofs.RunLemmas.{never_rose}
 use Rattle.bp_cli.proofs.StatusLemmas.{among_three, among_two, cut_part, is_broken, is_done, is_keeper_fault, is_source_fault, lacking_part, out_rose, out_sure, rose_at, whole_of}
 
 -- over told rows and files the desk opens with one answer
-one_opening : RowsLaw → (asked : DeliverAsked) (before : Office) (a b : Result Holding Rule) → Opens asked before a → OpensOver asked before b → a ≡ b
+one_opening : RowsLaw → (asked : DeliverAsked) (before : Office) (a b : Result Holding Rule) → OpensHolding asked before a → OpensOver asked before b → a ≡ b
 one_opening law asked before a b x y =
     let rows : MatterAnswers y.rows x.tables = subst (λ (o : Option (List Row)). IfSome o (λ there. MatterAnswers there x.tables)) y.kept x.kept in
-    let file : FileAnswers (Some y.files) asked.grants x.file = subst (λ (o : Option FileMap). FileAnswers o asked.grants x.file) y.told x.found in
+    let file : NamedFileAnswers (Some y.files) asked.grants x.file = subst (λ (o : Option FileMap). NamedFileAnswers o asked.grants x.file) y.told x.found in
     sym x.gives
     ∙ ap (λ (t : Result Matter Rule). opening_of t x.file) (matter_one law y.rows x.tables y.tables rows y.answers)
     ∙ ap (opening_of y.tables) (one_file y.files asked.grants x.file y.file file y.found)
@@ -108,14 +108,14 @@ sure_printing text wanted out after status out_is out_law among (cut some is par
 sure_printing text wanted out after status out_is out_law among (lacking is part) = subst (λ (n : ℕ). IsAmong n sure_statuses) (sym is) refl
 sure_printing text wanted out after status out_is out_law among (instead may is part) = subst (λ (n : ℕ). IsAmong n sure_statuses) (sym is) refl
 
-module _ (asked : DeliverAsked) (before after : Office) (status : ℕ) (e : Ending) (worked : DeliverEnds asked before e after) (printed : Prints (text_of e) (status_of e) before.out after.out status) where
+module _ (asked : DeliverAsked) (before after : Office) (status : ℕ) (e : Ending) (worked : DeliverEnds asked before e after) (printed : Prints (ending_text e) (status_of e) before.out after.out status) where
   Has : Ending → Type 0
   Has x = DeliverEnded asked before after x
 
   deliver_ended : (k : ℕ) → (k ≡ 6 → ⊥) → (k ≡ 7 → ⊥) → status ≡ k → (status_of e ≡ k) × Has e
   unfolding Has
   deliver_ended k not_six not_seven at =
-      let w = whole_of (text_of e) (status_of e) before.out after.out status k not_six not_seven printed at in
+      let w = whole_of (ending_text e) (status_of e) before.out after.out status k not_six not_seven printed at in
       (w.0, record { worked = worked; printed = w.1 })
 
   deliver_done : status ≡ 0 → (line : List ℕ) × DeliverEnded asked before after (Ok line)
@@ -152,11 +152,11 @@ module _ (asked : DeliverAsked) (before after : Office) (status : ℕ) (e : Endi
   deliver_cut : status ≡ 7 → DeliverWasCut asked before after
   deliver_cut at =
       let c = cut_part e before.out after.out status printed at in
-      record { ending = e; worked = worked; other = c.0; failed = out_rose (text_of e) before.out after.out c.1; printed = c.1 }
+      record { ending = e; worked = worked; other = c.0; failed = out_rose (ending_text e) before.out after.out c.1; printed = c.1 }
 
   pub deliver_promises : RowsLaw → SureOffice after → DeliverPromises asked before after status
   deliver_promises law sure = record {
-    known = deliver_printing (text_of e) (status_of e) before.out after.out status (deliver_known asked before after e worked) printed;
+    known = deliver_printing (ending_text e) (status_of e) before.out after.out status (deliver_known asked before after e worked) printed;
     done = deliver_done;
     refused = deliver_refused;
     source_fault = deliver_source_fault;
@@ -164,18 +164,18 @@ module _ (asked : DeliverAsked) (before after : Office) (status : ℕ) (e : Endi
     lacking = deliver_lacking;
     cut = deliver_cut;
     rule_met = λ rule met served.
-        among_three (text_of e) (status_of e) before.out after.out status 2
+        among_three (ending_text e) (status_of e) before.out after.out status 2
         (deliver_met asked before after law rule e worked met served) printed;
     complete = λ opening opens served quiet.
-        among_two (text_of e) (status_of e) before.out after.out status 0 quiet
+        among_two (ending_text e) (status_of e) before.out after.out status 0 quiet
         (deliver_full asked before after law opening e worked opens served) printed;
     unfailing = λ source keeper out.
-        sure_printing (text_of e) (status_of e) before.out after.out status out sure.out
+        sure_printing (ending_text e) (status_of e) before.out after.out status out sure.out
         (deliver_sure asked before after e worked source keeper sure) printed;
   }
 
 -- over the rows as they were read
-pub deliver_runs : (asked : DeliverAsked) (before after : Office) (status : ℕ) (e : Ending) → DeliversWith asked before e after → Prints (text_of e) (status_of e) before.out after.out status → RowsLaw → SureOffice after → DeliversOver asked before after status
+pub deliver_runs : (asked : DeliverAsked) (before after : Office) (status : ℕ) (e : Ending) → DeliversWith asked before e after → Prints (ending_text e) (status_of e) before.out after.out status → RowsLaw → SureOffice after → DeliversOver asked before after status
 deliver_runs asked before after status e works printed law sure = record {
   read = works.read;
   rows = works.rows;

@@ -22,10 +22,10 @@ use Rattle.bp_demo.specs.Demo.{demo_freeze, demo_matter}
 use Rattle.bp_cli.specs.declared.stops.Stop.{Stop}
 use Rattle.bp_cli.specs.declared.stops.Stop.TheVariants as stops
 use Rattle.bp_cli.specs.Demo.{DemoAsked, demo_gives}
-use Rattle.bp_cli.specs.Demoing.{DrawsDemo, FrozeHere, KeepsFirst, LoadsSome}
+use Rattle.bp_cli.specs.DemoSteps.{DrawsDemo, FrozeHere, KeepsFirst, LoadsSome}
 use Rattle.bp_cli.specs.Endings.{Ending}
 use Rattle.bp_cli.specs.Produce.{frozen_gives, volume_done}
-use Rattle.bp_cli.specs.Producing.{PutsVolume}
+use Rattle.bp_cli.specs.ProduceSteps.{PutsVolume}
 use Rattle.bp_cli.specs.Stops.{StopsFor, StopsForKeeper}
 use Rattle.bp_cli.proofs.CalmLemmas.{freeze_calm}
 use Rattle.bp_cli.proofs.FirstLemmas.{FirstEnds, RefusesRows, commit_failed, lacked, matter_there, no_rows, puts_alone, rule_met, volume_kept}

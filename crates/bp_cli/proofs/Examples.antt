@@ -12,9 +12,9 @@ use Rattle.bp_tiff.specs.declared.form.Form.TheVariants.{Plain, G4}
 use Rattle.bp_tiff.specs.Tiff.{tiff_of}
 use Rattle.bp_tiff.specs.Rules.{tiff_head}
 use Rattle.bp_cli.specs.declared.stops.Stop.TheVariants as stops
-use Rattle.bp_cli.specs.Words.{number_of, is_bad_word}
+use Rattle.bp_cli.specs.Words.{operand_number, is_bad_word}
 use Rattle.bp_core.specs.declared.rectangle.Rect.{Rect}
-use Rattle.bp_cli.specs.Burn.{BurnLine, PathAnswers, burn_page, burn_read, burn_gives, paths_of}
+use Rattle.bp_cli.specs.Burn.{BurnLine, PathAnswers, burn_page, burn_read, burn_gives, burn_paths}
 use Rattle.hex.proofs.OnLiterals.{hex_on_literals}
 use Rattle.hex.specs.Hex.{encode_with}
 use Rattle.std.proofs.Math.Utf8.{encode}
@@ -29,13 +29,13 @@ use Rattle.bp_rules.specs.Beginning.{begun}
 use Rattle.bp_rules.specs.Importing.{import_of}
 use Rattle.bp_cli.specs.Import.{import_gives}
 use Rattle.bp_cli.specs.Kept.{MatterAnswers}
-use Rattle.bp_cli.specs.Init.{digest_of, init_gives}
+use Rattle.bp_cli.specs.Init.{key_digest_of, init_gives}
 use Rattle.bp_cli.specs.Check.{check_gives}
 use Rattle.bp_cli.specs.Claw.{ClawAsked, claw_gives, replacement_line}
 use Rattle.bp_cli.specs.Commands.{burn, init, import, produce, press, log, check, claw, demo, command_of}
 use Rattle.bp_cli.specs.Demo.{DemoAsked, demo_gives}
 use Rattle.bp_cli.specs.Press.{log_gives, press_gives}
-use Rattle.bp_cli.specs.Endings.{done, refused, status_of, text_of}
+use Rattle.bp_cli.specs.Endings.{done, refused, status_of, ending_text}
 use Rattle.bp_cli.specs.Runs.{all_statuses}
 use Rattle.bp_cli.specs.declared.burn.TheConstants.{FILE_LIMIT}
 use Rattle.bp_cli.specs.declared.init.TheConstants.{DIGEST_BYTES}
@@ -44,7 +44,7 @@ use Rattle.bp_cli.specs.declared.serve.TheConstants.{MAX_CONNECTIONS, MAX_DESKS,
 use Rattle.bp_cli.specs.declared.statuses.TheConstants.{DONE, WORDS_REFUSED, RULE_BROKEN, SOURCE_FAULT, FOLDER_FAULT, KEEPER_FAULT, OUT_OF_MEMORY, OUT_FAULT}
 use Rattle.bp_cli.specs.Produce.{produce_gives, volume_line, width_of}
 use Rattle.bp_cli.specs.Deliver.{deliver_of, delivered_line, opening_of}
-use Rattle.bp_cli.specs.NamedFiles.{file_read}
+use Rattle.bp_cli.specs.NamedFiles.{named_file_read}
 use Rattle.bp_cli.specs.declared.claw.TheConstants.{CLAW_WORDS}
 use Rattle.bp_cli.specs.declared.deliver.TheConstants.{DELIVER_WORDS}
 use Rattle.bp_cli.specs.declared.demo.TheConstants.{DEMO_WORDS}
@@ -52,22 +52,22 @@ use Rattle.bp_cli.specs.Serve.{serve_of}
 
 -- ---- words
 
-number_0 : number_of (codes "0") ≡ Some 0
+number_0 : operand_number (codes "0") ≡ Some 0
 number_0 = refl
 
-number_leading_zero : number_of (codes "01") ≡ None
+number_leading_zero : operand_number (codes "01") ≡ None
 number_leading_zero = refl
 
-number_empty : number_of [] ≡ None
+number_empty : operand_number [] ≡ None
 number_empty = refl
 
-number_nine_digits : number_of (codes "123456789") ≡ Some 123456789
+number_nine_digits : operand_number (codes "123456789") ≡ Some 123456789
 number_nine_digits = refl
 
-number_ten_digits : number_of (codes "1234567890") ≡ None
+number_ten_digits : operand_number (codes "1234567890") ≡ None
 number_ten_digits = refl
 
-number_sign : number_of (codes "+1") ≡ None
+number_sign : operand_number (codes "+1") ≡ None
 number_sign = refl
 
 bad_words : (is_bad_word [] ≡ true) × (is_bad_word (codes "-a") ≡ true) × (is_bad_word (codes "a-") ≡ false)
@@ -132,10 +132,10 @@ init_more : command_of (codes "init" ∷ abc ∷ codes "x" ∷ []) ≡ None
 unfolding abc
 init_more = refl
 
-high_hex : digest_of (codes "BA7816bf8f01cfea414140de5dae2223b00361a396177a9cb410ff61f20015ad") ≡ None
+high_hex : key_digest_of (codes "BA7816bf8f01cfea414140de5dae2223b00361a396177a9cb410ff61f20015ad") ≡ None
 high_hex = refl
 
-short_hex : digest_of (codes "ba7816bf8f01cfea414140de5dae2223b00361a396177a9cb410ff61f20015") ≡ None
+short_hex : key_digest_of (codes "ba7816bf8f01cfea414140de5dae2223b00361a396177a9cb410ff61f20015") ≡ None
 unfolding hex_on_literals
 short_hex = refl
 
@@ -221,7 +221,7 @@ volume_checked = refl
 volume_refused : check_gives (Err (check_gap_rule 2 2 3)) ≡ refused (check_gap_rule 2 2 3)
 volume_refused = refl
 
-gap_line : text_of (Err (stops.Broken (check_gap_rule 2 2 3))) ≡ codes "refused 112 CheckGap 2 2 3\n"
+gap_line : ending_text (Err (stops.Broken (check_gap_rule 2 2 3))) ≡ codes "refused 112 CheckGap 2 2 3\n"
 unfolding digits
 gap_line = refl
 
@@ -269,15 +269,15 @@ no_file : PathAnswers None (Err (bare_rule kinds.FileAbsent))
 no_file = refl
 
 -- OUT leads out of the folder, and IN names a path; then the other way round
-leads_out : paths_of (record (box 0 0 8 1) { to = codes "../b.tif" }) ≡ None
+leads_out : burn_paths (record (box 0 0 8 1) { to = codes "../b.tif" }) ≡ None
 unfolding box
 leads_out = refl
 
-leads_out_too : paths_of (record (box 0 0 8 1) { from = codes "../a.tif" }) ≡ None
+leads_out_too : burn_paths (record (box 0 0 8 1) { from = codes "../a.tif" }) ≡ None
 unfolding box
 leads_out_too = refl
 
-paths_kept : paths_of (record (box 0 0 8 1) { from = codes "./p/a.tif" }) ≡ Some (record { from = codes "p/a.tif"; to = codes "b.tif" })
+paths_kept : burn_paths (record (box 0 0 8 1) { from = codes "./p/a.tif" }) ≡ Some (record { from = codes "p/a.tif"; to = codes "b.tif" })
 unfolding box
 paths_kept = refl
 
@@ -287,14 +287,14 @@ told = refl
 
 -- ---- what is printed
 
-outside_line : text_of (Err (stops.Broken (bare_rule kinds.BoxOutside))) ≡ codes "refused 13 BoxOutside 0 0 0\n"
+outside_line : ending_text (Err (stops.Broken (bare_rule kinds.BoxOutside))) ≡ codes "refused 13 BoxOutside 0 0 0\n"
 unfolding digits
 outside_line = refl
 
-fault_line : (text_of (Err stops.SourceFault) ≡ codes "source fault\n") × (status_of (Err stops.SourceFault) ≡ 3)
+fault_line : (ending_text (Err stops.SourceFault) ≡ codes "source fault\n") × (status_of (Err stops.SourceFault) ≡ 3)
 fault_line = (refl, refl)
 
-keeper_line : (text_of (Err stops.KeeperFault) ≡ codes "keeper fault\n") × (status_of (Err stops.KeeperFault) ≡ 5)
+keeper_line : (ending_text (Err stops.KeeperFault) ≡ codes "keeper fault\n") × (status_of (Err stops.KeeperFault) ≡ 5)
 keeper_line = (refl, refl)
 
 -- ---- the numbers of the program
@@ -514,10 +514,10 @@ demo_words : DEMO_WORDS ≡ 2
 demo_words = refl
 
 -- a file that isn't there is no file of grants; neither is one with a bad record
-grants_absent : (m : Matter) → opening_of (Ok m) (file_read None) ≡ Err (bare_rule kinds.FileAbsent)
+grants_absent : (m : Matter) → opening_of (Ok m) (named_file_read None) ≡ Err (bare_rule kinds.FileAbsent)
 grants_absent m = refl
 
-rows_first : opening_of (Err (bare_rule kinds.NoMatter)) (file_read None) ≡ Err (bare_rule kinds.NoMatter)
+rows_first : opening_of (Err (bare_rule kinds.NoMatter)) (named_file_read None) ≡ Err (bare_rule kinds.NoMatter)
 rows_first = refl
 
 two_delivered : delivered_line 2 ≡ codes "delivered 2\n"

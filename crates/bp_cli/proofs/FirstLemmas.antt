@@ -29,7 +29,7 @@ use Rattle.bp_cli.specs.Commands.{ReadsRows}
 use Rattle.bp_cli.specs.Endings.{Ending, Outcome, world, done, refused, CallsKeeper, KeeperLeft, RowsRead, Ends, untouched}
 use Rattle.bp_cli.specs.Kept.{FirstOutcome}
 use Rattle.bp_cli.specs.Produce.{volume_done}
-use Rattle.bp_cli.specs.Producing.{PutsVolume}
+use Rattle.bp_cli.specs.ProduceSteps.{PutsVolume}
 use Rattle.bp_cli.specs.Stops.{StopsForKeeper}
 use Rattle.bp_cli.proofs.CalmLemmas.{IsCalm}
 use Rattle.bp_cli.proofs.KeptLemmas.{as_loaded, by_stop, read_itself, read_left, rows_itself, rows_left, told_then}

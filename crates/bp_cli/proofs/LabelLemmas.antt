@@ -17,11 +17,11 @@ use Rattle.bp_matter.specs.declared.rows.Item.{Item}
 use Rattle.bp_matter.specs.declared.rows.Production.{Production}
 use Rattle.bp_matter.specs.declared.rows.ProductionRow.{ProductionRow}
 use Rattle.bp_freeze.specs.Freezing.{kept_production}
-use Rattle.bp_freeze.specs.Keeping.{Keeps}
+use Rattle.bp_freeze.specs.Keeping.{KeepsProduction}
 use Rattle.bp_freeze.specs.Log.{CanBeLogged, span_fits}
 use Rattle.bp_press.proofs.KeptPageLemmas.{passes}
 use Rattle.bp_press.proofs.PressedLemmas.{kept-pressed}
-use Rattle.bp_cli.specs.Producing.{HasLabel, HasLabels}
+use Rattle.bp_cli.specs.ProduceSteps.{HasLabel, HasLabels}
 
 -- the labels of an item
 item_labels : (width : ℕ) (i : Item) → span_fits width i ≡ true → HasLabel width i.span.first × HasLabel width i.span.last
@@ -49,7 +49,7 @@ none_found rows text id found copied same is = ap (kept_production rows) (sym sa
 pub some_found : (rows : List ProductionRow) (text id : List ℕ) (found : Option (Bor Production)) (f : Bor Production) → option_copied found ≡ kept_production rows text → text ≡ id → found ≡ Some f → kept_production rows id ≡ Some f.now
 some_found rows text id found f copied same is = ap (kept_production rows) (sym same) ∙ sym copied ∙ ap option_copied is
 
-pub kept_logged : (m : Matter) → IsValid m → (f : Production) → Keeps m f → CanBeLogged f
+pub kept_logged : (m : Matter) → IsValid m → (f : Production) → KeepsProduction m f → CanBeLogged f
 kept_logged m valid f kept = (kept-pressed m valid f kept).logged
 
 -- the row of a production that is kept, and its test
@@ -63,7 +63,7 @@ kept_by m f (Some row) is kept =
     let same : row.production ≡ f = cc in
     (row, same, is)
 
-pub kept_labels : (m : Matter) → IsValid m → (f : Production) → Keeps m f → HasLabels f
+pub kept_labels : (m : Matter) → IsValid m → (f : Production) → KeepsProduction m f → HasLabels f
 kept_labels m valid f kept =
     let logged = kept_logged m valid f kept in
     let row = kept_by m f (find (has_id f) m.productions) refl kept in

@@ -36,9 +36,9 @@ use Rattle.bp_rules.specs.declared.refusals.MatterRefusal.TheVariants as refusal
 use Rattle.bp_cli.specs.declared.stops.Stop.{Stop}
 use Rattle.bp_demo.specs.Demo.{demo_freeze, demo_matter}
 use Rattle.bp_cli.specs.Demo.{DemoAsked}
-use Rattle.bp_cli.specs.Demoing.{DrawsDemo, FreezesHere, FrozeHere}
+use Rattle.bp_cli.specs.DemoSteps.{DrawsDemo, FreezesHere, FrozeHere}
 use Rattle.bp_cli.specs.declared.demo.Drawn.{Drawn}
-use Rattle.bp_cli.specs.Producing.{Freezes, Froze, IsProduced, TellsFrozen}
+use Rattle.bp_cli.specs.ProduceSteps.{Freezes, Froze, IsProduced, TellsFrozen}
 use Rattle.bp_cli.specs.Stops.{StopsForMatter}
 use Rattle.bp_cli.proofs.KeptLemmas.{told_then}
 

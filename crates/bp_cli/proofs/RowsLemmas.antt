@@ -27,7 +27,7 @@ use Rattle.bp_cli.specs.Commands.{ReadsRows}
 use Rattle.bp_cli.specs.Endings.{Ending, Outcome, Uses, world, done, refused, CallsKeeper, KeeperLeft, RowsRead, Ends, untouched, partly, wholly}
 use Rattle.bp_cli.specs.Kept.{RowsOutcome}
 use Rattle.bp_cli.specs.Produce.{frozen_gives, produce_gives, volume_done, volume_line}
-use Rattle.bp_cli.specs.Producing.{Freezes, Froze, PutsVolume}
+use Rattle.bp_cli.specs.ProduceSteps.{Freezes, Froze, PutsVolume}
 use Rattle.bp_cli.specs.Stops.{StopsForMatter}
 use Rattle.bp_cli.proofs.CalmLemmas.{IsCalm, freeze_calm}
 use Rattle.bp_cli.proofs.KeptLemmas.{as_loaded, by_stop, count_left, keeps_matter, kept_matter, kept_rule, load_calls, load_calm, load_left, quiet_calls, read_itself, read_left, read_same, stays_left, step_calls}

@@ -12,10 +12,10 @@ use Rattle.bp_outside.specs.declared.files.FileRow.{FileRow}
 use Rattle.bp_cli.specs.declared.stops.Stop.TheVariants as stops
 use Rattle.bp_cli.specs.Endings as outcomes
 use Rattle.bp_press.specs.Writing.{AddsPart, with_files}
-use Rattle.bp_cli.specs.Endings.{Outcome, Ending, World, LacksMemory, untouched, kept, partly, wholly, with_rows, status_of, text_of, refused_line, failed_folder}
+use Rattle.bp_cli.specs.Endings.{Outcome, Ending, World, LacksMemory, untouched, kept, partly, wholly, world_with_rows, status_of, ending_text, refused_line, failed_folder}
 use Rattle.bp_cli.specs.Commands.{CommandLine, Inputs, uses_of, IsOutcome, ComesTo, AreKnown, AlikeFor, ShowAlike, Works, ReadsAndWorks, uses_by}
 use Rattle.bp_cli.specs.Printing.{Prints, whole, cut, lacking, instead}
-use Rattle.bp_cli.specs.Runs.{Outside, Tells, Asks, Completes, SourceFailed, FolderFailed, KeeperFailed, InputsServed, NoneFailed, AreSure, Ended, RanShort, WasCut, Gives, IsAmong, outcome_status, outcome_files, nothing_added, part_added, all_added, GivesFirst, Promises, Runs}
+use Rattle.bp_cli.specs.Runs.{Outside, Tells, AsksCommand, Completes, SourceFaultRose, FolderFaultRose, KeeperFaultRose, InputsServed, NoneFailed, AreSure, WorkEnded, RanShort, OutWasCut, GivesOutcome, IsAmong, outcome_status, outcome_files, nothing_added, part_added, all_added, GivesFirst, Promises, RunsOverRows}
 use Rattle.bp_cli.proofs.StatusLemmas.{rose_at, whole_of, out_rose, out_sure, among_three, among_two, status_known, is_done, is_words_refused, is_broken, is_source_fault, is_folder_fault, is_keeper_fault, lacking_part, cut_part}
 
 -- ---- what an ending says
@@ -154,15 +154,15 @@ module _ (one : OneOutcome) (told : ToldOutcome) (c : CommandLine) (before after
 
 -- what came out of a command that ended by its outcome
 module _ (one : OneOutcome) (told : ToldOutcome) (c : CommandLine) (before after : Outside) (inputs : Inputs) (outcome : Outcome) (files : Tells (uses_of c).files before.world.source.files inputs.files) (rows : Tells (uses_of c).rows before.world.keeper.rows inputs.rows) (comes : ComesTo c inputs outcome) where
-  done_gives : (line : List ℕ) → Works (Some c) before.world (Ok line) after.world → after.out ≡ with_written before.out line → Gives outcome before after
+  done_gives : (line : List ℕ) → Works (Some c) before.world (Ok line) after.world → after.out ≡ with_written before.out line → GivesOutcome outcome before after
   done_gives line worked written =
-      subst (λ (o : Outcome). Gives o before after)
+      subst (λ (o : Outcome). GivesOutcome o before after)
       (same_outcome one told c before.world after.world inputs files rows (outcomes.done line worked.files worked.rows) outcome comes worked.outcome)
       (record { files = worked.folder; rows = worked.keeper.rows; printed = written })
 
-  refused_gives : (rule : Rule) → Works (Some c) before.world (Err (stops.Broken rule)) after.world → after.out ≡ with_written before.out (refused_line rule) → Gives outcome before after
+  refused_gives : (rule : Rule) → Works (Some c) before.world (Err (stops.Broken rule)) after.world → after.out ≡ with_written before.out (refused_line rule) → GivesOutcome outcome before after
   refused_gives rule worked written =
-      subst (λ (o : Outcome). Gives o before after)
+      subst (λ (o : Outcome). GivesOutcome o before after)
       (same_outcome one told c before.world after.world inputs files rows (outcomes.refused rule) outcome comes worked.outcome)
       (record { files = worked.folder; rows = worked.keeper.rows; printed = written })
 
@@ -250,91 +250,91 @@ sure_printing text wanted out after status out_is out_law among (instead may is 
 
 -- ---- the promises
 
-module _ (command : Option CommandLine) (before after : Outside) (status : ℕ) (e : Ending) (worked : Works command before.world e after.world) (printed : Prints (text_of e) (status_of e) before.out after.out status) where
+module _ (command : Option CommandLine) (before after : Outside) (status : ℕ) (e : Ending) (worked : Works command before.world e after.world) (printed : Prints (ending_text e) (status_of e) before.out after.out status) where
   Has : Ending → Type 0
-  Has x = Ended command before after x
+  Has x = WorkEnded command before after x
 
   -- an ending that gave its own status was printed whole
   ended : (k : ℕ) → (k ≡ 6 → ⊥) → (k ≡ 7 → ⊥) → status ≡ k → (status_of e ≡ k) × Has e
   unfolding Has
   ended k not_six not_seven at =
-      let w = whole_of (text_of e) (status_of e) before.out after.out status k not_six not_seven printed at in
+      let w = whole_of (ending_text e) (status_of e) before.out after.out status k not_six not_seven printed at in
       (w.0, record { worked = worked; printed = w.1 })
 
-  run_done : status ≡ 0 → (line : List ℕ) × Ended command before after (Ok line)
+  run_done : status ≡ 0 → (line : List ℕ) × WorkEnded command before after (Ok line)
   unfolding Has
   run_done at =
       let w = ended 0 (λ z. omega (arith, z)) (λ z. omega (arith, z)) at in
       let d = is_done e w.0 in
       (d.0, subst Has d.1 w.1)
 
-  run_refused : status ≡ 2 → (rule : Rule) × Ended command before after (Err (stops.Broken rule))
+  run_refused : status ≡ 2 → (rule : Rule) × WorkEnded command before after (Err (stops.Broken rule))
   unfolding Has
   run_refused at =
       let w = ended 2 (λ z. omega (arith, z)) (λ z. omega (arith, z)) at in
       let d = is_broken e w.0 in
       (d.0, subst Has d.1 w.1)
 
-  run_words_refused : status ≡ 1 → (command ≡ None) × Ended command before after (Err stops.WordsRefused)
+  run_words_refused : status ≡ 1 → (command ≡ None) × WorkEnded command before after (Err stops.WordsRefused)
   unfolding Has
   run_words_refused at =
       let w = ended 1 (λ z. omega (arith, z)) (λ z. omega (arith, z)) at in
-      let has : Ended command before after (Err stops.WordsRefused) = subst Has (is_words_refused e w.0) w.1 in
+      let has : WorkEnded command before after (Err stops.WordsRefused) = subst Has (is_words_refused e w.0) w.1 in
       (words_none command before.world after.world has.worked, has)
 
-  run_source_fault : status ≡ 3 → SourceFailed before after × Ended command before after (Err stops.SourceFault)
+  run_source_fault : status ≡ 3 → SourceFaultRose before after × WorkEnded command before after (Err stops.SourceFault)
   unfolding Has
   run_source_fault at =
       let w = ended 3 (λ z. omega (arith, z)) (λ z. omega (arith, z)) at in
-      let has : Ended command before after (Err stops.SourceFault) = subst Has (is_source_fault e w.0) w.1 in
+      let has : WorkEnded command before after (Err stops.SourceFault) = subst Has (is_source_fault e w.0) w.1 in
       (source_rose command before.world after.world has.worked, has)
 
-  run_folder_fault : status ≡ 4 → FolderFailed before after × Ended command before after (Err stops.FolderFault)
+  run_folder_fault : status ≡ 4 → FolderFaultRose before after × WorkEnded command before after (Err stops.FolderFault)
   unfolding Has
   run_folder_fault at =
       let w = ended 4 (λ z. omega (arith, z)) (λ z. omega (arith, z)) at in
-      let has : Ended command before after (Err stops.FolderFault) = subst Has (is_folder_fault e w.0) w.1 in
+      let has : WorkEnded command before after (Err stops.FolderFault) = subst Has (is_folder_fault e w.0) w.1 in
       (folder_rose command before.world after.world has.worked, has)
 
-  run_keeper_fault : status ≡ 5 → KeeperFailed before after × Ended command before after (Err stops.KeeperFault)
+  run_keeper_fault : status ≡ 5 → KeeperFaultRose before after × WorkEnded command before after (Err stops.KeeperFault)
   unfolding Has
   run_keeper_fault at =
       let w = ended 5 (λ z. omega (arith, z)) (λ z. omega (arith, z)) at in
-      let has : Ended command before after (Err stops.KeeperFault) = subst Has (is_keeper_fault e w.0) w.1 in
+      let has : WorkEnded command before after (Err stops.KeeperFault) = subst Has (is_keeper_fault e w.0) w.1 in
       (keeper_rose command before.world after.world has.worked, has)
 
   run_lacking : status ≡ 6 → RanShort command before after
   run_lacking at = record { ending = e; worked = worked; printed = lacking_part e before.out after.out status printed at }
 
-  run_cut : status ≡ 7 → WasCut command before after
+  run_cut : status ≡ 7 → OutWasCut command before after
   run_cut at =
       let c = cut_part e before.out after.out status printed at in
-      record { ending = e; worked = worked; other = c.0; failed = out_rose (text_of e) before.out after.out c.1; printed = c.1 }
+      record { ending = e; worked = worked; other = c.0; failed = out_rose (ending_text e) before.out after.out c.1; printed = c.1 }
 
   run_no_command : command ≡ None → IsAmong status (1 ∷ 6 ∷ 7 ∷ [])
   run_no_command is =
-      among_three (text_of e) (status_of e) before.out after.out status 1 (none_ending command before.world after.world e is worked) printed
+      among_three (ending_text e) (status_of e) before.out after.out status 1 (none_ending command before.world after.world e is worked) printed
 
   -- the work of a command that was asked
   worked_for : (c : CommandLine) → command ≡ Some c → Works (Some c) before.world e after.world
   worked_for c is = subst (λ (o : Option CommandLine). Works o before.world e after.world) is worked
 
-  run_rule_met : OneOutcome → ToldOutcome → (c : CommandLine) (inputs : Inputs) (rule : Rule) → Asks command before c inputs → ComesTo c inputs (outcomes.refused rule) → InputsServed (uses_of c) before after → IsAmong status (2 ∷ 6 ∷ 7 ∷ [])
+  run_rule_met : OneOutcome → ToldOutcome → (c : CommandLine) (inputs : Inputs) (rule : Rule) → AsksCommand command before c inputs → ComesTo c inputs (outcomes.refused rule) → InputsServed (uses_of c) before after → IsAmong status (2 ∷ 6 ∷ 7 ∷ [])
   run_rule_met one told c inputs rule asks met served =
-      among_three (text_of e) (status_of e) before.out after.out status 2
+      among_three (ending_text e) (status_of e) before.out after.out status 2
       (met_ending one told c before.world after.world inputs asks.files asks.rows rule e met (served.source, served.keeper) (worked_for c asks.words)) printed
 
-  run_complete : OneOutcome → SomeOutcome → ToldOutcome → (c : CommandLine) (inputs : Inputs) → Asks command before c inputs → AreKnown c inputs → NoneFailed (uses_of c) before after → Completes c inputs status
+  run_complete : OneOutcome → SomeOutcome → ToldOutcome → (c : CommandLine) (inputs : Inputs) → AsksCommand command before c inputs → AreKnown c inputs → NoneFailed (uses_of c) before after → Completes c inputs status
   run_complete one some told c inputs asks known none =
       let there = some c inputs known in
       record {
         outcome = there.0;
         comes = there.1;
-        among = among_two (text_of e) (status_of e) before.out after.out status (outcome_status there.0) none.out
+        among = among_two (ending_text e) (status_of e) before.out after.out status (outcome_status there.0) none.out
             (full_ending one told c before.world after.world inputs asks.files asks.rows there.0 e there.1 (none.inputs.source, none.inputs.keeper) none.folder (worked_for c asks.words)) printed;
       }
 
-  run_gives : OneOutcome → ToldOutcome → (c : CommandLine) (inputs : Inputs) (outcome : Outcome) → Asks command before c inputs → ComesTo c inputs outcome → (status ≡ 0) ⊎ (status ≡ 2) → Gives outcome before after
+  run_gives : OneOutcome → ToldOutcome → (c : CommandLine) (inputs : Inputs) (outcome : Outcome) → AsksCommand command before c inputs → ComesTo c inputs outcome → (status ≡ 0) ⊎ (status ≡ 2) → GivesOutcome outcome before after
   run_gives one told c inputs outcome asks comes (inl done) =
       let d = run_done done in
       done_gives one told c before after inputs outcome asks.files asks.rows comes d.0 (subst (λ (o : Option CommandLine). Works o before.world (Ok d.0) after.world) asks.words d.1.worked) d.1.printed
@@ -377,9 +377,9 @@ sure_world command before after sure laws = record {
   folder_law = laws.folder;
 }
 
-promises : Outcomes → (command : Option CommandLine) (before after : Outside) (status : ℕ) (e : Ending) → Works command before.world e after.world → Prints (text_of e) (status_of e) before.out after.out status → SureLaws after → Promises command before after status
+promises : Outcomes → (command : Option CommandLine) (before after : Outside) (status : ℕ) (e : Ending) → Works command before.world e after.world → Prints (ending_text e) (status_of e) before.out after.out status → SureLaws after → Promises command before after status
 promises known command before after status e worked printed laws = record {
-  known = status_known (text_of e) e before.out after.out status printed;
+  known = status_known (ending_text e) e before.out after.out status printed;
   done = run_done command before after status e worked printed;
   words_refused = run_words_refused command before after status e worked printed;
   refused = run_refused command before after status e worked printed;
@@ -391,7 +391,7 @@ promises known command before after status e worked printed laws = record {
   no_command = run_no_command command before after status e worked printed;
   rule_met = run_rule_met command before after status e worked printed known.one known.told;
   complete = run_complete command before after status e worked printed known.one known.some known.told;
-  unfailing = λ sure. sure_printing (text_of e) (status_of e) before.out after.out status sure.out laws.out
+  unfailing = λ sure. sure_printing (ending_text e) (status_of e) before.out after.out status sure.out laws.out
       (sure_ending command before.world after.world e (sure_world command before after sure laws) worked) printed;
   alike = λ c inputs inputs' other asks alike comes ended_so.
       let there = known.two c inputs inputs' other alike comes in
@@ -408,10 +408,10 @@ promises known command before after status e worked printed laws = record {
 }
 
 -- over the rows as they were read
-pub runs : Outcomes → (command : Option CommandLine) (before after : Outside) (status : ℕ) (e : Ending) → ReadsAndWorks command before.world e after.world → Prints (text_of e) (status_of e) before.out after.out status → SureLaws after → Runs command before after status
+pub runs : Outcomes → (command : Option CommandLine) (before after : Outside) (status : ℕ) (e : Ending) → ReadsAndWorks command before.world e after.world → Prints (ending_text e) (status_of e) before.out after.out status → SureLaws after → RunsOverRows command before after status
 runs known command before after status e worked printed laws = record {
   read = worked.read;
   rows = worked.rows;
-  left = promises known command (record before { world = with_rows worked.read before.world }) after status e worked.left printed laws;
+  left = promises known command (record before { world = world_with_rows worked.read before.world }) after status e worked.left printed laws;
   calls = worked.calls;
 }

@@ -10,8 +10,8 @@ use Rattle.bp_outside.specs.Out.{OutView}
 use Rattle.bp_outside.specs.Source.{SourceView}
 use Rattle.bp_cli.specs.Commands.{CommandLine, ReadsAsOften}
 use Rattle.bp_cli.specs.Deliver.{DeliverAsked, DeliversOver, office}
-use Rattle.bp_cli.specs.Running.{Asked, DeliversAt, ReadsFor, RunsAsked, RunsOther, desk_side, moment}
-use Rattle.bp_cli.specs.Runs.{Outside, outside, Runs}
+use Rattle.bp_cli.specs.RunWords.{Asked, DeliversAt, ReadsFor, RunsAsked, RunsOther, desk_side, moment}
+use Rattle.bp_cli.specs.Runs.{Outside, outside, RunsOverRows}
 use Rattle.bp_cli.specs.declared.serve.ServeLine.{ServeLine}
 use Rattle.bp_cli.specs.Serve.{ServesOver, hall}
 use Rattle.bp_cli.proofs.WorkLemmas.{never_read}
@@ -41,7 +41,7 @@ asked_to_deliver shows view asked command line (Some x) s s' k f o o' given hand
     (record { delivers = delivers; folder = refl; none = none })
 
 pub asked_command : {D K : Type 0} (shows : D → DoorView) (asked : Option DeliverAsked) (command : Option CommandLine) (kept : Option K) (before : Outside) (after : K → Outside) (given handed : List D) (history : Option (List Made)) (status : ℕ) → None ≡ asked → handed ≡ given → history ≡ None
-    → IsSomeAnd kept (λ x. Runs command before (after x) status)
+    → IsSomeAnd kept (λ x. RunsOverRows command before (after x) status)
     → IsSomeAnd kept (λ x. RunsOther shows asked command (moment before given) history (moment (after x) handed) status)
 asked_command shows asked command None before after given handed history status is same none runs = absurd runs
 asked_command shows asked command (Some x) before after given handed history status is same none runs =

@@ -11,12 +11,12 @@ use Rattle.bp_outside.specs.Door.{DoorView}
 use Rattle.bp_outside.specs.Out.{OutView}
 use Rattle.bp_cli.specs.declared.serve.ServeLine.{ServeLine}
 use Rattle.bp_cli.specs.declared.stops.Stop.TheVariants as stops
-use Rattle.bp_cli.specs.Endings.{Ending, status_of, text_of}
+use Rattle.bp_cli.specs.Endings.{Ending, status_of, ending_text}
 use Rattle.bp_cli.specs.Kept.{MatterAnswers}
 use Rattle.bp_cli.specs.Printing.{Prints, whole, cut, lacking, instead}
 use Rattle.bp_cli.specs.Runs.{IsAmong}
-use Rattle.bp_cli.specs.Serve.{Hall, Serves, ServeEnded, ServeEnds, ServePromises, ServeRanShort, ServeWasCut, ServesOver, serve_statuses, with_read}
-use Rattle.bp_cli.specs.Serving.{HandsOn, ServesWith}
+use Rattle.bp_cli.specs.Serve.{Hall, ServesHall, ServeEnded, ServeEnds, ServePromises, ServeRanShort, ServeWasCut, ServesOver, serve_statuses, with_read}
+use Rattle.bp_cli.specs.ServeSteps.{HandsOn, ServesWith}
 use Rattle.bp_cli.proofs.AlikeLemmas.{RowsLaw, matter_one, rows_answer}
 use Rattle.bp_cli.proofs.RunLemmas.{never_rose}
 use Rattle.bp_cli.proofs.StatusLemmas.{among_three, among_two, cut_part, is_broken, is_done, is_keeper_fault, lacking_part, out_rose, out_sure, rose_at, whole_of}
@@ -39,7 +39,7 @@ module _ {D : Type 0} (shows : D → DoorView) (asked : ServeLine) (before after
   serve_known made (Err stops.FolderFault) worked = absurd worked
 
   -- the rows of a history are those of a matter
-  serves_answer : (rows : List Row) (history : List Made) → before.keeper.rows ≡ Some rows → (serves : Serves shows asked before history after) → MatterAnswers rows (Ok serves.opening)
+  serves_answer : (rows : List Row) (history : List Made) → before.keeper.rows ≡ Some rows → (serves : ServesHall shows asked before history after) → MatterAnswers rows (Ok serves.opening)
   serves_answer rows history told serves =
       rows_answer rows serves.opening serves.valid (subst (λ (o : Option (List Row)). IfSome o (λ there. there ≡ rows_of serves.opening)) told serves.loaded)
 
@@ -95,7 +95,7 @@ pub record SureHall {D : Type 0} (after : Hall D) : Type 0 where
   pub keeper : after.keeper.sure ≡ true → after.keeper.faults ≡ 0
   pub out : after.out.sure ≡ true → after.out.faults ≡ 0
 
-module _ {D : Type 0} (shows : D → DoorView) (asked : ServeLine) (before after : Hall D) (made handed : Option (List Made)) (status : ℕ) (e : Ending) (worked : ServeEnds shows asked before e made after) (printed : Prints (text_of e) (status_of e) before.out after.out status) (hands : HandsOn status made handed) where
+module _ {D : Type 0} (shows : D → DoorView) (asked : ServeLine) (before after : Hall D) (made handed : Option (List Made)) (status : ℕ) (e : Ending) (worked : ServeEnds shows asked before e made after) (printed : Prints (ending_text e) (status_of e) before.out after.out status) (hands : HandsOn status made handed) where
   Has : Ending → Type 0
   Has x = ServeEnded shows asked before handed after x
 
@@ -106,7 +106,7 @@ module _ {D : Type 0} (shows : D → DoorView) (asked : ServeLine) (before after
   serve_ended : (k : ℕ) → (k ≡ 6 → ⊥) → (k ≡ 7 → ⊥) → status ≡ k → (status_of e ≡ k) × Has e
   unfolding Has
   serve_ended k not_six not_seven at =
-      let w = whole_of (text_of e) (status_of e) before.out after.out status k not_six not_seven printed at in
+      let w = whole_of (ending_text e) (status_of e) before.out after.out status k not_six not_seven printed at in
       (w.0, record { worked = works (λ six. not_six (sym at ∙ six)); printed = w.1 })
 
   serve_done : status ≡ 0 → (line : List ℕ) × ServeEnded shows asked before handed after (Ok line)
@@ -137,29 +137,29 @@ module _ {D : Type 0} (shows : D → DoorView) (asked : ServeLine) (before after
   serve_cut at =
       let c = cut_part e before.out after.out status printed at in
       let other : status ≡ 6 → ⊥ = λ six. (let z : 7 ≡ 6 = sym at ∙ six in omega (arith, z)) in
-      record { ending = e; worked = works other; other = c.0; failed = out_rose (text_of e) before.out after.out c.1; printed = c.1 }
+      record { ending = e; worked = works other; other = c.0; failed = out_rose (ending_text e) before.out after.out c.1; printed = c.1 }
 
   pub serve_promises : RowsLaw → SureHall after → ServePromises shows asked before handed after status
   serve_promises law sure = record {
-    known = serve_printing (text_of e) (status_of e) before.out after.out status (serve_known shows asked before after made e worked) printed;
+    known = serve_printing (ending_text e) (status_of e) before.out after.out status (serve_known shows asked before after made e worked) printed;
     done = serve_done;
     refused = serve_refused;
     keeper_fault = serve_keeper_fault;
     lacking = serve_lacking;
     cut = serve_cut;
     rule_met = λ rows rule told breaks calm.
-        among_three (text_of e) (status_of e) before.out after.out status 2
+        among_three (ending_text e) (status_of e) before.out after.out status 2
         (serve_met shows asked before after law rows rule made e worked told breaks calm) printed;
     complete = λ rows m told is calm quiet.
-        among_two (text_of e) (status_of e) before.out after.out status 0 quiet
+        among_two (ending_text e) (status_of e) before.out after.out status 0 quiet
         (serve_full shows asked before after law rows m made e worked told is calm) printed;
     unfailing = λ keeper out.
-        sure_printing (text_of e) (status_of e) before.out after.out status out sure.out
+        sure_printing (ending_text e) (status_of e) before.out after.out status out sure.out
         (serve_sure shows asked before after made e worked keeper sure.keeper) printed;
   }
 
 -- over the rows as they were read
-pub serve_runs : {D : Type 0} (shows : D → DoorView) (asked : ServeLine) (before after : Hall D) (made handed : Option (List Made)) (status : ℕ) (e : Ending) → ServesWith shows asked before e made after → Prints (text_of e) (status_of e) before.out after.out status → HandsOn status made handed → RowsLaw → SureHall after → ServesOver shows asked before handed after status
+pub serve_runs : {D : Type 0} (shows : D → DoorView) (asked : ServeLine) (before after : Hall D) (made handed : Option (List Made)) (status : ℕ) (e : Ending) → ServesWith shows asked before e made after → Prints (ending_text e) (status_of e) before.out after.out status → HandsOn status made handed → RowsLaw → SureHall after → ServesOver shows asked before handed after status
 serve_runs shows asked before after made handed status e works printed hands law sure = record {
   read = works.read;
   rows = works.rows;

@@ -18,8 +18,8 @@ use Rattle.bp_cli.specs.declared.serve.ServeLine.{ServeLine}
 use Rattle.bp_cli.specs.declared.stops.Stop.{Stop}
 use Rattle.bp_cli.specs.declared.stops.Stop.TheVariants as stops
 use Rattle.bp_cli.specs.Endings.{Ending}
-use Rattle.bp_cli.specs.Serve.{Serves, ServeEnds, hall, nobody, unsaid, with_read}
-use Rattle.bp_cli.specs.Serving.{SaysServed, ServesWith}
+use Rattle.bp_cli.specs.Serve.{ServesHall, ServeEnds, hall, nobody, unsaid, with_read}
+use Rattle.bp_cli.specs.ServeSteps.{SaysServed, ServesWith}
 use Rattle.bp_cli.specs.Stops.{StopsForMatter}
 use Rattle.bp_cli.proofs.KeptLemmas.{keeps_matter, kept_rule, load_left, read_itself, rows_itself}
 
@@ -82,7 +82,7 @@ module _ {D : Type 0} (shows : D → DoorView) (asked : ServeLine) (before : Kee
     (served : ServesMatter shows asked.desks asked.connections before given history matter after handed)
     (law : FreezeLaw)
   where
-    serves : Serves shows asked (with_read served.book.keeper.rows (hall before given out)) history
+    serves : ServesHall shows asked (with_read served.book.keeper.rows (hall before given out)) history
         (hall after handed out')
     serves =
         let book = served.book in

@@ -3,9 +3,9 @@ use Rattle.std.proofs.Common.{ℕ, ◌≡◌, ◌≢◌, eqb, List, [], ◌∷�
 use Rattle.std.proofs.lemmas.Bool.{eq-eqb, or_left, or_right}
 use Rattle.bp_core.specs.declared.rules.Rule.{Rule}
 use Rattle.bp_outside.specs.Counts.{risen, Rose}
-use Rattle.bp_outside.specs.Out.{OutView, with_written, WritesPrefix}
+use Rattle.bp_outside.specs.Out.{OutView, with_written, OutWritesPrefix}
 use Rattle.bp_cli.specs.declared.stops.Stop.TheVariants as stops
-use Rattle.bp_cli.specs.Endings.{Ending, status_of, text_of}
+use Rattle.bp_cli.specs.Endings.{Ending, status_of, ending_text}
 use Rattle.bp_cli.specs.Printing.{failed_out, Prints, whole, cut, lacking, instead}
 use Rattle.bp_cli.specs.Runs as parts
 use Rattle.bp_cli.specs.Runs.{IsAmong, PrintsPart, all_statuses}
@@ -30,10 +30,10 @@ whole_of text wanted out after status k not_six not_seven (cut some is part) at 
 whole_of text wanted out after status k not_six not_seven (lacking is part) at = absurd (not_six (sym at ∙ is))
 whole_of text wanted out after status k not_six not_seven (instead may is part) at = absurd (not_six (sym at ∙ is))
 
-pub out_rose : (text : List ℕ) (out after : OutView) → WritesPrefix (failed_out out) text after → Rose out.faults after.faults
+pub out_rose : (text : List ℕ) (out after : OutView) → OutWritesPrefix (failed_out out) text after → Rose out.faults after.faults
 out_rose text out after part = rose_at out.faults after.faults (ap (λ (o : OutView). o.faults) part.written)
 
-pub out_sure : (text : List ℕ) (out after : OutView) → WritesPrefix (failed_out out) text after → after.sure ≡ out.sure
+pub out_sure : (text : List ℕ) (out after : OutView) → OutWritesPrefix (failed_out out) text after → after.sure ≡ out.sure
 out_sure text out after part = ap (λ (o : OutView). o.sure) part.written
 
 -- the status is the wanted one, 6 or 7
@@ -133,14 +133,14 @@ never_seven (Err stops.KeeperFault) at = omega arith
 never_seven (Err stops.OutOfMemory) at = omega arith
 
 -- what was printed where memory ran out
-pub lacking_part : (e : Ending) (out after : OutView) (status : ℕ) → Prints (text_of e) (status_of e) out after status → status ≡ 6 → PrintsPart e out after
-lacking_part e out after status (whole is written) at = parts.own (whole_prefix (text_of e) out after written)
+pub lacking_part : (e : Ending) (out after : OutView) (status : ℕ) → Prints (ending_text e) (status_of e) out after status → status ≡ 6 → PrintsPart e out after
+lacking_part e out after status (whole is written) at = parts.own (whole_prefix (ending_text e) out after written)
 lacking_part e out after status (cut some is part) at = let z : 7 ≡ 6 = sym is ∙ at in absurd (omega (arith, z))
 lacking_part e out after status (lacking is part) at = parts.own part
 lacking_part e out after status (instead may is part) at = parts.instead may part
 
 -- what was printed where the out failed
-pub cut_part : (e : Ending) (out after : OutView) (status : ℕ) → Prints (text_of e) (status_of e) out after status → status ≡ 7 → (status_of e ≢ 6) × WritesPrefix (failed_out out) (text_of e) after
+pub cut_part : (e : Ending) (out after : OutView) (status : ℕ) → Prints (ending_text e) (status_of e) out after status → status ≡ 7 → (status_of e ≢ 6) × OutWritesPrefix (failed_out out) (ending_text e) after
 cut_part e out after status (whole is written) at = absurd (never_seven e (sym is ∙ at))
 cut_part e out after status (cut some is part) at = (some, part)
 cut_part e out after status (lacking is part) at = let z : 6 ≡ 7 = sym is ∙ at in absurd (omega (arith, z))

@@ -12,7 +12,7 @@ use Rattle.bp_core.specs.declared.refusals.OutOfMemory.{OutOfMemory}
 use Rattle.bp_cli.specs.declared.stops.Stop.{Stop}
 use Rattle.bp_cli.specs.declared.stops.Stop.TheVariants as stops
 use Rattle.bp_cli.specs.Words.{word_bytes}
-use Rattle.bp_cli.specs.Endings.{status_of, text_of}
+use Rattle.bp_cli.specs.Endings.{status_of, ending_text}
 use Rattle.bp_cli.specs.Printing.{Prints}
 use Rattle.bp_keep.specs.Keeper.{KeeperView}
 use Rattle.bp_keep_sql.specs.Keeper.{KeptOver, keeper_shown}
@@ -26,7 +26,7 @@ use Rattle.sqlite.specs.declared.error.ErrorCode.TheVariants as codes
 use Rattle.sqlite_trees.specs.declared.store.Store.{Ghosts}
 use Rattle.bp_outside.specs.Untold.{untold_source, untold_folder, untold_out}
 use Rattle.bp_cli.specs.Runs.{Outside, outside}
-use Rattle.bp_cli.specs.Running.{LeavesDoors, Moment, RunsWords, moment}
+use Rattle.bp_cli.specs.RunWords.{LeavesDoors, Moment, RunsWords, moment}
 
 -- the words with the program's name, or the error of the system
 abbrev pub Answer : Type 0
@@ -53,7 +53,7 @@ pub record StopsAtOnce {D : Type 0} (stop : Stop) (before : Moment D)
     (history : Option (List Made)) (after : Moment D) (status : ℕ) : Type 0 where
   pub world : after.outside.world ≡ before.outside.world
   pub leaves : LeavesDoors before history after
-  pub printed : Prints (text_of (Err stop)) (status_of (Err stop)) before.outside.out
+  pub printed : Prints (ending_text (Err stop)) (status_of (Err stop)) before.outside.out
       after.outside.out status
 
 -- what a run promises over the system's answer: what it promises of the words, unless memory to
@@ -106,7 +106,7 @@ stop_unopened _ = stops.KeeperFault
 -- nothing was done, and that was printed
 pub record EndsStopped (stop : Stop) (status : ℕ) : Type 0 where
   pub out : OutView
-  pub printed : Prints (text_of (Err stop)) (status_of (Err stop)) (untold_out 0) out status
+  pub printed : Prints (ending_text (Err stop)) (status_of (Err stop)) (untold_out 0) out status
 
 -- the program ends by a run over the database, which it hands back; or says that there was no memory
 -- for its doors, and hands the database back as it was given

@@ -22,7 +22,7 @@ use Rattle.bp_tiff.specs.Tiff.{tiff_of}
 use Rattle.bp_tiff.specs.Read.{TiffReads, TiffAnswers}
 use Rattle.bp_cli.specs.declared.burn.Burn.{Burn}
 use Rattle.bp_cli.specs.declared.burn.TheConstants.{FILE_LIMIT}
-use Rattle.bp_cli.specs.Words.{number_of, word_of, ◌>>=◌}
+use Rattle.bp_cli.specs.Words.{operand_number, word_of, ◌>>=◌}
 use Rattle.bp_cli.specs.Endings.{Outcome, done, refused, line_of}
 
 -- ---- its line
@@ -46,12 +46,12 @@ form_of word =
     else (if bytes_eq word (codes "g4") then Some G4 else None)
 
 -- the box of four words
-abbrev pub box_of : List ℕ → List ℕ → List ℕ → List ℕ → Option Rect
-box_of left top width height = do
-  l ← number_of left
-  t ← number_of top
-  w ← number_of width
-  h ← number_of height
+abbrev pub box_of_words : List ℕ → List ℕ → List ℕ → List ℕ → Option Rect
+box_of_words left top width height = do
+  l ← operand_number left
+  t ← operand_number top
+  w ← operand_number width
+  h ← operand_number height
   Some (record { left = l; top = t; width = w; height = h })
 
 -- the command line of its operands, box and form
@@ -66,7 +66,7 @@ abbrev pub burn_of : List (List ℕ) → Option BurnLine
 burn_of operands =
     if length operands == 7
     then (do
-      area ← box_of (word_of operands 1) (word_of operands 2) (word_of operands 3)
+      area ← box_of_words (word_of operands 1) (word_of operands 2) (word_of operands 3)
           (word_of operands 4)
       form ← form_of (word_of operands 6)
       Some (line_with operands area form))
@@ -80,8 +80,8 @@ pub record BurnPaths : Type 0 where
   pub to : List ℕ
 
 -- the paths that IN and OUT name, if both name one
-abbrev pub paths_of : BurnLine → Option BurnPaths
-paths_of b = do
+abbrev pub burn_paths : BurnLine → Option BurnPaths
+burn_paths b = do
   from ← path_in b.from
   to ← path_in b.to
   Some (record { from = from; to = to })
@@ -111,8 +111,8 @@ burn_read area (Ok p) = burn_page area p
 burn_read area (Err rule) = Err rule
 
 -- the page that a file holds, or the first rule that is broken before there is one
-abbrev pub FileAnswers : List ℕ → Result Image Rule → Type 0
-FileAnswers bytes answer = elim (nat_lt FILE_LIMIT (length bytes)) [
+abbrev pub PageFileAnswers : List ℕ → Result Image Rule → Type 0
+PageFileAnswers bytes answer = elim (nat_lt FILE_LIMIT (length bytes)) [
   | true ↦ answer ≡ Err (bare_rule kinds.FileTooLong)
   | false ↦ TiffAnswers bytes answer
 ]
@@ -120,7 +120,7 @@ FileAnswers bytes answer = elim (nat_lt FILE_LIMIT (length bytes)) [
 -- the same of what stands at a path
 abbrev pub PathAnswers : Option (List ℕ) → Result Image Rule → Type 0
 PathAnswers None answer = answer ≡ Err (bare_rule kinds.FileAbsent)
-PathAnswers (Some bytes) answer = FileAnswers bytes answer
+PathAnswers (Some bytes) answer = PageFileAnswers bytes answer
 
 -- `burned N`, N the bytes of the file
 abbrev pub counted_line : ℕ → List ℕ
@@ -144,7 +144,7 @@ pub record BurnsAt (b : BurnLine) (paths : BurnPaths) (files : FileMap) (outcome
 
 -- what the command comes to: first IN and OUT are to name paths
 abbrev pub BurnComes : BurnLine → FileMap → Outcome → Type 0
-BurnComes b files outcome = elim (paths_of b) [
+BurnComes b files outcome = elim (burn_paths b) [
   | None ↦ outcome ≡ refused path_refused
   | Some paths ↦ BurnsAt b paths files outcome
 ]
@@ -158,7 +158,7 @@ pub record BurnOutcome (b : BurnLine) (told : Option FileMap) (outcome : Outcome
 -- ---- what it withholds: what the box covers
 
 -- a file that can be read stands at the path that a text names, and holds this page
-pub record HasPage (files : FileMap) (text : List ℕ) (page : Image) : Type 0 where
+pub record HoldsPageAt (files : FileMap) (text : List ℕ) (page : Image) : Type 0 where
   pub path : List ℕ
   pub named : path_in text ≡ Some path
   pub bytes : List ℕ
@@ -171,6 +171,6 @@ pub record HasPage (files : FileMap) (text : List ℕ) (page : Image) : Type 0 w
 pub record BurnAlike (b : BurnLine) (files files' : FileMap) : Type 0 where
   pub page : Image
   pub page' : Image
-  pub has : HasPage files b.from page
-  pub has' : HasPage files' b.from page'
+  pub has : HoldsPageAt files b.from page
+  pub has' : HoldsPageAt files' b.from page'
   pub agree : AgreeOutside (b.area ∷ []) page page'

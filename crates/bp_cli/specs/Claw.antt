@@ -21,7 +21,7 @@ use Rattle.bp_cli.specs.declared.claw.ClawLine.{ClawLine}
 use Rattle.bp_cli.specs.declared.claw.TheConstants.{CLAW_WORDS}
 use Rattle.bp_cli.specs.Endings.{Outcome, done, refused}
 use Rattle.bp_cli.specs.Kept.{CanBeLoaded, MatterAnswers, OfTwo}
-use Rattle.bp_cli.specs.NamedFiles.{FileAnswers}
+use Rattle.bp_cli.specs.NamedFiles.{NamedFileAnswers}
 use Rattle.bp_cli.specs.Press.{KeepSame, kept_gives}
 use Rattle.bp_cli.specs.Produce.{labels_told, numbers_told}
 use Rattle.bp_cli.specs.Words.{word_of}
@@ -96,7 +96,7 @@ pub record ClawOutcome (asked : ClawAsked) (files : Option FileMap) (rows : Opti
   pub loaded : CanBeLoaded tables
   pub kept : IfSome rows (λ there. MatterAnswers there tables)
   pub file : Result (List ℕ) Rule
-  pub found : FileAnswers files asked.notice file
+  pub found : NamedFileAnswers files asked.notice file
   pub gives : claw_gives asked tables file ≡ outcome
 
 -- ---- what it withholds
@@ -109,7 +109,7 @@ pub record ShowSameBut (asked : ClawAsked) (files : FileMap) (m n : Matter) : Ty
   pub taken : is_taken m.productions asked.volume ≡ is_taken n.productions asked.volume
   pub shown : (f : Production) (bytes : List ℕ) (notice : List Claim)
       → kept_production m.productions asked.id ≡ Some f
-      → FileAnswers (Some files) asked.notice (Ok bytes)
+      → NamedFileAnswers (Some files) asked.notice (Ok bytes)
       → notice_of bytes ≡ Ok notice
       → AgreeBut f notice m n
 

@@ -16,7 +16,7 @@ use Rattle.bp_cli.specs.declared.commands.Command.{Command}
 use Rattle.bp_cli.specs.declared.commands.Command.TheVariants as commands
 use Rattle.bp_cli.specs.declared.stops.Stop.TheVariants as stops
 use Rattle.bp_cli.specs.Words.{is_bad_word}
-use Rattle.bp_cli.specs.Endings.{Outcome, Ending, World, Uses, CallsKeeper, RowsRead, with_rows, Ends}
+use Rattle.bp_cli.specs.Endings.{Outcome, Ending, World, Uses, CallsKeeper, RowsRead, world_with_rows, Ends}
 use Rattle.bp_cli.specs.Endings.{done, refused}
 use Rattle.bp_cli.specs.Burn.{BurnLine, burn_seen, burn_of, BurnComes, BurnOutcome, BurnAlike}
 use Rattle.bp_cli.specs.Check.{CheckOutcome, check_named, check_seen}
@@ -26,7 +26,7 @@ use Rattle.bp_cli.specs.Import.{batch_named, ImportOutcome}
 use Rattle.bp_cli.specs.Init.{init_of, init_gives, InitOutcome}
 use Rattle.bp_cli.specs.Kept.{MatterAnswers, OfTwo, RowsOutcome}
 use Rattle.bp_cli.specs.Press.{KeepSame, ShowSame, id_named, log_gives, press_gives}
-use Rattle.bp_cli.specs.Produce.{FrozenAlike, KeptAlike, produce_gives, request_of}
+use Rattle.bp_cli.specs.Produce.{FrozenAlike, KeptAlike, produce_gives, request_of_words}
 
 -- a command with its operands
 pub data CommandLine : Type 0 where
@@ -59,7 +59,7 @@ named_command (name ∷ operands) =
     if bytes_eq name (codes "burn") then option_map burn (burn_of operands)
     else (if bytes_eq name (codes "init") then option_map init (init_of operands)
     else (if bytes_eq name (codes "import") then option_map import (batch_named operands)
-    else (if bytes_eq name (codes "produce") then option_map produce (request_of operands)
+    else (if bytes_eq name (codes "produce") then option_map produce (request_of_words operands)
     else (if bytes_eq name (codes "press") then option_map press (id_named operands)
     else (if bytes_eq name (codes "log") then option_map log (id_named operands)
     else (if bytes_eq name (codes "check") then option_map check (check_named operands)
@@ -199,7 +199,7 @@ Works (Some c) before ending after = Ends (uses_of c) (IsOutcome c before) befor
 pub record ReadsRows (uses : Uses) (Left : World → Type 0) (before after : World) : Type 0 where
   pub read : Option (List Row)
   pub rows : RowsRead before.keeper.rows read after.keeper.rows
-  pub left : Left (with_rows read before)
+  pub left : Left (world_with_rows read before)
   pub calls : CallsKeeper uses before.keeper after.keeper
 
 -- a command works over the rows as it reads them

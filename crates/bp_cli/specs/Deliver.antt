@@ -12,7 +12,7 @@ use Rattle.bp_matter.specs.Matter.{Matter}
 use Rattle.bp_matter.specs.Valid.{IsValid}
 use Rattle.bp_outside.specs.Counts.{Rose}
 use Rattle.bp_outside.specs.Door.{DoorView}
-use Rattle.bp_outside.specs.Out.{OutView, with_written, WritesPrefix}
+use Rattle.bp_outside.specs.Out.{OutView, with_written, OutWritesPrefix}
 use Rattle.bp_outside.specs.Source.{FileMap, SourceView}
 use Rattle.bp_receiver.specs.EventServing.{DeliversDoor, desk_view}
 use Rattle.bp_receiver.specs.Events.{Holding}
@@ -25,13 +25,13 @@ use Rattle.bp_cli.specs.declared.deliver.DeliverLine.{DeliverLine}
 use Rattle.bp_cli.specs.declared.deliver.TheConstants.{DELIVER_WORDS}
 use Rattle.bp_cli.specs.declared.statuses.TheConstants.{DONE, RULE_BROKEN, SOURCE_FAULT, KEEPER_FAULT, OUT_OF_MEMORY, OUT_FAULT}
 use Rattle.bp_cli.specs.declared.stops.Stop.TheVariants as stops
-use Rattle.bp_cli.specs.Endings.{Ending, KeeperLeft, RowsRead, failed_source, line_of, status_of, text_of}
+use Rattle.bp_cli.specs.Endings.{Ending, KeeperLeft, RowsRead, failed_source, line_of, status_of, ending_text}
 use Rattle.bp_cli.specs.Kept.{CanBeLoaded, MatterAnswers}
-use Rattle.bp_cli.specs.NamedFiles.{FileAnswers}
+use Rattle.bp_cli.specs.NamedFiles.{NamedFileAnswers}
 use Rattle.bp_cli.specs.Printing.{failed_out}
 use Rattle.bp_cli.specs.Runs.{IsAmong, PrintsPart}
 use Rattle.bp_cli.specs.Serve.{is_connections}
-use Rattle.bp_cli.specs.Words.{is_bad_word, number_of, word_of, ◌>>=◌}
+use Rattle.bp_cli.specs.Words.{is_bad_word, operand_number, word_of, ◌>>=◌}
 
 -- ---- its line
 
@@ -53,7 +53,7 @@ deliver_asked grants n =
 abbrev pub deliver_named : List ℕ → List ℕ → List ℕ → Option DeliverAsked
 deliver_named name connections grants =
     if bytes_eq name (codes "deliver")
-    then (number_of connections >>= deliver_asked grants)
+    then (operand_number connections >>= deliver_asked grants)
     else None
 
 -- the same of words of which none is empty or begins with `-`, where there is a door
@@ -81,15 +81,15 @@ opened_by m (Err rule) = Err rule
 opened_by m (Ok rows) = desk_with m (grant_each m [] 1 rows)
 
 -- the records of a file that was read
-abbrev pub records_of : Result (List ℕ) Rule → Result (List Grant) Rule
-records_of (Ok bytes) = grants_in bytes
-records_of (Err rule) = Err rule
+abbrev pub grant_records : Result (List ℕ) Rule → Result (List Grant) Rule
+grant_records (Ok bytes) = grants_in bytes
+grant_records (Err rule) = Err rule
 
 -- the desk of the matter of the rows and of the file of grants; or the first rule: of the rows, of the
 -- file, of its records, of the grants in turn
 abbrev pub opening_of : Result Matter Rule → Result (List ℕ) Rule → Result Holding Rule
 opening_of (Err rule) file = Err rule
-opening_of (Ok m) file = opened_by m (records_of file)
+opening_of (Ok m) file = opened_by m (grant_records file)
 
 -- what is known of all that delivering touches: the door is the one that is served
 pub record Office : Type 0 where
@@ -104,13 +104,13 @@ office source keeper door out =
     record { source = source; keeper = keeper; door = door; out = out }
 
 -- what the desk opens with, by the rows and the files that are told; where they aren't, by some
-pub record Opens (asked : DeliverAsked) (before : Office) (answer : Result Holding Rule)
+pub record OpensHolding (asked : DeliverAsked) (before : Office) (answer : Result Holding Rule)
     : Type 0 where
   pub tables : Result Matter Rule
   pub loaded : CanBeLoaded tables
   pub kept : IfSome before.keeper.rows (λ rows. MatterAnswers rows tables)
   pub file : Result (List ℕ) Rule
-  pub found : FileAnswers before.source.files asked.grants file
+  pub found : NamedFileAnswers before.source.files asked.grants file
   pub gives : opening_of tables file ≡ answer
 
 -- ---- what it leaves
@@ -129,10 +129,10 @@ pub record HasLoaded (before after : KeeperView) : Type 0 where
 -- The desk was opened, and the door served at it: its new exchanges use up the events that were made,
 -- so many, and the desk holds what they make of it. The rows that stand are those of the matter after
 -- them. What receivers learn of it, in wants and in whole lists of events, is by both laws.
-pub record Delivers (asked : DeliverAsked) (before : Office) (count : ℕ) (after : Office)
+pub record DeliversEvents (asked : DeliverAsked) (before : Office) (count : ℕ) (after : Office)
     : Type 0 where
   pub opening : Holding
-  pub opens : Opens asked before (Ok opening)
+  pub opens : OpensHolding asked before (Ok opening)
   pub valid : IsValid opening.matter
   pub keeper : KeeperView
   pub loaded : HasLoaded before.keeper keeper
@@ -155,25 +155,25 @@ pub record DeliversNothing (due : SourceView) (count : ℕ) (before after : Offi
 pub data LacksToDeliver (asked : DeliverAsked) (before after : Office) : Type 0 where
   nobody : DeliversNothing before.source before.keeper.faults before after
       → LacksToDeliver asked before after
-  unsaid : (count : ℕ) → Delivers asked before count after → LacksToDeliver asked before after
+  unsaid : (count : ℕ) → DeliversEvents asked before count after → LacksToDeliver asked before after
 
 -- the door was served, and the line tells how many events were made
-pub record Told (asked : DeliverAsked) (before : Office) (line : List ℕ) (after : Office)
+pub record DeliverTold (asked : DeliverAsked) (before : Office) (line : List ℕ) (after : Office)
     : Type 0 where
   pub count : ℕ
-  pub delivers : Delivers asked before count after
+  pub delivers : DeliversEvents asked before count after
   pub said : line ≡ delivered_line count
 
 -- the desk opened with this rule
-pub record Refuses (asked : DeliverAsked) (before : Office) (rule : Rule) (after : Office)
+pub record DeliverRefuses (asked : DeliverAsked) (before : Office) (rule : Rule) (after : Office)
     : Type 0 where
-  pub opens : Opens asked before (Err rule)
+  pub opens : OpensHolding asked before (Err rule)
   pub left : DeliversNothing (after_kind before.source rule.kind) before.keeper.faults before after
 
 -- what the work of deliver leaves, by how it ended
 abbrev pub DeliverEnds : DeliverAsked → Office → Ending → Office → Type 0
-DeliverEnds asked before (Ok line) after = Told asked before line after
-DeliverEnds asked before (Err (stops.Broken rule)) after = Refuses asked before rule after
+DeliverEnds asked before (Ok line) after = DeliverTold asked before line after
+DeliverEnds asked before (Err (stops.Broken rule)) after = DeliverRefuses asked before rule after
 DeliverEnds asked before (Err stops.SourceFault) after =
     DeliversNothing (failed_source before.source) before.keeper.faults before after
 DeliverEnds asked before (Err stops.KeeperFault) after =
@@ -193,7 +193,7 @@ deliver_statuses =
 pub record DeliverEnded (asked : DeliverAsked) (before after : Office) (ending : Ending)
     : Type 0 where
   pub worked : DeliverEnds asked before ending after
-  pub printed : after.out ≡ with_written before.out (text_of ending)
+  pub printed : after.out ≡ with_written before.out (ending_text ending)
 
 -- memory ran out, in the work or in printing
 pub record DeliverRanShort (asked : DeliverAsked) (before after : Office) : Type 0 where
@@ -207,7 +207,7 @@ pub record DeliverWasCut (asked : DeliverAsked) (before after : Office) : Type 0
   pub worked : DeliverEnds asked before ending after
   pub other : status_of ending ≢ OUT_OF_MEMORY
   pub failed : Rose before.out.faults after.out.faults
-  pub printed : WritesPrefix (failed_out before.out) (text_of ending) after.out
+  pub printed : OutWritesPrefix (failed_out before.out) (ending_text ending) after.out
 
 -- rows and files are told, and the desk opens with this over them
 pub record OpensOver (asked : DeliverAsked) (before : Office) (answer : Result Holding Rule)
@@ -219,7 +219,7 @@ pub record OpensOver (asked : DeliverAsked) (before : Office) (answer : Result H
   pub tables : Result Matter Rule
   pub answers : MatterAnswers rows tables
   pub file : Result (List ℕ) Rule
-  pub found : FileAnswers (Some files) asked.grants file
+  pub found : NamedFileAnswers (Some files) asked.grants file
   pub gives : opening_of tables file ≡ answer
 
 -- neither the keeper nor the source failed

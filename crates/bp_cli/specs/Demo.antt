@@ -12,7 +12,7 @@ use Rattle.bp_cli.specs.declared.demo.TheConstants.{DEMO_WORDS}
 use Rattle.bp_cli.specs.Endings.{Outcome, refused}
 use Rattle.bp_cli.specs.Kept.{FirstOutcome}
 use Rattle.bp_cli.specs.Produce.{frozen_gives}
-use Rattle.bp_cli.specs.Words.{number_of, word_of, ◌>>=◌}
+use Rattle.bp_cli.specs.Words.{operand_number, word_of, ◌>>=◌}
 
 -- ---- its line
 
@@ -26,9 +26,9 @@ abbrev pub can_be_drawn : ℕ → Bool
 can_be_drawn pages = nat_le 1 pages && nat_le pages MOST_PAGES
 
 -- PAGES: a number of pages that can be drawn
-abbrev pub pages_of : List ℕ → Option ℕ
-pages_of word = do
-  pages ← number_of word
+abbrev pub demo_pages : List ℕ → Option ℕ
+demo_pages word = do
+  pages ← operand_number word
   if can_be_drawn pages then Some pages else None
 
 -- demo SEED PAGES
@@ -36,8 +36,8 @@ abbrev pub demo_of : List (List ℕ) → Option DemoAsked
 demo_of operands =
     if length operands == DEMO_WORDS
     then (do
-      seed ← number_of (word_of operands 0)
-      pages ← pages_of (word_of operands 1)
+      seed ← operand_number (word_of operands 0)
+      pages ← demo_pages (word_of operands 1)
       Some (record { seed = seed; pages = pages }))
     else None
 

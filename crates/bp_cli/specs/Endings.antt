@@ -54,14 +54,14 @@ abbrev pub refused_line : Rule → List ℕ
 refused_line rule = line_of (codes "refused " ++ rule_text rule)
 
 -- what is printed
-abbrev pub text_of : Ending → List ℕ
-text_of (Ok line) = line
-text_of (Err stops.WordsRefused) = line_of (codes "words refused")
-text_of (Err (stops.Broken rule)) = refused_line rule
-text_of (Err stops.SourceFault) = line_of (codes "source fault")
-text_of (Err stops.FolderFault) = line_of (codes "folder fault")
-text_of (Err stops.KeeperFault) = line_of (codes "keeper fault")
-text_of (Err stops.OutOfMemory) = memory_line
+abbrev pub ending_text : Ending → List ℕ
+ending_text (Ok line) = line
+ending_text (Err stops.WordsRefused) = line_of (codes "words refused")
+ending_text (Err (stops.Broken rule)) = refused_line rule
+ending_text (Err stops.SourceFault) = line_of (codes "source fault")
+ending_text (Err stops.FolderFault) = line_of (codes "folder fault")
+ending_text (Err stops.KeeperFault) = line_of (codes "keeper fault")
+ending_text (Err stops.OutOfMemory) = memory_line
 
 -- ---- what is left
 
@@ -82,8 +82,8 @@ pub record RowsRead (before read after : Option (List Row)) : Type 0 where
   pub told : IfSome after (λ _. IsTrue (is_some read))
 
 -- what is known, with the rows as they were read
-abbrev pub with_rows : Option (List Row) → World → World
-with_rows read w = record w { keeper = record w.keeper { rows = read } }
+abbrev pub world_with_rows : Option (List Row) → World → World
+world_with_rows read w = record w { keeper = record w.keeper { rows = read } }
 
 -- which inputs a command uses: the files of the source, and the rows of the keeper; and whether it may
 -- commit rows

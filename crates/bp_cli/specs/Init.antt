@@ -22,13 +22,13 @@ abbrev pub is_low_hex : ℕ → Bool
 is_low_hex c = is_ascii_digit c || (nat_le 97 c && nat_le c 102)
 
 -- KEYDIGEST: 64 such characters, the high four bits of each of 32 bytes first
-abbrev pub digest_of : List ℕ → Option (List ℕ)
-digest_of word =
+abbrev pub key_digest_of : List ℕ → Option (List ℕ)
+key_digest_of word =
     if list_all is_low_hex word then result_ok (decode_sized word DIGEST_BYTES) else None
 
 -- init KEYDIGEST: the one operand is the SHA-256 of the lead's key
 abbrev pub init_of : List (List ℕ) → Option (List ℕ)
-init_of operands = if length operands == 1 then digest_of (word_of operands 0) else None
+init_of operands = if length operands == 1 then key_digest_of (word_of operands 0) else None
 
 -- ---- what it comes to
 

@@ -10,9 +10,9 @@ use Rattle.bp_cli.specs.declared.burn.TheConstants.{FILE_LIMIT}
 use Rattle.bp_cli.specs.Burn.{path_refused}
 
 -- what is read where a file stands or doesn't
-abbrev pub file_read : Option (List ℕ) → Result (List ℕ) Rule
-file_read None = Err (bare_rule FileAbsent)
-file_read (Some bytes) =
+abbrev pub named_file_read : Option (List ℕ) → Result (List ℕ) Rule
+named_file_read None = Err (bare_rule FileAbsent)
+named_file_read (Some bytes) =
     if nat_lt FILE_LIMIT (length bytes) then Err (bare_rule FileTooLong) else Ok bytes
 
 -- what is read at a path, over the files that are told; where they aren't, over some
@@ -20,7 +20,7 @@ pub record FileAt (path : List ℕ) (told : Option FileMap) (answer : Result (Li
     : Type 0 where
   pub found : Option (List ℕ)
   pub there : IfSome told (λ files. map.get files path ≡ found)
-  pub read : file_read found ≡ answer
+  pub read : named_file_read found ≡ answer
 
 -- what is read at the path that a word names, if it names one
 abbrev pub FileNamed : Option FileMap → Option (List ℕ) → Result (List ℕ) Rule → Type 0
@@ -28,5 +28,5 @@ FileNamed told None answer = answer ≡ Err path_refused
 FileNamed told (Some path) answer = FileAt path told answer
 
 -- the same of the word
-abbrev pub FileAnswers : Option FileMap → List ℕ → Result (List ℕ) Rule → Type 0
-FileAnswers told named answer = FileNamed told (path_in named) answer
+abbrev pub NamedFileAnswers : Option FileMap → List ℕ → Result (List ℕ) Rule → Type 0
+NamedFileAnswers told named answer = FileNamed told (path_in named) answer

@@ -1,7 +1,7 @@
 -- How the text of an ending is printed.
 use Rattle.std.specs.Prelude.{ℕ, ◌≡◌, ◌≢◌, ◌⊎◌, List, take}
 use Rattle.bp_outside.specs.Counts.{risen}
-use Rattle.bp_outside.specs.Out.{OutView, with_written, WritesPrefix}
+use Rattle.bp_outside.specs.Out.{OutView, with_written, OutWritesPrefix}
 use Rattle.bp_cli.specs.declared.statuses.TheConstants.{RULE_BROKEN, OUT_OF_MEMORY, OUT_FAULT}
 use Rattle.bp_cli.specs.Endings.{memory_line}
 
@@ -24,10 +24,10 @@ pub data Prints (text : List ℕ) (wanted : ℕ) (out after : OutView) (status :
   -- whole
   whole : status ≡ wanted → after ≡ with_written out text → Prints text wanted out after status
   -- up to a fault, in place of any status but that of want of memory
-  cut : wanted ≢ OUT_OF_MEMORY → status ≡ OUT_FAULT → WritesPrefix (failed_out out) text after
+  cut : wanted ≢ OUT_OF_MEMORY → status ≡ OUT_FAULT → OutWritesPrefix (failed_out out) text after
       → Prints text wanted out after status
   -- up to where memory ran out
-  lacking : status ≡ OUT_OF_MEMORY → WritesPrefix out text after
+  lacking : status ≡ OUT_OF_MEMORY → OutWritesPrefix out text after
       → Prints text wanted out after status
   -- not at all, since memory for the line lacked: that it ran out was printed, as far as it went
   instead : MayLackItsLine wanted → status ≡ OUT_OF_MEMORY → WritesPart memory_line out after

@@ -21,7 +21,7 @@ use Rattle.bp_press.specs.Volume.{volume_of}
 use Rattle.bp_press.specs.Pressed.{pressed_of}
 use Rattle.bp_press.specs.declared.pressing.Pressed.{Pressed}
 use Rattle.bp_cli.specs.declared.produce.TheConstants.{MAX_WIDTH_WORD, REQUEST_WORDS}
-use Rattle.bp_cli.specs.Words.{number_of, word_of, ◌>>=◌}
+use Rattle.bp_cli.specs.Words.{operand_number, word_of, ◌>>=◌}
 use Rattle.bp_cli.specs.Endings.{Outcome, done, refused, line_of}
 use Rattle.bp_cli.specs.Kept.{OfTwo}
 
@@ -30,7 +30,7 @@ use Rattle.bp_cli.specs.Kept.{OfTwo}
 -- the width of labels
 abbrev pub width_of : List ℕ → Option ℕ
 width_of word = do
-  width ← number_of word
+  width ← operand_number word
   if nat_le width MAX_WIDTH_WORD then Some width else None
 
 -- the texts of a request as characters
@@ -45,13 +45,13 @@ request_with operands width from to = record {
 }
 
 -- produce ID VOLUME PREFIX WIDTH FROM TO, and any number of fields
-abbrev pub request_of : List (List ℕ) → Option Request
-request_of operands =
+abbrev pub request_of_words : List (List ℕ) → Option Request
+request_of_words operands =
     if nat_le REQUEST_WORDS (length operands)
     then (do
       width ← width_of (word_of operands 3)
-      from ← number_of (word_of operands 4)
-      to ← number_of (word_of operands 5)
+      from ← operand_number (word_of operands 4)
+      to ← operand_number (word_of operands 5)
       Some (request_with operands width from to))
     else None
 

@@ -7,7 +7,7 @@ use Rattle.bp_core.specs.declared.rules.Rule.{Rule}
 use Rattle.bp_outside.specs.Counts.{Rose}
 use Rattle.bp_outside.specs.Source.{SourceView}
 use Rattle.bp_outside.specs.Folder.{FolderView}
-use Rattle.bp_outside.specs.Out.{OutView, with_written, WritesPrefix}
+use Rattle.bp_outside.specs.Out.{OutView, with_written, OutWritesPrefix}
 use Rattle.bp_outside.specs.declared.files.FileRow.{FileRow}
 use Rattle.bp_keep.specs.Keeper.{KeeperView}
 use Rattle.bp_cli.specs.declared.stops.Stop.TheVariants as stops
@@ -17,7 +17,7 @@ use Rattle.bp_cli.specs.declared.statuses.TheConstants.{OUT_OF_MEMORY, OUT_FAULT
 use Rattle.bp_cli.specs.Endings as outcomes
 use Rattle.bp_press.specs.Writing.{AddsPart, with_files}
 use Rattle.bp_cli.specs.Endings.{Outcome, Ending, World, world, Uses, RowsLeft}
-use Rattle.bp_cli.specs.Endings.{status_of, text_of, failed_folder, memory_line, refused_line}
+use Rattle.bp_cli.specs.Endings.{status_of, ending_text, failed_folder, memory_line, refused_line}
 use Rattle.bp_cli.specs.Commands.{CommandLine, Inputs, uses_of, uses_by, ComesTo, AreKnown, AlikeFor}
 use Rattle.bp_cli.specs.Commands.{ShowAlike, Works, ReadsRows}
 use Rattle.bp_cli.specs.Printing.{failed_out, MayLackItsLine, WritesPart}
@@ -39,38 +39,38 @@ Tells true told value = told ≡ Some value
 Tells false told value = Unit {0}
 
 -- the words are this command, and the outside tells these inputs, as far as the command uses them
-pub record Asks (command : Option CommandLine) (before : Outside)
+pub record AsksCommand (command : Option CommandLine) (before : Outside)
     (c : CommandLine) (inputs : Inputs) : Type 0 where
   pub words : command ≡ Some c
   pub files : Tells (uses_of c).files before.world.source.files inputs.files
   pub rows : Tells (uses_of c).rows before.world.keeper.rows inputs.rows
 
 -- a count of faults rose in between
-abbrev pub SourceFailed : Outside → Outside → Type 0
-SourceFailed before after = Rose before.world.source.faults after.world.source.faults
+abbrev pub SourceFaultRose : Outside → Outside → Type 0
+SourceFaultRose before after = Rose before.world.source.faults after.world.source.faults
 
 -- the keeper's count of faults rose
-abbrev pub KeeperFailed : Outside → Outside → Type 0
-KeeperFailed before after = Rose before.world.keeper.faults after.world.keeper.faults
+abbrev pub KeeperFaultRose : Outside → Outside → Type 0
+KeeperFaultRose before after = Rose before.world.keeper.faults after.world.keeper.faults
 
 -- the folder's count of faults rose
-abbrev pub FolderFailed : Outside → Outside → Type 0
-FolderFailed before after = Rose before.world.folder.faults after.world.folder.faults
+abbrev pub FolderFaultRose : Outside → Outside → Type 0
+FolderFaultRose before after = Rose before.world.folder.faults after.world.folder.faults
 
 -- the out's count of faults rose
-abbrev pub OutFailed : Outside → Outside → Type 0
-OutFailed before after = Rose before.out.faults after.out.faults
+abbrev pub OutFaultRose : Outside → Outside → Type 0
+OutFaultRose before after = Rose before.out.faults after.out.faults
 
 -- no input that is used failed
 pub record InputsServed (uses : Uses) (before after : Outside) : Type 0 where
-  pub source : IsTrue uses.files → ¬ SourceFailed before after
-  pub keeper : IsTrue uses.rows → ¬ KeeperFailed before after
+  pub source : IsTrue uses.files → ¬ SourceFaultRose before after
+  pub keeper : IsTrue uses.rows → ¬ KeeperFaultRose before after
 
 -- and neither the folder nor the out
 pub record NoneFailed (uses : Uses) (before after : Outside) : Type 0 where
   pub inputs : InputsServed uses before after
-  pub folder : ¬ FolderFailed before after
-  pub out : ¬ OutFailed before after
+  pub folder : ¬ FolderFaultRose before after
+  pub out : ¬ OutFaultRose before after
 
 -- no object that is used can fail
 pub record AreSure (uses : Uses) (before : Outside) : Type 0 where
@@ -80,15 +80,15 @@ pub record AreSure (uses : Uses) (before : Outside) : Type 0 where
   pub out : before.out.sure ≡ true
 
 -- the work ended so, and its text was printed whole
-pub record Ended (command : Option CommandLine) (before after : Outside)
+pub record WorkEnded (command : Option CommandLine) (before after : Outside)
     (ending : Ending) : Type 0 where
   pub worked : Works command before.world ending after.world
-  pub printed : after.out ≡ with_written before.out (text_of ending)
+  pub printed : after.out ≡ with_written before.out (ending_text ending)
 
 -- a prefix of the text of an ending was printed, or of the line that says that memory ran out where
 -- the ending's own line may have lacked it
 pub data PrintsPart (ending : Ending) (out after : OutView) : Type 0 where
-  own : WritesPrefix out (text_of ending) after → PrintsPart ending out after
+  own : OutWritesPrefix out (ending_text ending) after → PrintsPart ending out after
   instead : MayLackItsLine (status_of ending) → WritesPart memory_line out after
       → PrintsPart ending out after
 
@@ -99,24 +99,26 @@ pub record RanShort (command : Option CommandLine) (before after : Outside) : Ty
   pub printed : PrintsPart ending before.out after.out
 
 -- the out failed: all but what was printed is as the ending says
-pub record WasCut (command : Option CommandLine) (before after : Outside) : Type 0 where
+pub record OutWasCut (command : Option CommandLine) (before after : Outside) : Type 0 where
   pub ending : Ending
   pub worked : Works command before.world ending after.world
   pub other : status_of ending ≢ OUT_OF_MEMORY
-  pub failed : OutFailed before after
-  pub printed : WritesPrefix (failed_out before.out) (text_of ending) after.out
+  pub failed : OutFaultRose before after
+  pub printed : OutWritesPrefix (failed_out before.out) (ending_text ending) after.out
 
 -- the folder got these files, these rows are kept, or those from before, and this text was printed
-pub record Leaves (added : List FileRow) (kept : Option (List Row)) (text : List ℕ)
+pub record LeavesOutside (added : List FileRow) (kept : Option (List Row)) (text : List ℕ)
     (before after : Outside) : Type 0 where
   pub files : after.world.folder ≡ with_files before.world.folder added
   pub rows : RowsLeft kept before.world.keeper.rows after.world.keeper.rows
   pub printed : after.out ≡ with_written before.out text
 
 -- folder, keeper and out got what the outcome says, and nothing else
-abbrev pub Gives : Outcome → Outside → Outside → Type 0
-Gives (outcomes.done line files rows) before after = Leaves files rows line before after
-Gives (outcomes.refused rule) before after = Leaves [] None (refused_line rule) before after
+abbrev pub GivesOutcome : Outcome → Outside → Outside → Type 0
+GivesOutcome (outcomes.done line files rows) before after =
+    LeavesOutside files rows line before after
+GivesOutcome (outcomes.refused rule) before after =
+    LeavesOutside [] None (refused_line rule) before after
 
 -- the status of an outcome
 abbrev pub outcome_status : Outcome → ℕ
@@ -133,7 +135,7 @@ pub record GivesAlike (c : CommandLine) (inputs : Inputs) (other : Outcome)
   pub outcome : Outcome
   pub comes : ComesTo c inputs outcome
   pub same : ShowAlike c outcome other
-  pub gives : Gives outcome before after
+  pub gives : GivesOutcome outcome before after
 
 -- the files of an outcome; a rule has none
 abbrev pub outcome_files : Outcome → List FileRow
@@ -141,17 +143,17 @@ outcome_files (outcomes.done line files rows) = files
 outcome_files (outcomes.refused rule) = []
 
 -- a folder got none of these files; or some, and a part of the next; or all
-pub data AddsFirst (before : FolderView) (files : List FileRow)
+pub data GetsFirst (before : FolderView) (files : List FileRow)
     (after : FolderView) : Type 0 where
-  nothing_added : after ≡ before → AddsFirst before files after
-  part_added : AddsPart before files after → AddsFirst before files after
-  all_added : after ≡ with_files before files → AddsFirst before files after
+  nothing_added : after ≡ before → GetsFirst before files after
+  part_added : AddsPart before files after → GetsFirst before files after
+  all_added : after ≡ with_files before files → GetsFirst before files after
 
 -- the folder got a first part of these files, whether or not it failed, and nothing else
 pub record GivesFirst (files : List FileRow) (before after : FolderView) : Type 0 where
   pub folder : FolderView
   pub failed : (folder ≡ before) ⊎ (folder ≡ failed_folder before)
-  pub adds : AddsFirst folder files after
+  pub adds : GetsFirst folder files after
 
 -- there is an outcome, and the status is its own, or that memory ran out
 pub record Completes (c : CommandLine) (inputs : Inputs) (status : ℕ) : Type 0 where
@@ -175,21 +177,21 @@ pub record Promises (command : Option CommandLine) (before after : Outside)
   -- ---- what each status says of source, keeper, folder and what was printed
 
   pub done : status ≡ DONE
-      → (line : List ℕ) × Ended command before after (Ok line)
+      → (line : List ℕ) × WorkEnded command before after (Ok line)
   pub words_refused : status ≡ WORDS_REFUSED
-      → (command ≡ None) × Ended command before after (Err stops.WordsRefused)
+      → (command ≡ None) × WorkEnded command before after (Err stops.WordsRefused)
   pub refused : status ≡ RULE_BROKEN
-      → (rule : Rule) × Ended command before after (Err (stops.Broken rule))
+      → (rule : Rule) × WorkEnded command before after (Err (stops.Broken rule))
   pub source_fault : status ≡ SOURCE_FAULT
-      → SourceFailed before after × Ended command before after (Err stops.SourceFault)
+      → SourceFaultRose before after × WorkEnded command before after (Err stops.SourceFault)
   pub folder_fault : status ≡ FOLDER_FAULT
-      → FolderFailed before after × Ended command before after (Err stops.FolderFault)
+      → FolderFaultRose before after × WorkEnded command before after (Err stops.FolderFault)
   pub keeper_fault : status ≡ KEEPER_FAULT
-      → KeeperFailed before after × Ended command before after (Err stops.KeeperFault)
+      → KeeperFaultRose before after × WorkEnded command before after (Err stops.KeeperFault)
   pub lacking : status ≡ OUT_OF_MEMORY
       → RanShort command before after
   pub cut : status ≡ OUT_FAULT
-      → WasCut command before after
+      → OutWasCut command before after
   -- ---- when a status comes
 
   -- words that are no command give 1, but for want of memory and faults of the out
@@ -198,13 +200,13 @@ pub record Promises (command : Option CommandLine) (before after : Outside)
   -- a rule that is met over told inputs gives 2, but for want of memory and faults of what the
   -- command uses and of the out
   pub rule_met : (c : CommandLine) (inputs : Inputs) (rule : Rule)
-      → Asks command before c inputs
+      → AsksCommand command before c inputs
       → ComesTo c inputs (outcomes.refused rule)
       → InputsServed (uses_of c) before after
       → IsAmong status (RULE_BROKEN ∷ OUT_OF_MEMORY ∷ OUT_FAULT ∷ [])
   -- completeness: over told inputs, where nothing failed, the status is that of the outcome, or 6
   pub complete : (c : CommandLine) (inputs : Inputs)
-      → Asks command before c inputs
+      → AsksCommand command before c inputs
       → AreKnown c inputs
       → NoneFailed (uses_of c) before after
       → Completes c inputs status
@@ -217,7 +219,7 @@ pub record Promises (command : Option CommandLine) (before after : Outside)
   -- command withholds: the same line and the same files, or the same rule; and after `produce` both
   -- keep the same production
   pub alike : (c : CommandLine) (inputs inputs' : Inputs) (other : Outcome)
-      → Asks command before c inputs
+      → AsksCommand command before c inputs
       → AlikeFor c inputs inputs'
       → ComesTo c inputs' other
       → (status ≡ DONE) ⊎ (status ≡ RULE_BROKEN)
@@ -225,14 +227,14 @@ pub record Promises (command : Option CommandLine) (before after : Outside)
   -- and whatever the status is, also where a fault or want of memory cut the work: what the folder
   -- got is a first part of the files of each such outcome
   pub alike_part : (c : CommandLine) (inputs inputs' : Inputs) (other : Outcome)
-      → Asks command before c inputs
+      → AsksCommand command before c inputs
       → AlikeFor c inputs inputs'
       → ComesTo c inputs' other
       → GivesFirst (outcome_files other) before.world.folder after.world.folder
 
 -- and it promises this over the rows of the keeper as it reads them
-abbrev pub Runs : Option CommandLine → Outside → Outside → ℕ → Type 0
-Runs command before after status =
+abbrev pub RunsOverRows : Option CommandLine → Outside → Outside → ℕ → Type 0
+RunsOverRows command before after status =
     ReadsRows (uses_by command)
     (λ known. Promises command (record before { world = known }) after status)
     before.world after.world

@@ -15,19 +15,19 @@ use Rattle.bp_matter.specs.Matter.{Matter}
 use Rattle.bp_matter.specs.Valid.{IsValid}
 use Rattle.bp_outside.specs.Counts.{Rose}
 use Rattle.bp_outside.specs.Door.{DoorView}
-use Rattle.bp_outside.specs.Out.{OutView, with_written, WritesPrefix}
+use Rattle.bp_outside.specs.Out.{OutView, with_written, OutWritesPrefix}
 use Rattle.bp_rules.specs.Steps.{AtMostOnce, KeepsRows}
 use Rattle.bp_seats.specs.Matters.{AreServed}
-use Rattle.bp_seats.specs.Turns.{IsCaller}
+use Rattle.bp_seats.specs.Turns.{IsSeatCaller}
 use Rattle.bp_cli.specs.declared.serve.ServeLine.{ServeLine}
 use Rattle.bp_cli.specs.declared.serve.TheConstants.{MAX_CONNECTIONS, MAX_DESKS, SERVE_WORDS}
 use Rattle.bp_cli.specs.declared.statuses.TheConstants.{DONE, RULE_BROKEN, KEEPER_FAULT, OUT_OF_MEMORY, OUT_FAULT}
 use Rattle.bp_cli.specs.declared.stops.Stop.TheVariants as stops
-use Rattle.bp_cli.specs.Endings.{Ending, KeeperLeft, RowsRead, line_of, status_of, text_of}
+use Rattle.bp_cli.specs.Endings.{Ending, KeeperLeft, RowsRead, line_of, status_of, ending_text}
 use Rattle.bp_cli.specs.Kept.{CanBeLoaded, MatterAnswers}
 use Rattle.bp_cli.specs.Printing.{failed_out}
 use Rattle.bp_cli.specs.Runs.{IsAmong, PrintsPart}
-use Rattle.bp_cli.specs.Words.{number_of, word_of, ◌>>=◌}
+use Rattle.bp_cli.specs.Words.{operand_number, word_of, ◌>>=◌}
 
 -- ---- its line
 
@@ -50,8 +50,8 @@ abbrev pub serve_named : ℕ → List ℕ → List ℕ → List ℕ → Option S
 serve_named doors name desks connections =
     if bytes_eq name (codes "serve")
     then (do
-      d ← number_of desks
-      n ← number_of connections
+      d ← operand_number desks
+      n ← operand_number connections
       line_asked doors d n)
     else None
 
@@ -89,13 +89,13 @@ served_line history = count_line (length history)
 -- are kept for. It has calls of their seats alone, and each door's exchanges use up the calls of its
 -- own. The rows that stand are those of the matter after it. Each freeze in it that was answered with a
 -- production stands. Over all doors together the keeper failed at least as often as was answered.
-pub record Serves {D : Type 0} (shows : D → DoorView) (asked : ServeLine) (before : Hall D)
+pub record ServesHall {D : Type 0} (shows : D → DoorView) (asked : ServeLine) (before : Hall D)
     (history : List Made) (after : Hall D) : Type 0 where
   pub opening : Matter
   pub valid : IsValid opening
   pub loaded : KeepsRows before.keeper opening
   pub kept : KeepsRows after.keeper (run_calls opening history)
-  pub callers : All (IsCaller asked.desks) history
+  pub callers : All (IsSeatCaller asked.desks) history
   pub room : length history ≤ MOST_CALLS
   pub frozen : FreezesStand opening history
   pub failed : List ℕ
@@ -122,14 +122,14 @@ pub data LacksToServe {D : Type 0} (shows : D → DoorView) (asked : ServeLine) 
     (history : Option (List Made)) (after : Hall D) : Type 0 where
   nobody : ServesNobody before.keeper.faults before history after
       → LacksToServe shows asked before history after
-  unsaid : (made : List Made) → Serves shows asked before made after → history ≡ None
+  unsaid : (made : List Made) → ServesHall shows asked before made after → history ≡ None
       → LacksToServe shows asked before history after
 
 -- what the work of serve leaves, by how it ended, with the history that is handed on
 abbrev pub ServeEnds : {D : Type 0} → (D → DoorView) → ServeLine → Hall D → Ending
     → Option (List Made) → Hall D → Type 0
 ServeEnds shows asked before (Ok line) (Some history) after =
-    Serves shows asked before history after × (line ≡ served_line history)
+    ServesHall shows asked before history after × (line ≡ served_line history)
 ServeEnds shows asked before (Ok line) None after = ⊥
 ServeEnds shows asked before (Err (stops.Broken rule)) history after =
     MeetsRows before rule × ServesNobody before.keeper.faults before history after
@@ -151,7 +151,7 @@ serve_statuses = DONE ∷ RULE_BROKEN ∷ KEEPER_FAULT ∷ OUT_OF_MEMORY ∷ OUT
 pub record ServeEnded {D : Type 0} (shows : D → DoorView) (asked : ServeLine) (before : Hall D)
     (history : Option (List Made)) (after : Hall D) (ending : Ending) : Type 0 where
   pub worked : ServeEnds shows asked before ending history after
-  pub printed : after.out ≡ with_written before.out (text_of ending)
+  pub printed : after.out ≡ with_written before.out (ending_text ending)
 
 -- memory ran out, in the work or in printing: no history is handed on
 pub record ServeRanShort {D : Type 0} (shows : D → DoorView) (asked : ServeLine) (before : Hall D)
@@ -169,7 +169,7 @@ pub record ServeWasCut {D : Type 0} (shows : D → DoorView) (asked : ServeLine)
   pub worked : ServeEnds shows asked before ending history after
   pub other : status_of ending ≢ OUT_OF_MEMORY
   pub failed : Rose before.out.faults after.out.faults
-  pub printed : WritesPrefix (failed_out before.out) (text_of ending) after.out
+  pub printed : OutWritesPrefix (failed_out before.out) (ending_text ending) after.out
 
 -- what a run of serve promises, where the rows from before are those that it read
 pub record ServePromises {D : Type 0} (shows : D → DoorView) (asked : ServeLine) (before : Hall D)

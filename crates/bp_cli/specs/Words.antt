@@ -25,8 +25,8 @@ abbrev pub is_bad_word : List ℕ → Bool
 is_bad_word word = length word == 0 || slice_index word 0 == hyphen
 
 -- the number of a word, if it is one: `0`, or 1 to 9 digits without a leading zero
-abbrev pub number_of : List ℕ → Option ℕ
-number_of = unpadded_in
+abbrev pub operand_number : List ℕ → Option ℕ
+operand_number = unpadded_in
 
 -- a value, and what follows from it
 infixl 10 ◌>>=◌

@@ -9,8 +9,8 @@ ghost use Rattle.bp_rules.specs.Steps.{AtMostOnce};
 ghost use Rattle.bp_tiff.specs.Parts.{file_in};
 ghost use Rattle.bp_tiff.specs.Tiff.{tiff_of};
 ghost use Rattle.bp_cli.specs.Words.{words_lent};
-ghost use Rattle.bp_cli.specs.Burn.{form_of, box_of, burn_of, burn_seen, burn_page, counted_line};
-ghost use Rattle.bp_cli.specs.Burning.{NamesPath, NamesPaths, ReadsPage, HoldsPage, PutsPage};
+ghost use Rattle.bp_cli.specs.Burn.{form_of, box_of_words, burn_of, burn_seen, burn_page, counted_line};
+ghost use Rattle.bp_cli.specs.BurnSteps.{NamesPath, NamesPaths, ReadsPageAt, AnswersPage, PutsPage};
 ghost use Rattle.bp_cli.specs.Commands.{burn, uses_of, IsOutcome};
 ghost use Rattle.bp_cli.specs.Endings.{world, Ends};
 ghost use Rattle.bp_cli.specs.Stops.{read_stop};
@@ -61,7 +61,7 @@ pub fn burn_in<'a>(operands: &[&'a str]) -> Option<Burn<'a>>
 }
 
 fn box_in(left: &str, top: &str, width: &str, height: &str) -> Option<Rect>
-    ensures { result ≡ box_of left.now top.now width.now height.now }
+    ensures { result ≡ box_of_words left.now top.now width.now height.now }
 {
     Some(Rect {
         left: number_in(left)?,
@@ -138,7 +138,7 @@ pub fn path_named(alloc: Global, word: &str) -> Result<Text, Stop>
 
 // The page of the file at a path.
 fn page_at<S: Source>(alloc: Global, from: &Text, source: &mut S) -> Result<Page, Stop>
-    ensures page { ReadsPage from.now (S.shows source.old) result (S.shows source.new) }
+    ensures page { ReadsPageAt from.now (S.shows source.old) result (S.shows source.new) }
     ensures reads { S.reads source.new ≡ risen (S.reads source.old) }
 {
     match source.read(alloc, from.as_str(), FILE_LIMIT) {
@@ -161,7 +161,7 @@ pub fn stop_of_read(refusal: ReadRefusal) -> Stop
 
 // The page that a file holds.
 fn page_in(alloc: Global, file: Vec<u8>) -> Result<Page, Stop>
-    ensures { HoldsPage file.items result }
+    ensures { AnswersPage file.items result }
 {
     match take_tiff(alloc, file) {
         Ok(page) => Ok(page),

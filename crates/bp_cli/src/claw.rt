@@ -4,15 +4,15 @@ ghost use Rattle.std.specs.List.{list_all};
 ghost use Rattle.std.specs.Option.{option_map};
 ghost use Rattle.std.specs.Str.{chars};
 ghost use Rattle.bp_claw.specs.Claims.{claim_fits};
-ghost use Rattle.bp_freeze.specs.Keeping.{Keeps};
+ghost use Rattle.bp_freeze.specs.Keeping.{KeepsProduction};
 ghost use Rattle.bp_outside.specs.Folder.{FolderView};
 ghost use Rattle.bp_outside.specs.Source.{SourceView};
 ghost use Rattle.bp_rules.specs.Steps.{AtMostOnce};
 ghost use Rattle.bp_cli.specs.Claw.{claw_named, claw_seen, replacement_line};
-ghost use Rattle.bp_cli.specs.Clawing.{PutsReplacement, ReadsFile, ReplacesAfter};
+ghost use Rattle.bp_cli.specs.ClawSteps.{PutsReplacement, ReadsFile, ReplacesAfter};
 ghost use Rattle.bp_cli.specs.Commands.{claw, ReadsAndWorks};
 ghost use Rattle.bp_cli.specs.Endings.{world};
-ghost use Rattle.bp_cli.specs.Producing.{HasLabels};
+ghost use Rattle.bp_cli.specs.ProduceSteps.{HasLabels};
 ghost use Rattle.bp_cli.specs.Words.{words_lent};
 
 use crate::burn::{FILE_LIMIT, path_named, stop_of_read};
@@ -61,7 +61,7 @@ pub fn claw_in<'a>(operands: &[&'a str]) -> Option<ClawLine<'a>>
 // ---- its work
 
 impl From<ClawRefusal> for Stop {
-    ghost use Rattle.bp_cli.specs.Clawing.{StopsForClaw};
+    ghost use Rattle.bp_cli.specs.ClawSteps.{StopsForClaw};
 
     ghost from_gives = { StopsForClaw };
 
@@ -129,7 +129,7 @@ fn replace_after<F: Folder>(
     file: &[u8],
     folder: &mut F,
 ) -> Result<Bytes, Stop>
-    requires kept { Keeps tables.now.matter production.now }
+    requires kept { KeepsProduction tables.now.matter production.now }
     requires few { length file.now < 2 ^ 32 }
     ensures { ReplacesAfter (chars volume.now) tables.now.matter production.now file.now
         (F.shows folder.old) result (F.shows folder.new) }
@@ -149,7 +149,7 @@ fn put_replacement<F: Folder>(
     notice: &Notice,
     folder: &mut F,
 ) -> Result<Bytes, Stop>
-    requires kept { Keeps tables.now.matter production.now }
+    requires kept { KeepsProduction tables.now.matter production.now }
     requires fits { IsTrue (list_all claim_fits notice.now) }
     ensures { PutsReplacement volume.now tables.now.matter production.now notice.now
         (F.shows folder.old) result (F.shows folder.new) }

@@ -4,7 +4,7 @@ ghost use Rattle.std.specs.Option.{option_map};
 ghost use Rattle.std.specs.Str.{bytes_eq};
 ghost use Rattle.bp_cli.specs.Words.{word_bytes, words_lent};
 ghost use Rattle.bp_cli.specs.Commands.{command_seen, command_of, named_command, produce};
-ghost use Rattle.bp_cli.specs.Produce.{request_of};
+ghost use Rattle.bp_cli.specs.Produce.{request_of_words};
 
 use crate::burn::{Burn, burn_in};
 use crate::check::{Check, check_in};
@@ -76,7 +76,8 @@ fn produce_named<'a>(
     operands: &[&'a str],
 ) -> Result<Option<Command<'a>>, OutOfMemory>
     ensures { IfOk result (λ command.
-        option_map command_seen command ≡ option_map produce (request_of (words_lent operands.now))) }
+        option_map command_seen command
+        ≡ option_map produce (request_of_words (words_lent operands.now))) }
 {
     match request_in(alloc, operands)? {
         Some(request) => Ok(Some(Command::Produce(request))),

@@ -6,7 +6,7 @@ ghost use Rattle.bp_desk.specs.Serving.{Knocks};
 ghost use Rattle.bp_rules.specs.Steps.{AtMostOnce};
 ghost use Rattle.bp_cli.specs.Words.{word_bytes};
 ghost use Rattle.bp_cli.specs.Deliver.{deliver_named, deliver_of, deliver_seen, delivered_line};
-ghost use Rattle.bp_cli.specs.Delivering.{DeliversAnyhow, HoldsGrants, ReadsGrants, touched};
+ghost use Rattle.bp_cli.specs.DeliverSteps.{DeliversAnyhow, HoldsGrants, ReadsGrants, touched};
 
 use crate::burn::{FILE_LIMIT, path_named, stop_of_read};
 use crate::serve::is_connections;

@@ -2,8 +2,8 @@
 ghost use Rattle.std.specs.Prelude.{◌≡◌, IfSome, IsTrue, Some};
 ghost use Rattle.bp_outside.specs.Source.{SourceView};
 ghost use Rattle.bp_cli.specs.Commands.{demo, ReadsAndWorks};
-ghost use Rattle.bp_cli.specs.Demo.{can_be_drawn, demo_of, pages_of};
-ghost use Rattle.bp_cli.specs.Demoing.{DrawsDemo, FreezesHere, HasRows, KeepsFirst};
+ghost use Rattle.bp_cli.specs.Demo.{can_be_drawn, demo_of, demo_pages};
+ghost use Rattle.bp_cli.specs.DemoSteps.{DrawsDemo, FreezesHere, HasRows, KeepsFirst};
 ghost use Rattle.bp_cli.specs.Endings.{world};
 ghost use Rattle.bp_cli.specs.Words.{words_lent};
 
@@ -60,7 +60,7 @@ pub fn demo_in(operands: &[&str]) -> Option<DemoLine>
 }
 
 fn pages_in(word: &str) -> Option<u32>
-    ensures is { result ≡ pages_of word.now }
+    ensures is { result ≡ demo_pages word.now }
     ensures drawn { IfSome result (λ pages. IsTrue (can_be_drawn pages)) }
 {
     let pages = number_in(word)?;

@@ -7,7 +7,7 @@ ghost use Rattle.bp_matter.specs.KeptRows.{rows_of};
 ghost use Rattle.bp_rules.specs.Beginning.{begun};
 ghost use Rattle.bp_rules.specs.Changes.{put_of};
 ghost use Rattle.bp_cli.specs.Words.{words_lent};
-ghost use Rattle.bp_cli.specs.Init.{is_low_hex as low_hex, digest_of, init_of};
+ghost use Rattle.bp_cli.specs.Init.{is_low_hex as low_hex, key_digest_of, init_of};
 ghost use Rattle.bp_cli.specs.Commands.{init, ReadsAndWorks};
 ghost use Rattle.bp_cli.specs.Endings.{world, line_of};
 
@@ -36,7 +36,7 @@ pub fn init_in(operands: &[&str]) -> Option<[u8; DIGEST_BYTES]>
 }
 
 fn digest_in(word: &str) -> Option<[u8; DIGEST_BYTES]>
-    ensures { result ≡ digest_of word.now }
+    ensures { result ≡ key_digest_of word.now }
 {
     if !all_low_hex(word.as_bytes()) {
         return None;

@@ -1,6 +1,6 @@
 // What the program prints, and the status that it ends with.
 ghost use Rattle.std.specs.Prelude.{◌≡◌, ◌≢◌, ℕ, List, IfOk, Err};
-ghost use Rattle.bp_cli.specs.Endings.{status_of, text_of, refused_line};
+ghost use Rattle.bp_cli.specs.Endings.{status_of, ending_text, refused_line};
 ghost use Rattle.bp_cli.specs.Printing.{MayLackItsLine, Prints};
 
 use crate::statuses::{
@@ -15,7 +15,7 @@ use std::alloc::Global;
 /// Prints how the work of a command ended, and gives the status.
 pub fn finish<O: Out>(alloc: Global, out: &mut O, ending: Result<Bytes, Stop>) -> u8
     ensures { let before = O.shows out.old in
-        Prints (text_of ending) (status_of ending) before (O.shows out.new) result }
+        Prints (ending_text ending) (status_of ending) before (O.shows out.new) result }
 {
     match ending {
         Ok(line) => print(alloc, out, line.as_slice(), DONE),
@@ -25,7 +25,7 @@ pub fn finish<O: Out>(alloc: Global, out: &mut O, ending: Result<Bytes, Stop>) -
 
 fn print_stop<O: Out>(alloc: Global, out: &mut O, stop: Stop) -> u8
     ensures { let before = O.shows out.old in
-        Prints (text_of (Err stop)) (status_of (Err stop)) before (O.shows out.new) result }
+        Prints (ending_text (Err stop)) (status_of (Err stop)) before (O.shows out.new) result }
 {
     match stop {
         Stop::WordsRefused => print(alloc, out, b"words refused\n", WORDS_REFUSED),

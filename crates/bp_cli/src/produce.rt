@@ -4,8 +4,8 @@ ghost use Rattle.std.specs.Str.{chars};
 ghost use Rattle.bp_outside.specs.Source.{SourceView};
 ghost use Rattle.bp_cli.specs.Commands.{produce, ReadsAndWorks};
 ghost use Rattle.bp_cli.specs.Endings.{world};
-ghost use Rattle.bp_cli.specs.Produce.{request_of, request_with, width_of};
-ghost use Rattle.bp_cli.specs.Producing.{Freezes, IsProduced, TellsFrozen};
+ghost use Rattle.bp_cli.specs.Produce.{request_of_words, request_with, width_of};
+ghost use Rattle.bp_cli.specs.ProduceSteps.{Freezes, IsProduced, TellsFrozen};
 ghost use Rattle.bp_cli.specs.Words.{words_lent};
 
 use crate::stops::Stop;
@@ -31,7 +31,7 @@ pub const MAX_WIDTH_WORD: u32 = 255;
 
 /// What the operands of `produce ID VOLUME PREFIX WIDTH FROM TO [FIELD..]` ask.
 pub fn request_in(alloc: Global, operands: &[&str]) -> Result<Option<Request>, OutOfMemory>
-    ensures { IfOk result (λ request. request ≡ request_of (words_lent operands.now)) }
+    ensures { IfOk result (λ request. request ≡ request_of_words (words_lent operands.now)) }
 {
     if operands.len() < REQUEST_WORDS {
         return Ok(None);

@@ -4,11 +4,11 @@ ghost use Rattle.bp_cli.specs.Words.{word_bytes};
 ghost use Rattle.bp_cli.specs.Commands.{command_of, ReadsAndWorks, ReadsAsOften};
 ghost use Rattle.bp_cli.specs.Deliver.{deliver_of, deliver_seen};
 ghost use Rattle.bp_cli.specs.Endings.{world};
-ghost use Rattle.bp_cli.specs.Runs.{Runs, outside};
+ghost use Rattle.bp_cli.specs.Runs.{RunsOverRows, outside};
 ghost use Rattle.bp_cli.specs.Arguments.{RunsArguments};
-ghost use Rattle.bp_cli.specs.Running.{DeliversAt, ReadsFor, RunsOther, RunsWords, desk_side, moment};
+ghost use Rattle.bp_cli.specs.RunWords.{DeliversAt, ReadsFor, RunsOther, RunsWords, desk_side, moment};
 ghost use Rattle.bp_cli.specs.Serve.{HasDoors, ServesOver, hall};
-ghost use Rattle.bp_cli.specs.Serving.{HandsOn, ServesAnyhow};
+ghost use Rattle.bp_cli.specs.ServeSteps.{HandsOn, ServesAnyhow};
 ghost use Rattle.bp_cli.specs.declared.serve.ServeLine.{ServeLine};
 ghost use Rattle.bp_keep.specs.Keeper.{KeeperView};
 ghost use Rattle.bp_rules.specs.Steps.{AtMostOnce};
@@ -273,7 +273,7 @@ fn carry_out<R: Threads + Sync, S: Source, K: Keeper, F: Folder, O: Out, D>(
         IsSomeAnd result.keeper (λ kept.
         let after = outside (S.shows source.new) (K.shows kept) (F.shows folder.new)
         (O.shows out.new) in
-        Runs command before after result.status) }
+        RunsOverRows command before after result.status) }
     ensures reads { let command = command_of (word_bytes words.now) in
         ReadsAsOften command (S.reads source.old) (S.reads source.new) }
     ensures doors { result.doors ≡ doors }

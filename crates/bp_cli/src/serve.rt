@@ -2,7 +2,7 @@
 ghost use Rattle.std.specs.Prelude.{◌≡◌, IfOk, IfSome, length};
 ghost use Rattle.bp_cli.specs.Words.{word_bytes};
 ghost use Rattle.bp_cli.specs.Serve.{HasDoors, count_line, is_connections as connections_told, is_desks as desks_told, serve_named, serve_of};
-ghost use Rattle.bp_cli.specs.Serving.{SaysServed, ServesAnyhow};
+ghost use Rattle.bp_cli.specs.ServeSteps.{SaysServed, ServesAnyhow};
 
 use crate::stops::Stop;
 use crate::words::number_in;

@@ -2,11 +2,11 @@
 ghost use Rattle.std.specs.Prelude.{◌≡◌, ◌≤◌, ◌++◌, IfOk, IsTrue, OnOk};
 ghost use Rattle.bp_bates.specs.Prefixes.{is_good_prefix};
 ghost use Rattle.bp_bates.specs.Spans.{largest_of};
-ghost use Rattle.bp_freeze.specs.Keeping.{Keeps};
+ghost use Rattle.bp_freeze.specs.Keeping.{KeepsProduction};
 ghost use Rattle.bp_freeze.specs.Log.{label_in};
 ghost use Rattle.bp_press.specs.Volume.{volume_of};
 ghost use Rattle.bp_cli.specs.Produce.{id_told, labels_told, numbers_told, volume_line};
-ghost use Rattle.bp_cli.specs.Producing.{HasLabel, HasLabels, PutsVolume};
+ghost use Rattle.bp_cli.specs.ProduceSteps.{HasLabel, HasLabels, PutsVolume};
 
 use crate::stops::Stop;
 use bp_bates::{Prefix, label_into};
@@ -32,7 +32,7 @@ pub fn put_volume<R: Threads + Sync, F: Folder>(
     production: &Production,
     folder: &mut F,
 ) -> Result<Bytes, Stop>
-    requires kept { Keeps tables.now.matter production.now }
+    requires kept { KeepsProduction tables.now.matter production.now }
     ensures { let volume = volume_of production.now tables.now.matter in
         PutsVolume production.now volume (F.shows folder.old) result (F.shows folder.new) }
 {

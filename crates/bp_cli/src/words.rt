@@ -3,7 +3,7 @@ ghost use Rattle.std.specs.Prelude.{◌≡◌, ◌<◌, IfOk, length};
 ghost use Rattle.std.specs.List.{list_any};
 ghost use Rattle.std.specs.Str.{chars};
 ghost use Rattle.std.specs.String.{string_bytes};
-ghost use Rattle.bp_cli.specs.Words.{number_of, is_bad_word, word_of, words_lent};
+ghost use Rattle.bp_cli.specs.Words.{operand_number, is_bad_word, word_of, words_lent};
 
 use bp_core::{OutOfMemory, Text, unpadded_in};
 use std::alloc::Global;
@@ -31,7 +31,7 @@ fn is_bad(word: &[u8]) -> bool
 
 /// The number that the word is: `0`, or 1 to 9 digits without a leading zero.
 pub fn number_in(word: &str) -> Option<u32>
-    ensures { result ≡ number_of word.now }
+    ensures { result ≡ operand_number word.now }
 {
     unpadded_in(word.as_bytes())
 }

@@ -4,7 +4,7 @@ use Rattle.std.proofs.lemmas.Nat.{or_shifted}
 use Rattle.std.proofs.lemmas.List.{take-append-drop, take-append-le, drop-append-le, take_all, drop-take, drop-drop, append_assoc, length-replicate}
 use Rattle.bp_codes.specs.declared.span.Fill.{Fill}
 use Rattle.bp_codes.specs.declared.span.Fill.TheVariants.{High}
-use Rattle.bp_codes.specs.Bits.{bits_of, number_of, word_at}
+use Rattle.bp_codes.specs.Bits.{bits_of, number_of_bits, word_at}
 use Rattle.bp_codes.specs.Ahead.{IsAhead}
 use Rattle.bp_codes.proofs.BitListLemmas.{length-bits_of, number_of-append, number_of-drop, drop-bits_of, first_four, four_bytes, in_the_rest, shifted_out, middle}
 
@@ -44,11 +44,11 @@ front_eight bytes q within =
     ∙ sym (append_assoc first second (bits_of High (drop (q + 4 + 4) bytes)))
 
 -- the number that the code makes of them
-number-eight : (bytes : List ℕ) (q : ℕ) → number_of (eight bytes q) ≡ word_at High bytes q * 2 ^ 32 + word_at High bytes (q + 4)
+number-eight : (bytes : List ℕ) (q : ℕ) → number_of_bits (eight bytes q) ≡ word_at High bytes q * 2 ^ 32 + word_at High bytes (q + 4)
 number-eight bytes q =
     number_of-append (four_bytes High (get_or bytes q 0) (get_or bytes (q + 1) 0) (get_or bytes (q + 2) 0) (get_or bytes (q + 3) 0)) (four_bytes High (get_or bytes (q + 4) 0) (get_or bytes (q + 4 + 1) 0) (get_or bytes (q + 4 + 2) 0) (get_or bytes (q + 4 + 3) 0))
 
-number-zeros : (n : ℕ) → number_of (replicate n false) ≡ 0
+number-zeros : (n : ℕ) → number_of_bits (replicate n false) ≡ 0
 number-zeros zero = refl
 number-zeros (suc n) = omega (arith, number-zeros n)
 
@@ -70,17 +70,17 @@ ahead_from bytes at q r word place small within is =
     let first : take 57 (drop r bits ++ replicate r false) ≡ take 57 (drop r bits) = take-append-le 57 (drop r bits) (replicate r false) (omega (arith, left)) in
     let second : take 57 (drop r bits ++ behind) ≡ take 57 (drop r bits) = take-append-le 57 (drop r bits) behind (omega (arith, left)) in
     let all : 64 - r + r ≡ 64 = omega arith in
-    let high : number_of (drop r bits) ≡ number_of bits % 2 ^ (64 - r) = number_of-drop r (64 - r) bits (omega (arith, length-eight bytes q)) in
+    let high : number_of_bits (drop r bits) ≡ number_of_bits bits % 2 ^ (64 - r) = number_of-drop r (64 - r) bits (omega (arith, length-eight bytes q)) in
     record {
       digits = drop r bits ++ replicate r false;
       count = length-append (drop r bits) (replicate r false) ∙ omega (arith, left, length-replicate r false);
       number =
           number_of-append (drop r bits) (replicate r false)
-          ∙ ap (λ v. number_of (drop r bits) * 2 ^ length (replicate r false) + v) (number-zeros r) ∙ add-zero (number_of (drop r bits) * 2 ^ length (replicate r false))
-          ∙ ap (λ n. number_of (drop r bits) * 2 ^ n) (length-replicate r false)
+          ∙ ap (λ v. number_of_bits (drop r bits) * 2 ^ length (replicate r false) + v) (number-zeros r) ∙ add-zero (number_of_bits (drop r bits) * 2 ^ length (replicate r false))
+          ∙ ap (λ n. number_of_bits (drop r bits) * 2 ^ n) (length-replicate r false)
           ∙ ap (λ v. v * 2 ^ r) high
-          ∙ sym (shifted_out (number_of bits) r (64 - r))
-          ∙ ap (λ n. number_of bits * 2 ^ r % 2 ^ n) all
+          ∙ sym (shifted_out (number_of_bits bits) r (64 - r))
+          ∙ ap (λ n. number_of_bits bits * 2 ^ r % 2 ^ n) all
           ∙ ap (λ v. v * 2 ^ r % 2 ^ 64) (number-eight bytes q ∙ sym is);
       long = let P : List Bool → Type 0 = λ xs. 57 ≤ length xs in subst P (sym there) (omega (arith, length-append (drop r bits) behind, left));
       same = first ∙ sym second ∙ ap (take 57) (sym there);
@@ -101,11 +101,11 @@ take_less (suc n) (suc m) [] h = refl
 take_less (suc n) (suc m) (x ∷ xs) h = ap (λ ys. x ∷ ys) (take_less n m xs (omega arith))
 
 -- some bits behind others, as a number
-pub window_ahead : (word skipped count : ℕ) (bits : List Bool) → IsAhead word bits → skipped + count ≤ 57 → word * 2 ^ skipped % 2 ^ 64 / 2 ^ (64 - count) ≡ number_of (take count (drop skipped bits))
+pub window_ahead : (word skipped count : ℕ) (bits : List Bool) → IsAhead word bits → skipped + count ≤ 57 → word * 2 ^ skipped % 2 ^ 64 / 2 ^ (64 - count) ≡ number_of_bits (take count (drop skipped bits))
 window_ahead word skipped count bits a short =
     let front : take (skipped + count) a.digits ≡ take (skipped + count) bits =
     sym (take_less (skipped + count) 57 a.digits short) ∙ ap (take (skipped + count)) a.same ∙ take_less (skipped + count) 57 bits short in
     let same : take count (drop skipped a.digits) ≡ take count (drop skipped bits) =
     sym (drop-take skipped count a.digits) ∙ ap (drop skipped) front ∙ drop-take skipped count bits in
     ap (λ v. v * 2 ^ skipped % 2 ^ 64 / 2 ^ (64 - count)) (sym a.number)
-    ∙ sym (middle a.digits skipped count (64 - skipped - count) 64 a.count (omega arith)) ∙ ap number_of same
+    ∙ sym (middle a.digits skipped count (64 - skipped - count) 64 a.count (omega arith)) ∙ ap number_of_bits same

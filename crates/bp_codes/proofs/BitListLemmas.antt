@@ -9,7 +9,7 @@ use Rattle.std.proofs.lemmas.List.{drop_more, get_or_append_left, drop-drop, dro
 use Rattle.bp_codes.specs.declared.span.Fill.{Fill}
 use Rattle.bp_codes.specs.declared.span.Fill.TheVariants.{High, Low}
 use Rattle.bp_codes.specs.declared.reversed.TheConstants.{REVERSED}
-use Rattle.bp_codes.specs.Bits.{bit, byte_bits, bits_of, number_of, word_at}
+use Rattle.bp_codes.specs.Bits.{bit, byte_bits, bits_of, number_of_bits, word_at}
 
 -- ---- numbers
 
@@ -17,38 +17,38 @@ first_digit : (b : Bool) (n r : ℕ) → r < 2 ^ n → (if b then 2 ^ n else 0) 
 first_digit true n r h = omega (arith, pow-suc 2 n)
 first_digit false n r h = omega (arith, pow-suc 2 n)
 
-pub number_of-below : (bits : List Bool) → number_of bits < 2 ^ length bits
+pub number_of-below : (bits : List Bool) → number_of_bits bits < 2 ^ length bits
 number_of-below [] = omega arith
-number_of-below (b ∷ bits) = first_digit b (length bits) (number_of bits) (number_of-below bits)
+number_of-below (b ∷ bits) = first_digit b (length bits) (number_of_bits bits) (number_of-below bits)
 
 shifted : (b : Bool) (n m x y : ℕ) → (if b then 2 ^ (n + m) else 0) + (x * 2 ^ m + y) ≡ ((if b then 2 ^ n else 0) + x) * 2 ^ m + y
 shifted true n m x y = omega (arith, pow-add 2 n m)
 shifted false n m x y = omega arith
 
-pub number_of-append : (xs ys : List Bool) → number_of (xs ++ ys) ≡ number_of xs * 2 ^ length ys + number_of ys
+pub number_of-append : (xs ys : List Bool) → number_of_bits (xs ++ ys) ≡ number_of_bits xs * 2 ^ length ys + number_of_bits ys
 number_of-append [] ys = omega arith
 number_of-append (b ∷ xs) ys =
-    rw (length-append xs ys, number_of-append xs ys) (shifted b (length xs) (length ys) (number_of xs) (number_of ys))
+    rw (length-append xs ys, number_of-append xs ys) (shifted b (length xs) (length ys) (number_of_bits xs) (number_of_bits ys))
 
 -- the front of bits is their number without its low digits
-pub number_of-take : (n k : ℕ) (bits : List Bool) → length bits ≡ n + k → number_of (take n bits) ≡ number_of bits / 2 ^ k
+pub number_of-take : (n k : ℕ) (bits : List Bool) → length bits ≡ n + k → number_of_bits (take n bits) ≡ number_of_bits bits / 2 ^ k
 number_of-take n k bits h =
     let rest : length (drop n bits) ≡ k = omega (arith, length-drop n bits) in
-    let whole = ap number_of (take-append-drop n bits) in
+    let whole = ap number_of_bits (take-append-drop n bits) in
     let split = number_of-append (take n bits) (drop n bits) in
-    let small : number_of (drop n bits) < 2 ^ k = let P : ℕ → Type 0 = λ m. number_of (drop n bits) < 2 ^ m in subst P rest (number_of-below (drop n bits)) in
-    let at_k : number_of bits ≡ number_of (take n bits) * 2 ^ k + number_of (drop n bits) = sym whole ∙ split ∙ ap (λ m. number_of (take n bits) * 2 ^ m + number_of (drop n bits)) rest in
-    sym (ap (λ v. v / 2 ^ k) at_k ∙ shr_high (number_of (take n bits)) k (number_of (drop n bits)) small)
+    let small : number_of_bits (drop n bits) < 2 ^ k = let P : ℕ → Type 0 = λ m. number_of_bits (drop n bits) < 2 ^ m in subst P rest (number_of-below (drop n bits)) in
+    let at_k : number_of_bits bits ≡ number_of_bits (take n bits) * 2 ^ k + number_of_bits (drop n bits) = sym whole ∙ split ∙ ap (λ m. number_of_bits (take n bits) * 2 ^ m + number_of_bits (drop n bits)) rest in
+    sym (ap (λ v. v / 2 ^ k) at_k ∙ shr_high (number_of_bits (take n bits)) k (number_of_bits (drop n bits)) small)
 
 -- what is left of bits is their number's low digits
-pub number_of-drop : (n k : ℕ) (bits : List Bool) → length bits ≡ n + k → number_of (drop n bits) ≡ number_of bits % 2 ^ k
+pub number_of-drop : (n k : ℕ) (bits : List Bool) → length bits ≡ n + k → number_of_bits (drop n bits) ≡ number_of_bits bits % 2 ^ k
 number_of-drop n k bits h =
     let rest : length (drop n bits) ≡ k = omega (arith, length-drop n bits) in
-    let whole = ap number_of (take-append-drop n bits) in
+    let whole = ap number_of_bits (take-append-drop n bits) in
     let split = number_of-append (take n bits) (drop n bits) in
-    let small : number_of (drop n bits) < 2 ^ k = let P : ℕ → Type 0 = λ m. number_of (drop n bits) < 2 ^ m in subst P rest (number_of-below (drop n bits)) in
-    let at_k : number_of bits ≡ number_of (take n bits) * 2 ^ k + number_of (drop n bits) = sym whole ∙ split ∙ ap (λ m. number_of (take n bits) * 2 ^ m + number_of (drop n bits)) rest in
-    sym (ap (λ v. v % 2 ^ k) at_k ∙ mod_low (number_of (take n bits)) k (number_of (drop n bits)) small)
+    let small : number_of_bits (drop n bits) < 2 ^ k = let P : ℕ → Type 0 = λ m. number_of_bits (drop n bits) < 2 ^ m in subst P rest (number_of-below (drop n bits)) in
+    let at_k : number_of_bits bits ≡ number_of_bits (take n bits) * 2 ^ k + number_of_bits (drop n bits) = sym whole ∙ split ∙ ap (λ m. number_of_bits (take n bits) * 2 ^ m + number_of_bits (drop n bits)) rest in
+    sym (ap (λ v. v % 2 ^ k) at_k ∙ mod_low (number_of_bits (take n bits)) k (number_of_bits (drop n bits)) small)
 
 -- ---- bytes
 
@@ -99,12 +99,12 @@ first_four fill m (x ∷ y ∷ []) h within = sym (first_ones fill m (x ∷ y �
 first_four fill m (x ∷ y ∷ z ∷ []) h within = sym (first_ones fill m (x ∷ y ∷ z ∷ []) (0 ∷ []) within)
 first_four fill m (x ∷ y ∷ z ∷ w ∷ bytes) h within = first_ones fill m (x ∷ y ∷ z ∷ w ∷ []) bytes h
 
-one_byte : (fill : Fill) (b : ℕ) (rest : List ℕ) → number_of (bits_of fill (b ∷ rest)) ≡ number_of (byte_bits fill b) * 2 ^ (length rest * 8) + number_of (bits_of fill rest)
+one_byte : (fill : Fill) (b : ℕ) (rest : List ℕ) → number_of_bits (bits_of fill (b ∷ rest)) ≡ number_of_bits (byte_bits fill b) * 2 ^ (length rest * 8) + number_of_bits (bits_of fill rest)
 one_byte fill b rest =
     number_of-append (byte_bits fill b) (bits_of fill rest)
-    ∙ ap (λ n. number_of (byte_bits fill b) * 2 ^ n + number_of (bits_of fill rest)) (length-bits_of fill rest)
+    ∙ ap (λ n. number_of_bits (byte_bits fill b) * 2 ^ n + number_of_bits (bits_of fill rest)) (length-bits_of fill rest)
 
-number-four : (fill : Fill) (x y z w : ℕ) → number_of (four_bytes fill x y z w) ≡ number_of (byte_bits fill x) * 16777216 + number_of (byte_bits fill y) * 65536 + number_of (byte_bits fill z) * 256 + number_of (byte_bits fill w)
+number-four : (fill : Fill) (x y z w : ℕ) → number_of_bits (four_bytes fill x y z w) ≡ number_of_bits (byte_bits fill x) * 16777216 + number_of_bits (byte_bits fill y) * 65536 + number_of_bits (byte_bits fill z) * 256 + number_of_bits (byte_bits fill w)
 number-four fill x y z w =
     let four = one_byte fill x (y ∷ z ∷ w ∷ []) in
     let three = one_byte fill y (z ∷ w ∷ []) in
@@ -122,17 +122,17 @@ shifted_out a r j =
     ∙ ap (λ v. a % 2 ^ j * 2 ^ r + v) (mul-mod_left a (2 ^ r)) ∙ add-zero (a % 2 ^ j * 2 ^ r)
 
 -- count bits after r ones of some, as a number: the r shifted out at the top, and the rest down to count bits
-pub middle : (bits : List Bool) (r count k all : ℕ) → length bits ≡ all → r + count + k ≡ all → number_of (take count (drop r bits)) ≡ number_of bits * 2 ^ r % 2 ^ all / 2 ^ (all - count)
+pub middle : (bits : List Bool) (r count k all : ℕ) → length bits ≡ all → r + count + k ≡ all → number_of_bits (take count (drop r bits)) ≡ number_of_bits bits * 2 ^ r % 2 ^ all / 2 ^ (all - count)
 middle bits r count k all h sum =
     let left : length (drop r bits) ≡ count + k = omega (arith, length-drop r bits) in
     let whole : all ≡ count + k + r = omega arith in
     let width : 2 ^ all ≡ 2 ^ (count + k + r) = ap (λ n. 2 ^ n) whole in
     let down : all - count ≡ r + k = omega arith in
     number_of-take count k (drop r bits) left
-    ∙ ap (λ v. v / 2 ^ k) (number_of-drop r (count + k) bits (omega arith) ∙ sym (shl-shr (number_of bits % 2 ^ (count + k)) r))
-    ∙ shr-shr (number_of bits % 2 ^ (count + k) * 2 ^ r) r k
-    ∙ ap (λ n. number_of bits % 2 ^ (count + k) * 2 ^ r / 2 ^ n) (sym down)
-    ∙ ap (λ v. v / 2 ^ (all - count)) (sym (ap (λ m. number_of bits * 2 ^ r % m) width ∙ shifted_out (number_of bits) r (count + k)))
+    ∙ ap (λ v. v / 2 ^ k) (number_of-drop r (count + k) bits (omega arith) ∙ sym (shl-shr (number_of_bits bits % 2 ^ (count + k)) r))
+    ∙ shr-shr (number_of_bits bits % 2 ^ (count + k) * 2 ^ r) r k
+    ∙ ap (λ n. number_of_bits bits % 2 ^ (count + k) * 2 ^ r / 2 ^ n) (sym down)
+    ∙ ap (λ v. v / 2 ^ (all - count)) (sym (ap (λ m. number_of_bits bits * 2 ^ r % m) width ∙ shifted_out (number_of_bits bits) r (count + k)))
 
 -- bits from a place on stand in the four bytes from that place on
 in_four : (fill : Fill) (bytes : List ℕ) (q r count : ℕ) → r + count ≤ 32 → 8 * q + r + count ≤ length bytes * 8 → take count (drop (8 * q + r) (bits_of fill bytes)) ≡ take count (drop r (four_bytes fill (get_or bytes (q + 0) 0) (get_or bytes (q + 1) 0) (get_or bytes (q + 2) 0) (get_or bytes (q + 3) 0)))
@@ -144,13 +144,13 @@ in_four fill bytes q r count short within =
     ∙ rw (in_the_rest bytes q 0, in_the_rest bytes q 1, in_the_rest bytes q 2, in_the_rest bytes q 3) refl
 
 -- the window: the bits from a place on, out of the four bytes from that place on
-window_is : (fill : Fill) (bytes : List ℕ) (at q r count k : ℕ) → at ≡ 8 * q + r → r + count + k ≡ 32 → at + count ≤ length (bits_of fill bytes) → word_at fill bytes q * 2 ^ r % 4294967296 / 2 ^ (32 - count) ≡ number_of (take count (drop at (bits_of fill bytes)))
+window_is : (fill : Fill) (bytes : List ℕ) (at q r count k : ℕ) → at ≡ 8 * q + r → r + count + k ≡ 32 → at + count ≤ length (bits_of fill bytes) → word_at fill bytes q * 2 ^ r % 4294967296 / 2 ^ (32 - count) ≡ number_of_bits (take count (drop at (bits_of fill bytes)))
 window_is fill bytes at q r count k place sum within =
     let room : 8 * q + r + count ≤ length bytes * 8 = omega (arith, length-bits_of fill bytes) in
     let four = four_bytes fill (get_or bytes q 0) (get_or bytes (q + 1) 0) (get_or bytes (q + 2) 0) (get_or bytes (q + 3) 0) in
     let there : take count (drop (8 * q + r) (bits_of fill bytes)) ≡ take count (drop r four) = in_four fill bytes q r count (omega arith) room ∙ ap (λ n. take count (drop r (four_bytes fill (get_or bytes n 0) (get_or bytes (q + 1) 0) (get_or bytes (q + 2) 0) (get_or bytes (q + 3) 0)))) (add-zero q) in
     sym (middle four r count k 32 (length-bits_of fill (get_or bytes q 0 ∷ get_or bytes (q + 1) 0 ∷ get_or bytes (q + 2) 0 ∷ get_or bytes (q + 3) 0 ∷ [])) sum)
-    ∙ sym (ap (λ n. number_of (take count (drop n (bits_of fill bytes)))) place ∙ ap number_of there)
+    ∙ sym (ap (λ n. number_of_bits (take count (drop n (bits_of fill bytes)))) place ∙ ap number_of_bits there)
 
 -- ---- the bytes as numbers
 
@@ -166,21 +166,21 @@ each_below f g (suc n) h b below =
     let rest : map f (below_in_turn n) ≡ map g (below_in_turn n) = cc in
     elim (cases_eq b n) [ inl same ↦ ap f same ∙ head ∙ sym (ap g same) | inr other ↦ each_below f g n rest b (omega arith) ]
 
-high_bytes : map (λ b. number_of (byte_bits High b)) (below_in_turn 256) ≡ map (λ b. b) (below_in_turn 256)
+high_bytes : map (λ b. number_of_bits (byte_bits High b)) (below_in_turn 256) ≡ map (λ b. b) (below_in_turn 256)
 high_bytes = refl
 
-low_bytes : map (λ b. number_of (byte_bits Low b)) (below_in_turn 256) ≡ map (λ b. get_or REVERSED b 0) (below_in_turn 256)
+low_bytes : map (λ b. number_of_bits (byte_bits Low b)) (below_in_turn 256) ≡ map (λ b. get_or REVERSED b 0) (below_in_turn 256)
 low_bytes = refl
 
-pub number-high : (b : ℕ) → b < 256 → number_of (byte_bits High b) ≡ b
-number-high b h = each_below (λ b. number_of (byte_bits High b)) (λ b. b) 256 high_bytes b h
+pub number-high : (b : ℕ) → b < 256 → number_of_bits (byte_bits High b) ≡ b
+number-high b h = each_below (λ b. number_of_bits (byte_bits High b)) (λ b. b) 256 high_bytes b h
 
-pub number-low : (b : ℕ) → b < 256 → number_of (byte_bits Low b) ≡ get_or REVERSED b 0
-number-low b h = each_below (λ b. number_of (byte_bits Low b)) (λ b. get_or REVERSED b 0) 256 low_bytes b h
+pub number-low : (b : ℕ) → b < 256 → number_of_bits (byte_bits Low b) ≡ get_or REVERSED b 0
+number-low b h = each_below (λ b. number_of_bits (byte_bits Low b)) (λ b. get_or REVERSED b 0) 256 low_bytes b h
 
-byte_below : (fill : Fill) (b : ℕ) → number_of (byte_bits fill b) < 256
+byte_below : (fill : Fill) (b : ℕ) → number_of_bits (byte_bits fill b) < 256
 byte_below fill b =
-    let P : ℕ → Type 0 = λ n. number_of (byte_bits fill b) < 2 ^ n in
+    let P : ℕ → Type 0 = λ n. number_of_bits (byte_bits fill b) < 2 ^ n in
     subst P (length-byte_bits fill b) (number_of-below (byte_bits fill b))
 
 -- four bytes in a word
@@ -197,14 +197,14 @@ word_of x y z w hx hy hz hw =
     rw (wx, wy, wz, two, as_three, three, as_four) (four ∙ omega arith)
 
 -- the word that the code makes of four bytes
-pub word_is : (fill : Fill) (bytes : List ℕ) (first x y z w : ℕ) → x ≡ number_of (byte_bits fill (get_or bytes first 0)) → y ≡ number_of (byte_bits fill (get_or bytes (first + 1) 0)) → z ≡ number_of (byte_bits fill (get_or bytes (first + 2) 0)) → w ≡ number_of (byte_bits fill (get_or bytes (first + 3) 0)) → bit_or (bit_or (bit_or (x * 16777216 % 4294967296) (y * 65536 % 4294967296)) (z * 256 % 4294967296)) w ≡ word_at fill bytes first
+pub word_is : (fill : Fill) (bytes : List ℕ) (first x y z w : ℕ) → x ≡ number_of_bits (byte_bits fill (get_or bytes first 0)) → y ≡ number_of_bits (byte_bits fill (get_or bytes (first + 1) 0)) → z ≡ number_of_bits (byte_bits fill (get_or bytes (first + 2) 0)) → w ≡ number_of_bits (byte_bits fill (get_or bytes (first + 3) 0)) → bit_or (bit_or (bit_or (x * 16777216 % 4294967296) (y * 65536 % 4294967296)) (z * 256 % 4294967296)) w ≡ word_at fill bytes first
 word_is fill bytes first x y z w is_x is_y is_z is_w =
-    let below : (v b : ℕ) → v ≡ number_of (byte_bits fill b) → v < 256 = λ v b e. let P : ℕ → Type 0 = λ n. n < 256 in subst P (sym e) (byte_below fill b) in
+    let below : (v b : ℕ) → v ≡ number_of_bits (byte_bits fill b) → v < 256 = λ v b e. let P : ℕ → Type 0 = λ n. n < 256 in subst P (sym e) (byte_below fill b) in
     word_of x y z w (below x _ is_x) (below y _ is_y) (below z _ is_z) (below w _ is_w)
     ∙ sym (number-four fill (get_or bytes first 0) (get_or bytes (first + 1) 0) (get_or bytes (first + 2) 0) (get_or bytes (first + 3) 0) ∙ rw (← is_x, ← is_y, ← is_z, ← is_w) refl)
 
 -- the code's window is the number of the bits
-pub window_of : (fill : Fill) (bytes : List ℕ) (at count word : ℕ) → count ≤ 16 → at + count ≤ length (bits_of fill bytes) → word ≡ word_at fill bytes (at / 8) → word * 2 ^ (at % 8) % 4294967296 / 2 ^ (32 - count) ≡ number_of (take count (drop at (bits_of fill bytes)))
+pub window_of : (fill : Fill) (bytes : List ℕ) (at count word : ℕ) → count ≤ 16 → at + count ≤ length (bits_of fill bytes) → word ≡ word_at fill bytes (at / 8) → word * 2 ^ (at % 8) % 4294967296 / 2 ^ (32 - count) ≡ number_of_bits (take count (drop at (bits_of fill bytes)))
 window_of fill bytes at count word short within is =
     ap (λ v. v * 2 ^ (at % 8) % 4294967296 / 2 ^ (32 - count)) is
     ∙ window_is fill bytes at (at / 8) (at % 8) count (32 - at % 8 - count) (omega arith) (omega arith) within
@@ -268,15 +268,15 @@ bit_when_low fill bytes at is =
     let P : Fill → Type 0 = λ f. at < length (bits_of f bytes) → slice_get (bits_of f bytes) at ≡ Some (nat_eq (bit_and (get_or bytes (at / 8) 0 / 2 ^ (at % 8)) 1) 1) in
     subst P (sym is) (bit_is-low bytes at)
 
-pub byte_when_high : (fill : Fill) (b x : ℕ) → fill ≡ High → b < 256 → x ≡ b → number_of (byte_bits fill x) ≡ b
+pub byte_when_high : (fill : Fill) (b x : ℕ) → fill ≡ High → b < 256 → x ≡ b → number_of_bits (byte_bits fill x) ≡ b
 byte_when_high fill b x is h same =
-    let P : Fill → Type 0 = λ f. number_of (byte_bits f b) ≡ b in
-    ap (λ v. number_of (byte_bits fill v)) same ∙ subst P (sym is) (number-high b h)
+    let P : Fill → Type 0 = λ f. number_of_bits (byte_bits f b) ≡ b in
+    ap (λ v. number_of_bits (byte_bits fill v)) same ∙ subst P (sym is) (number-high b h)
 
-pub byte_when_low : (fill : Fill) (b x : ℕ) → fill ≡ Low → b < 256 → x ≡ b → number_of (byte_bits fill x) ≡ get_or REVERSED b 0
+pub byte_when_low : (fill : Fill) (b x : ℕ) → fill ≡ Low → b < 256 → x ≡ b → number_of_bits (byte_bits fill x) ≡ get_or REVERSED b 0
 byte_when_low fill b x is h same =
-    let P : Fill → Type 0 = λ f. number_of (byte_bits f b) ≡ get_or REVERSED b 0 in
-    ap (λ v. number_of (byte_bits fill v)) same ∙ subst P (sym is) (number-low b h)
+    let P : Fill → Type 0 = λ f. number_of_bits (byte_bits f b) ≡ get_or REVERSED b 0 in
+    ap (λ v. number_of_bits (byte_bits fill v)) same ∙ subst P (sym is) (number-low b h)
 
 pub word_when_high : (fill : Fill) (bytes : List ℕ) (first : ℕ) → fill ≡ High → word_at High bytes first ≡ word_at fill bytes first
 word_when_high fill bytes first is = ap (λ f. word_at f bytes first) (sym is)

@@ -3,21 +3,21 @@ use Rattle.std.proofs.Common.{ℕ, zero, suc, ◌+◌, ◌≤◌, ◌≡◌, Boo
 use Rattle.std.proofs.lemmas.Bool.{and_parts, leb-true}
 use Rattle.std.specs.List.{enumerate_from, position_from, list_any, list_all}
 use Rattle.bp_codes.specs.declared.code.NoCode.TheVariants.{Ends, Strange}
-use Rattle.bp_codes.specs.NextCode.{same_bit, begins, is_cut, row_at, no_code, next_row, row_or}
+use Rattle.bp_codes.specs.NextCode.{same_bit, begins_code, is_cut, row_at, no_code, next_row, row_or}
 use Rattle.bp_codes.proofs.TrieLemmas.{Branch, narrowed, narrow, row_among, cut_among, front}
 
 -- ---- one bit more
 
-row_among-narrowed : (b : Bool) (row : ℕ) (code : List Bool) (bits : List Bool) (rest : List Branch) → row_among (narrowed b row code rest) bits ≡ (if begins code (b ∷ bits) then Some row else row_among rest bits)
+row_among-narrowed : (b : Bool) (row : ℕ) (code : List Bool) (bits : List Bool) (rest : List Branch) → row_among (narrowed b row code rest) bits ≡ (if begins_code code (b ∷ bits) then Some row else row_among rest bits)
 row_among-narrowed b row [] bits rest = refl
 row_among-narrowed b row (x ∷ code) bits rest =
-    elim (same_bit x b) as (λ v. row_among (if v then (row, code) ∷ rest else rest) bits ≡ (if v && begins code bits then Some row else row_among rest bits)) [ true ↦ refl | false ↦ refl ]
+    elim (same_bit x b) as (λ v. row_among (if v then (row, code) ∷ rest else rest) bits ≡ (if v && begins_code code bits then Some row else row_among rest bits)) [ true ↦ refl | false ↦ refl ]
 
 row_among-narrow : (b : Bool) (bits : List Bool) (branches : List Branch) → row_among (narrow b branches) bits ≡ row_among branches (b ∷ bits)
 row_among-narrow b bits [] = refl
 row_among-narrow b bits (c ∷ branches) =
     row_among-narrowed b c.0 c.1 bits (narrow b branches)
-    ∙ ap (λ r. if begins c.1 (b ∷ bits) then Some c.0 else r) (row_among-narrow b bits branches)
+    ∙ ap (λ r. if begins_code c.1 (b ∷ bits) then Some c.0 else r) (row_among-narrow b bits branches)
 
 cut_among-narrowed : (b : Bool) (row : ℕ) (code : List Bool) (bits : List Bool) (rest : List Branch) → cut_among (narrowed b row code rest) bits ≡ (is_cut code (b ∷ bits) || cut_among rest bits)
 cut_among-narrowed b row [] bits rest = refl
@@ -37,9 +37,9 @@ front-narrow b bits branches =
 
 -- ---- the codes whole
 
-row_at-from : (k : ℕ) (codes : List (List Bool)) (bits : List Bool) → row_among (enumerate_from k codes) bits ≡ position_from (λ code. begins code bits) k codes
+row_at-from : (k : ℕ) (codes : List (List Bool)) (bits : List Bool) → row_among (enumerate_from k codes) bits ≡ position_from (λ code. begins_code code bits) k codes
 row_at-from k [] bits = refl
-row_at-from k (code ∷ codes) bits = ap (λ r. if begins code bits then Some k else r) (row_at-from (k + 1) codes bits)
+row_at-from k (code ∷ codes) bits = ap (λ r. if begins_code code bits then Some k else r) (row_at-from (k + 1) codes bits)
 
 cut_at-from : (k : ℕ) (codes : List (List Bool)) (bits : List Bool) → cut_among (enumerate_from k codes) bits ≡ list_any (λ code. is_cut code bits) codes
 cut_at-from k [] bits = refl
@@ -52,7 +52,7 @@ front-whole codes bits =
 
 -- ---- only the first bits count, as many as the longest code has
 
-begins-take : (code : List Bool) (k : ℕ) (bits : List Bool) → length code ≤ k → begins code (take k bits) ≡ begins code bits
+begins-take : (code : List Bool) (k : ℕ) (bits : List Bool) → length code ≤ k → begins_code code (take k bits) ≡ begins_code code bits
 begins-take [] k bits h = refl
 begins-take (x ∷ code) zero bits h = absurd (omega arith)
 begins-take (x ∷ code) (suc k) [] h = refl
@@ -69,12 +69,12 @@ first_short code k rest h =
     let both = and_parts (nat_le (length code) k) rest h in
     (leb-true (length code) k both.0, both.1)
 
-position_from-take : (codes : List (List Bool)) (i k : ℕ) (bits : List Bool) → list_all (λ code. nat_le (length code) k) codes ≡ true → position_from (λ code. begins code (take k bits)) i codes ≡ position_from (λ code. begins code bits) i codes
+position_from-take : (codes : List (List Bool)) (i k : ℕ) (bits : List Bool) → list_all (λ code. nat_le (length code) k) codes ≡ true → position_from (λ code. begins_code code (take k bits)) i codes ≡ position_from (λ code. begins_code code bits) i codes
 position_from-take [] i k bits h = refl
 position_from-take (code ∷ codes) i k bits h =
     let short = first_short code k (list_all (λ code. nat_le (length code) k) codes) h in
-    ap (λ v. if v then Some i else position_from (λ code. begins code (take k bits)) (i + 1) codes) (begins-take code k bits short.0)
-    ∙ ap (λ r. if begins code bits then Some i else r) (position_from-take codes (i + 1) k bits short.1)
+    ap (λ v. if v then Some i else position_from (λ code. begins_code code (take k bits)) (i + 1) codes) (begins-take code k bits short.0)
+    ∙ ap (λ r. if begins_code code bits then Some i else r) (position_from-take codes (i + 1) k bits short.1)
 
 list_any-take : (codes : List (List Bool)) (k : ℕ) (bits : List Bool) → list_all (λ code. nat_le (length code) k) codes ≡ true → list_any (λ code. is_cut code (take k bits)) codes ≡ list_any (λ code. is_cut code bits) codes
 list_any-take [] k bits h = refl

@@ -10,7 +10,7 @@ use Rattle.bp_codes.specs.declared.mode_index.TheConstants.{MODE_INDEX}
 use Rattle.bp_codes.specs.declared.index.Index.{Index}
 use Rattle.bp_codes.specs.declared.index.Index.TheVariants.{White, Black, Modes}
 use Rattle.bp_codes.specs.Fronts.{fronts}
-use Rattle.bp_codes.specs.Bits.{number_of}
+use Rattle.bp_codes.specs.Bits.{number_of_bits}
 use Rattle.bp_codes.specs.Index.{entry_number, index_place, IsIndexOf}
 use Rattle.bp_codes.specs.CodeLists.{white_codes, black_codes, mode_codes}
 use Rattle.bp_codes.proofs.BitListLemmas.{number_of-below}
@@ -24,17 +24,17 @@ length-level codes (suc n) branches =
     ∙ omega (arith, pow-suc 2 n, length-level codes n (narrow false branches), length-level codes n (narrow true branches))
 
 -- a level has each list of bits at the number that they are
-get-level : (codes : List (List Bool)) (bits : List Bool) (branches : List Branch) → get_or (level codes (length bits) branches) (number_of bits) 0 ≡ entry_number codes (front branches bits)
+get-level : (codes : List (List Bool)) (bits : List Bool) (branches : List Branch) → get_or (level codes (length bits) branches) (number_of_bits bits) 0 ≡ entry_number codes (front branches bits)
 get-level codes [] branches = refl
 get-level codes (false ∷ bits) branches =
-    let within : number_of bits < length (level codes (length bits) (narrow false branches)) = omega (arith, length-level codes (length bits) (narrow false branches), number_of-below bits) in
+    let within : number_of_bits bits < length (level codes (length bits) (narrow false branches)) = omega (arith, length-level codes (length bits) (narrow false branches), number_of-below bits) in
     ap (λ k. get_or (level codes (suc (length bits)) branches) k 0) (omega arith)
-    ∙ get_or_append_left (level codes (length bits) (narrow false branches)) (level codes (length bits) (narrow true branches)) 0 (number_of bits) within
+    ∙ get_or_append_left (level codes (length bits) (narrow false branches)) (level codes (length bits) (narrow true branches)) 0 (number_of_bits bits) within
     ∙ get-level codes bits (narrow false branches) ∙ ap (entry_number codes) (front-narrow false bits branches)
 get-level codes (true ∷ bits) branches =
-    let place : 2 ^ length bits + number_of bits ≡ length (level codes (length bits) (narrow false branches)) + number_of bits = omega (arith, length-level codes (length bits) (narrow false branches)) in
+    let place : 2 ^ length bits + number_of_bits bits ≡ length (level codes (length bits) (narrow false branches)) + number_of_bits bits = omega (arith, length-level codes (length bits) (narrow false branches)) in
     ap (λ k. get_or (level codes (suc (length bits)) branches) k 0) place
-    ∙ get_or-append-add (level codes (length bits) (narrow false branches)) (level codes (length bits) (narrow true branches)) (number_of bits) 0
+    ∙ get_or-append-add (level codes (length bits) (narrow false branches)) (level codes (length bits) (narrow true branches)) (number_of_bits bits) 0
     ∙ get-level codes bits (narrow true branches) ∙ ap (entry_number codes) (front-narrow true bits branches)
 
 pub length-levels : (codes : List (List Bool)) (k : ℕ) (branches : List Branch) → length (255 ∷ levels codes k branches) ≡ 2 ^ (k + 1)
@@ -71,7 +71,7 @@ get-levels codes (suc k) n p branches h below =
 index_of : (codes : List (List Bool)) (k : ℕ) (index : List ℕ) → index ≡ 255 ∷ levels codes k (enumerate_from 0 codes) → IsIndexOf codes k index
 index_of codes k index is bits short =
     ap (λ xs. get_or xs (index_place bits) 0) is
-    ∙ get-levels codes k (length bits) (number_of bits) (enumerate_from 0 codes) short (number_of-below bits)
+    ∙ get-levels codes k (length bits) (number_of_bits bits) (enumerate_from 0 codes) short (number_of-below bits)
     ∙ get-level codes bits (enumerate_from 0 codes) ∙ ap (entry_number codes) (front-whole codes bits)
 
 pub white_kept : IsIndexOf white_codes 12 WHITE_INDEX

@@ -7,12 +7,12 @@ use Rattle.bp_codes.specs.declared.code.Code.{Code}
 use Rattle.bp_codes.specs.declared.code.NoCode.TheVariants.{Ends, Strange}
 use Rattle.bp_codes.specs.Bits.{code_bits, code_of_bits}
 use Rattle.bp_codes.specs.Laws.{IsPrefixFree, ReadsBack, CutMeansEnds}
-use Rattle.bp_codes.specs.NextCode.{same_bit, begins, is_cut, no_code, next_row, row_or}
+use Rattle.bp_codes.specs.NextCode.{same_bit, begins_code, is_cut, no_code, next_row, row_or}
 
 -- ---- the test
 
 abbrev pub apart : List Bool → List Bool → Bool
-apart a b = not (begins a b) && not (begins b a)
+apart a b = not (begins_code a b) && not (begins_code b a)
 
 abbrev pub all_apart : List (List Bool) → Bool
 all_apart [] = true
@@ -33,24 +33,24 @@ prefix_free (code ∷ codes) h zero zero hi hj e = refl
 prefix_free (code ∷ codes) h zero (suc j) hi hj e =
     let first = (and_parts (list_all (apart code) codes) (all_apart codes) h).0 in
     let here = passes_at (apart code) codes j [] first (omega arith) in
-    absurd (not_true (begins code (get_or codes j [])) (and_parts (not (begins code (get_or codes j []))) (not (begins (get_or codes j []) code)) here).0 e)
+    absurd (not_true (begins_code code (get_or codes j [])) (and_parts (not (begins_code code (get_or codes j []))) (not (begins_code (get_or codes j []) code)) here).0 e)
 prefix_free (code ∷ codes) h (suc i) zero hi hj e =
     let first = (and_parts (list_all (apart code) codes) (all_apart codes) h).0 in
     let here = passes_at (apart code) codes i [] first (omega arith) in
-    absurd (not_true (begins (get_or codes i []) code) (and_parts (not (begins code (get_or codes i []))) (not (begins (get_or codes i []) code)) here).1 e)
+    absurd (not_true (begins_code (get_or codes i []) code) (and_parts (not (begins_code code (get_or codes i []))) (not (begins_code (get_or codes i []) code)) here).1 e)
 prefix_free (code ∷ codes) h (suc i) (suc j) hi hj e =
     let rest = (and_parts (list_all (apart code) codes) (all_apart codes) h).1 in
     ap suc (prefix_free codes rest i j (omega arith) (omega arith) e)
 
 -- ---- a code that was written
 
-begins_itself : (code after : List Bool) → begins code (code ++ after) ≡ true
+begins_itself : (code after : List Bool) → begins_code code (code ++ after) ≡ true
 begins_itself [] after = refl
 begins_itself (true ∷ code) after = begins_itself code after
 begins_itself (false ∷ code) after = begins_itself code after
 
 -- of two codes that begin the same bits one is a prefix of the other
-one_of_two : (a c after : List Bool) → begins a (c ++ after) ≡ true → (begins a c ≡ true) ⊎ (begins c a ≡ true)
+one_of_two : (a c after : List Bool) → begins_code a (c ++ after) ≡ true → (begins_code a c ≡ true) ⊎ (begins_code c a ≡ true)
 one_of_two [] c after h = inl refl
 one_of_two (x ∷ a) [] after h = inr refl
 one_of_two (true ∷ a) (true ∷ c) after h = one_of_two a c after h
@@ -73,7 +73,7 @@ is_false : (b : Bool) → (b ≡ true → ⊥) → b ≡ false
 is_false true h = absurd (h refl)
 is_false false h = refl
 
-other_row : (codes : List (List Bool)) (row i : ℕ) (after : List Bool) → IsPrefixFree codes → row < length codes → i < row → begins (get_or codes i []) (get_or codes row [] ++ after) ≡ false
+other_row : (codes : List (List Bool)) (row i : ℕ) (after : List Bool) → IsPrefixFree codes → row < length codes → i < row → begins_code (get_or codes i []) (get_or codes row [] ++ after) ≡ false
 other_row codes row i after free within h =
     is_false _ (λ e.
     elim (one_of_two (get_or codes i []) (get_or codes row []) after e) [
@@ -83,7 +83,7 @@ other_row codes row i after free within h =
 
 row_back : (codes : List (List Bool)) (row : ℕ) (after : List Bool) → IsPrefixFree codes → row < length codes → next_row codes (get_or codes row [] ++ after) ≡ Ok row
 row_back codes row after free within =
-    ap (λ r. row_or r (no_code codes (get_or codes row [] ++ after))) (first_at (λ code. begins code (get_or codes row [] ++ after)) 0 codes row within (begins_itself (get_or codes row []) after) (λ i h. other_row codes row i after free within h) ∙ ap Some (omega arith))
+    ap (λ r. row_or r (no_code codes (get_or codes row [] ++ after))) (first_at (λ code. begins_code code (get_or codes row [] ++ after)) 0 codes row within (begins_itself (get_or codes row []) after) (λ i h. other_row codes row i after free within h) ∙ ap Some (omega arith))
 
 -- the code of a row, as a code and as bits
 code_at : (codes : List (List Bool)) (row : ℕ) (code : Code) → slice_get (map code_of_bits codes) row ≡ Some code → (row < length codes) × (code_bits code ≡ code_bits (code_of_bits (get_or codes row [])))
@@ -119,20 +119,20 @@ same_bits true false false h k = absurd (cc)
 same_bits false true true h k = absurd (cc)
 same_bits false true false h k = absurd (cc)
 
-begins-cut : (a c bits : List Bool) → begins a bits ≡ true → is_cut c bits ≡ true → begins a c ≡ true
+begins-cut : (a c bits : List Bool) → begins_code a bits ≡ true → is_cut c bits ≡ true → begins_code a c ≡ true
 begins-cut [] c bits h cut = refl
 begins-cut (x ∷ a) c [] h cut = absurd (cc)
 begins-cut (x ∷ a) [] (b ∷ bits) h cut = absurd (cc)
 begins-cut (x ∷ a) (y ∷ c) (b ∷ bits) h cut =
-    let first = and_parts (same_bit x b) (begins a bits) h in
+    let first = and_parts (same_bit x b) (begins_code a bits) h in
     let second = and_parts (same_bit y b) (is_cut c bits) cut in
-    ap (λ v. v && begins a c) (same_bits x y b first.0 second.0) ∙ begins-cut a c bits first.1 second.1
+    ap (λ v. v && begins_code a c) (same_bits x y b first.0 second.0) ∙ begins-cut a c bits first.1 second.1
 
-not_both : (a bits : List Bool) → begins a bits ≡ true → is_cut a bits ≡ true → ⊥
+not_both : (a bits : List Bool) → begins_code a bits ≡ true → is_cut a bits ≡ true → ⊥
 not_both [] bits h cut = cc
 not_both (x ∷ a) [] h cut = cc
 not_both (x ∷ a) (b ∷ bits) h cut =
-    not_both a bits (and_parts (same_bit x b) (begins a bits) h).1 (and_parts (same_bit x b) (is_cut a bits) cut).1
+    not_both a bits (and_parts (same_bit x b) (begins_code a bits) h).1 (and_parts (same_bit x b) (is_cut a bits) cut).1
 
 abbrev SomePasses : (List Bool → Bool) → List (List Bool) → Type 0
 SomePasses p codes = (j : ℕ) × (j < length codes) × (p (get_or codes j []) ≡ true)
@@ -158,10 +158,10 @@ none_begins p k (code ∷ codes) h =
 pub cut_means_ends : (codes : List (List Bool)) → IsPrefixFree codes → CutMeansEnds codes
 cut_means_ends codes free bits cut =
     let some = some_cut (λ code. is_cut code bits) codes cut in
-    let none : (i : ℕ) → i < length codes → begins (get_or codes i []) bits ≡ false = λ i within.
+    let none : (i : ℕ) → i < length codes → begins_code (get_or codes i []) bits ≡ false = λ i within.
     is_false _ (λ e.
     let prefix = begins-cut (get_or codes i []) (get_or codes some.0 []) bits e some.2 in
     let same = free i some.0 within some.1 prefix in
-    not_both (get_or codes some.0 []) bits (ap (λ n. begins (get_or codes n []) bits) (sym same) ∙ e) some.2) in
-    ap (λ r. row_or r (no_code codes bits)) (none_begins (λ code. begins code bits) 0 codes none)
+    not_both (get_or codes some.0 []) bits (ap (λ n. begins_code (get_or codes n []) bits) (sym same) ∙ e) some.2) in
+    ap (λ r. row_or r (no_code codes bits)) (none_begins (λ code. begins_code code bits) 0 codes none)
     ∙ ap (λ v. Err (if v then Ends else Strange)) cut

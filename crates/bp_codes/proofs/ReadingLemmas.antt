@@ -7,26 +7,26 @@ use Rattle.std.proofs.lemmas.List.{length-take-le, take_min}
 use Rattle.std.proofs.lemmas.Nat.{one_shl}
 use Rattle.bp_codes.specs.declared.code.NoCode.{NoCode}
 use Rattle.bp_codes.specs.declared.code.NoCode.TheVariants.{Ends, Strange}
-use Rattle.bp_codes.specs.Bits.{number_of}
+use Rattle.bp_codes.specs.Bits.{number_of_bits}
 use Rattle.bp_codes.specs.declared.code.Found.{Found}
-use Rattle.bp_codes.specs.Ahead.{Finds, IsAhead, found_of}
+use Rattle.bp_codes.specs.Ahead.{FindsCode, IsAhead, found_code}
 use Rattle.bp_codes.specs.Index.{entry_number, IsIndexOf}
-use Rattle.bp_codes.specs.NextCode.{begins, row_at, no_code, next_row, row_or}
+use Rattle.bp_codes.specs.NextCode.{begins_code, row_at, no_code, next_row, row_or}
 use Rattle.bp_codes.proofs.BitListLemmas.{number_of-below}
 use Rattle.bp_codes.proofs.FrontLemmas.{next_row-take}
 use Rattle.bp_codes.proofs.AheadLemmas.{window_ahead}
 
 -- the entry at the place of the first bits, as many as are read, is what stands at the front of all
-pub entry_is : (codes : List (List Bool)) (longest : ℕ) (index : List ℕ) (bits : List Bool) (count : ℕ) → IsIndexOf codes longest index → list_all (λ code. nat_le (length code) longest) codes ≡ true → count ≡ min longest (length bits) → get_or index (2 ^ count + number_of (take count bits)) 0 ≡ entry_number codes (next_row codes bits)
+pub entry_is : (codes : List (List Bool)) (longest : ℕ) (index : List ℕ) (bits : List Bool) (count : ℕ) → IsIndexOf codes longest index → list_all (λ code. nat_le (length code) longest) codes ≡ true → count ≡ min longest (length bits) → get_or index (2 ^ count + number_of_bits (take count bits)) 0 ≡ entry_number codes (next_row codes bits)
 entry_is codes longest index bits count kept short is =
     let read : length (take count bits) ≡ count = length-take-le count bits (omega arith) in
     let same : take count bits ≡ take longest bits = ap (λ n. take n bits) is ∙ take_min longest bits in
-    ap (λ n. get_or index (2 ^ n + number_of (take count bits)) 0) (sym read)
+    ap (λ n. get_or index (2 ^ n + number_of_bits (take count bits)) 0) (sym read)
     ∙ kept (take count bits) (omega arith)
     ∙ ap (λ xs. entry_number codes (next_row codes xs)) same ∙ ap (entry_number codes) (next_row-take codes longest bits short)
 
 -- that place lies in the index
-pub place_below : (longest count : ℕ) (bits : List Bool) → count ≤ longest → count ≤ length bits → 2 ^ count + number_of (take count bits) < 2 ^ (longest + 1)
+pub place_below : (longest count : ℕ) (bits : List Bool) → count ≤ longest → count ≤ length bits → 2 ^ count + number_of_bits (take count bits) < 2 ^ (longest + 1)
 place_below longest count bits h within =
     let read : 2 ^ length (take count bits) ≡ 2 ^ count = ap (λ n. 2 ^ n) (length-take-le count bits within) in
     let grows : 2 ^ (count + 1) ≤ 2 ^ (longest + 1) = pow-le-pow_right {n = 2} (omega arith) {i = count + 1} {j = longest + 1} (omega arith) in
@@ -62,7 +62,7 @@ row_or-below n None none h = tt
 
 pub next_row-below : (codes : List (List Bool)) (bits : List Bool) → RowsBelow (length codes) (next_row codes bits)
 next_row-below codes bits =
-    row_or-below (length codes) (row_at codes bits) (no_code codes bits) (position_from-below (λ code. begins code bits) 0 codes (length codes) (omega arith))
+    row_or-below (length codes) (row_at codes bits) (no_code codes bits) (position_from-below (λ code. begins_code code bits) 0 codes (length codes) (omega arith))
 
 pub says_ends : (codes : List (List Bool)) (front : Result ℕ NoCode) → length codes ≤ 254 → RowsBelow (length codes) front → entry_number codes front ≡ 255 → Err Ends ≡ front
 says_ends codes (Ok row) few below h = absurd (omega arith)
@@ -102,10 +102,10 @@ row_below n row front is below = let P : Result ℕ NoCode → Type 0 = λ r. Ro
 
 -- ---- the code's place
 
-pub place_is : (bits : List Bool) (count window : ℕ) → count ≤ 13 → window ≡ number_of (take count bits) → 1 * 2 ^ count % 4294967296 + window ≡ 2 ^ count + number_of (take count bits)
+pub place_is : (bits : List Bool) (count window : ℕ) → count ≤ 13 → window ≡ number_of_bits (take count bits) → 1 * 2 ^ count % 4294967296 + window ≡ 2 ^ count + number_of_bits (take count bits)
 place_is bits count window h is = omega (arith, is, one_shl count 32 (omega arith))
 
-pub answered : (codes : List (List Bool)) (longest : ℕ) (index : List ℕ) (bits : List Bool) (count window entry : ℕ) → IsIndexOf codes longest index → list_all (λ code. nat_le (length code) longest) codes ≡ true → longest ≤ 13 → count ≡ min longest (length bits) → window ≡ number_of (take count bits) → entry ≡ get_or index (1 * 2 ^ count % 4294967296 + window) 0 → entry ≡ entry_number codes (next_row codes bits)
+pub answered : (codes : List (List Bool)) (longest : ℕ) (index : List ℕ) (bits : List Bool) (count window entry : ℕ) → IsIndexOf codes longest index → list_all (λ code. nat_le (length code) longest) codes ≡ true → longest ≤ 13 → count ≡ min longest (length bits) → window ≡ number_of_bits (take count bits) → entry ≡ get_or index (1 * 2 ^ count % 4294967296 + window) 0 → entry ≡ entry_number codes (next_row codes bits)
 answered codes longest index bits count window entry kept short within is_count is_window is_entry =
     is_entry ∙ ap (λ n. get_or index n 0) (place_is bits count window (omega arith) is_window)
     ∙ entry_is codes longest index bits count kept short is_count
@@ -113,7 +113,7 @@ answered codes longest index bits count window entry kept short within is_count 
 -- ---- in a look-ahead
 
 -- what an entry says is so of the bits
-says_found : (codes : List (List Bool)) (entry : ℕ) (bits : List Bool) → list_all (λ code. nat_le 1 (length code)) codes ≡ true → length codes ≤ 254 → entry ≡ entry_number codes (next_row codes bits) → Finds codes bits (found_of entry)
+says_found : (codes : List (List Bool)) (entry : ℕ) (bits : List Bool) → list_all (λ code. nat_le 1 (length code)) codes ≡ true → length codes ≤ 254 → entry ≡ entry_number codes (next_row codes bits) → FindsCode codes bits (found_code entry)
 says_found codes entry bits full few is =
     elim (cases_lt entry 256) [
       | inl small ↦ rw (lt-ltb entry 256 small) (none_found codes entry (next_row codes bits) full (next_row-below codes bits) is small)
@@ -121,11 +121,11 @@ says_found codes entry bits full few is =
     ]
 
 -- the entry at the place of bits behind the first ones
-pub finds_ahead : (codes : List (List Bool)) (longest : ℕ) (index : List ℕ) (bits : List Bool) (word skipped entry : ℕ) (found : Option Found) → IsIndexOf codes longest index → list_all (λ code. nat_le (length code) longest) codes ≡ true → list_all (λ code. nat_le 1 (length code)) codes ≡ true → length codes ≤ 254 → longest ≤ 13 → skipped ≤ 44 → IsAhead word bits → entry ≡ get_or index (2 ^ longest + word * 2 ^ skipped % 2 ^ 64 / 2 ^ (64 - longest)) 0 → found ≡ found_of entry → Finds codes (drop skipped bits) found
+pub finds_ahead : (codes : List (List Bool)) (longest : ℕ) (index : List ℕ) (bits : List Bool) (word skipped entry : ℕ) (found : Option Found) → IsIndexOf codes longest index → list_all (λ code. nat_le (length code) longest) codes ≡ true → list_all (λ code. nat_le 1 (length code)) codes ≡ true → length codes ≤ 254 → longest ≤ 13 → skipped ≤ 44 → IsAhead word bits → entry ≡ get_or index (2 ^ longest + word * 2 ^ skipped % 2 ^ 64 / 2 ^ (64 - longest)) 0 → found ≡ found_code entry → FindsCode codes (drop skipped bits) found
 finds_ahead codes longest index bits word skipped entry found kept short full few within less a is says =
     let window = window_ahead word skipped longest bits a (omega arith) in
     let there : longest ≡ min longest (length (drop skipped bits)) = omega (arith, length-drop skipped bits, a.long) in
     let answer : entry ≡ entry_number codes (next_row codes (drop skipped bits)) =
     is ∙ ap (λ n. get_or index (2 ^ longest + n) 0) window ∙ entry_is codes longest index (drop skipped bits) longest kept short there in
-    let P : Option Found → Type 0 = λ f. Finds codes (drop skipped bits) f in
+    let P : Option Found → Type 0 = λ f. FindsCode codes (drop skipped bits) f in
     subst P (sym says) (says_found codes entry (drop skipped bits) full few answer)

@@ -6,7 +6,7 @@ use Rattle.bp_codes.specs.declared.code.NoCode.TheVariants.{Ends, Strange}
 use Rattle.bp_codes.specs.declared.white_index.TheConstants.{WHITE_INDEX}
 use Rattle.bp_codes.specs.declared.black_index.TheConstants.{BLACK_INDEX}
 use Rattle.bp_codes.specs.declared.mode_index.TheConstants.{MODE_INDEX}
-use Rattle.bp_codes.specs.NextCode.{same_bit, begins, is_cut, row_or}
+use Rattle.bp_codes.specs.NextCode.{same_bit, begins_code, is_cut, row_or}
 use Rattle.bp_codes.specs.Index.{entry_number}
 use Rattle.bp_codes.specs.CodeLists.{white_codes, black_codes, mode_codes}
 
@@ -25,7 +25,7 @@ narrow b (c ∷ branches) = narrowed b c.0 c.1 (narrow b branches)
 
 abbrev pub row_among : List Branch → List Bool → Option ℕ
 row_among [] bits = None
-row_among (c ∷ branches) bits = if begins c.1 bits then Some c.0 else row_among branches bits
+row_among (c ∷ branches) bits = if begins_code c.1 bits then Some c.0 else row_among branches bits
 
 abbrev pub cut_among : List Branch → List Bool → Bool
 cut_among [] bits = false

@@ -25,13 +25,13 @@ abbrev pub bits_of : Fill → List ℕ → List Bool
 bits_of fill bytes = flat_map (byte_bits fill) bytes
 
 -- the number whose binary digits these bits are, the highest first
-abbrev pub number_of : List Bool → ℕ
-number_of [] = 0
-number_of (b ∷ bits) = (if b then 2 ^ length bits else 0) + number_of bits
+abbrev pub number_of_bits : List Bool → ℕ
+number_of_bits [] = 0
+number_of_bits (b ∷ bits) = (if b then 2 ^ length bits else 0) + number_of_bits bits
 
 -- the code of these bits: the number that they are, and how many they are
 abbrev pub code_of_bits : List Bool → Code
-code_of_bits bits = record { bits = number_of bits; len = length bits }
+code_of_bits bits = record { bits = number_of_bits bits; len = length bits }
 
 -- the k lowest bits of a number, the highest first
 abbrev pub low_bits : ℕ → ℕ → List Bool
@@ -45,7 +45,7 @@ code_bits code = low_bits code.len code.bits
 -- the number that the bits of four bytes from a place on are, with zeros past the last byte
 abbrev pub word_at : Fill → List ℕ → ℕ → ℕ
 word_at fill bytes first =
-    number_of
+    number_of_bits
     (bits_of fill
     (slice_index bytes first ∷ slice_index bytes (first + 1)
     ∷ slice_index bytes (first + 2) ∷ slice_index bytes (first + 3) ∷ []))

@@ -2,7 +2,7 @@
 -- are this product's own.
 use Rattle.std.specs.Prelude.{ℕ, ◌==◌, Bool, List, [], ◌∷◌, ◌++◌, codes, map, Option, position, slice_get, slice_index_or}
 use Rattle.std.specs.Option.{option_and_then}
-use Rattle.bp_codes.specs.Bits.{number_of}
+use Rattle.bp_codes.specs.Bits.{number_of_bits}
 use Rattle.bp_codes.specs.CodeLists.{line}
 
 -- the characters that have a glyph, in the order of the table
@@ -12,7 +12,7 @@ alphabet = codes "ABCDEFGHIJKLMNOPQRSTUVWXYZ0123456789-_. "
 -- the glyph at a place of printed lines: the piece of each line at that place is a row, whose bits
 -- are a number
 abbrev pub glyph_at : List (List (List Bool)) → ℕ → List ℕ
-glyph_at lines place = map (λ pieces. number_of (slice_index_or pieces place [])) lines
+glyph_at lines place = map (λ pieces. number_of_bits (slice_index_or pieces place [])) lines
 
 -- the eight glyphs of printed lines, with one space between each two; a 1 is black
 abbrev pub eight : List (List ℕ) → List (List ℕ)

@@ -4,7 +4,7 @@ use Rattle.std.specs.List.{list_any}
 use Rattle.bp_codes.specs.declared.code.Code.{Code}
 use Rattle.bp_codes.specs.declared.code.NoCode.TheVariants.{Ends}
 use Rattle.bp_codes.specs.Bits.{code_bits, code_of_bits}
-use Rattle.bp_codes.specs.NextCode.{begins, is_cut, next_row}
+use Rattle.bp_codes.specs.NextCode.{begins_code, is_cut, next_row}
 
 -- no code is a prefix of another
 abbrev pub IsPrefixFree : List (List Bool) → Type 0
@@ -12,7 +12,7 @@ IsPrefixFree codes =
     (i j : ℕ)
     → i < length codes
     → j < length codes
-    → begins (slice_index_or codes i []) (slice_index_or codes j []) ≡ true
+    → begins_code (slice_index_or codes i []) (slice_index_or codes j []) ≡ true
     → i ≡ j
 
 -- at the place where the code of a row was written stands that row, whatever bits come before and after

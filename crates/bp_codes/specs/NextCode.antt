@@ -10,10 +10,10 @@ same_bit true b = b
 same_bit false b = not b
 
 -- the bits begin with this code
-abbrev pub begins : List Bool → List Bool → Bool
-begins [] bits = true
-begins (c ∷ code) [] = false
-begins (c ∷ code) (b ∷ bits) = same_bit c b && begins code bits
+abbrev pub begins_code : List Bool → List Bool → Bool
+begins_code [] bits = true
+begins_code (c ∷ code) [] = false
+begins_code (c ∷ code) (b ∷ bits) = same_bit c b && begins_code code bits
 
 -- the bits are a proper prefix of this code, the empty one too
 abbrev pub is_cut : List Bool → List Bool → Bool
@@ -23,7 +23,7 @@ is_cut (c ∷ code) (b ∷ bits) = same_bit c b && is_cut code bits
 
 -- the row whose code begins the bits, if there is one
 abbrev pub row_at : List (List Bool) → List Bool → Option ℕ
-row_at codes bits = position_from (λ code. begins code bits) 0 codes
+row_at codes bits = position_from (λ code. begins_code code bits) 0 codes
 
 -- what stands where no code begins: Ends where the bits are a proper prefix of some code, else Strange
 abbrev pub no_code : List (List Bool) → List Bool → NoCode

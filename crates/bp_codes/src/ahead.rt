@@ -1,6 +1,6 @@
 // Codes found in a look-ahead.
 ghost use Rattle.std.specs.Prelude.{◌≡◌, ◌≤◌, Bool, List, drop};
-ghost use Rattle.bp_codes.specs.Ahead.{IsAhead, Finds, found_of};
+ghost use Rattle.bp_codes.specs.Ahead.{IsAhead, FindsCode, found_code};
 ghost use Rattle.bp_codes.specs.CodeLists.{white_codes, black_codes, mode_codes};
 
 use crate::black_index::BLACK_INDEX;
@@ -14,7 +14,7 @@ use crate::white_index::WHITE_INDEX;
 pub fn white_ahead(word: u64, skipped: u64) -> Option<Found>
     requires { skipped ≤ 44 }
     ensures { (bits : List Bool) → IsAhead word bits
-        → Finds white_codes (drop skipped bits) result }
+        → FindsCode white_codes (drop skipped bits) result }
 {
     found(WHITE_INDEX[4096 + (word << skipped >> 52) as usize])
 }
@@ -24,7 +24,7 @@ pub fn white_ahead(word: u64, skipped: u64) -> Option<Found>
 pub fn black_ahead(word: u64, skipped: u64) -> Option<Found>
     requires { skipped ≤ 44 }
     ensures { (bits : List Bool) → IsAhead word bits
-        → Finds black_codes (drop skipped bits) result }
+        → FindsCode black_codes (drop skipped bits) result }
 {
     found(BLACK_INDEX[8192 + (word << skipped >> 51) as usize])
 }
@@ -32,7 +32,7 @@ pub fn black_ahead(word: u64, skipped: u64) -> Option<Found>
 /// The code of a mode that begins a look-ahead, where one does.
 #[inline(always)]
 pub fn mode_ahead(word: u64) -> Option<Found>
-    ensures { (bits : List Bool) → IsAhead word bits → Finds mode_codes bits result }
+    ensures { (bits : List Bool) → IsAhead word bits → FindsCode mode_codes bits result }
 {
     found(MODE_INDEX[128 + (word >> 57) as usize])
 }
@@ -40,7 +40,7 @@ pub fn mode_ahead(word: u64) -> Option<Found>
 // What an entry of an index says, where it is a code.
 #[inline(always)]
 fn found(entry: u16) -> Option<Found>
-    ensures { result ≡ found_of entry }
+    ensures { result ≡ found_code entry }
 {
     if entry < CODES {
         return None;

@@ -27,7 +27,7 @@ pub struct BitSpan<'a> {
 }
 
 impl BitSpan<'_> {
-    ghost use Rattle.bp_codes.specs.Bits.{byte_bits, number_of};
+    ghost use Rattle.bp_codes.specs.Bits.{byte_bits, number_of_bits};
     ghost use Rattle.bp_codes.specs.Span.{span_bits};
 
     /// How many bits there are.
@@ -72,7 +72,7 @@ impl BitSpan<'_> {
     pub(crate) fn window(&self, at: u64, count: u32) -> u32
         requires short { count ≤ 16 }
         requires within { at + count ≤ length (span_bits self.now) }
-        ensures { result ≡ number_of (take count (drop at (span_bits self.now))) }
+        ensures { result ≡ number_of_bits (take count (drop at (span_bits self.now))) }
     {
         let skipped = (at % 8) as u32;
         let rest = u64::from(self.word((at / 8) as usize) << skipped);
@@ -98,7 +98,7 @@ impl BitSpan<'_> {
     // A byte with its first bit highest; 0 past the last one.
     fn byte(&self, place: usize) -> u32
         ensures { let byte = slice_index self.now.bytes.now place in
-            result ≡ number_of (byte_bits self.now.fill byte) }
+            result ≡ number_of_bits (byte_bits self.now.fill byte) }
     {
         let byte = self.bytes.get(place).copied().unwrap_or(0);
         match self.fill {

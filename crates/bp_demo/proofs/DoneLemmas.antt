@@ -17,7 +17,7 @@ use Rattle.bp_core.specs.declared.rules.Rule.{Rule}
 use Rattle.bp_core.specs.declared.rules.RuleKind.TheVariants as kinds
 use Rattle.bp_core.proofs.SortedLemmas.{all-put, find-put}
 use Rattle.bp_matter.specs.Confirming.{boxes_on, confirm_rule, held_on, is_entered}
-use Rattle.bp_matter.specs.Fields.{editor_of}
+use Rattle.bp_matter.specs.Fields.{editor_number}
 use Rattle.bp_matter.specs.LookUps.{call_with, doc_with, page_with, staff_with}
 use Rattle.bp_matter.specs.Matter.{Matter, box_key, call_key, doc_key, entry_key, page_key}
 use Rattle.bp_matter.specs.Texts.{is_designation}
@@ -156,7 +156,7 @@ entry_done m n staff there =
     ∙ on_there n (doc_with n m) (entry_put m (record { 0 = 1 }) (entered n)) there
 
 confirm_done : (m : Matter) (n : ℕ) (row : CallRow) → m.staff ≡ both → is_some (doc_with n m) ≡ true → call_with n m ≡ Some row
-    → confirm_rule row (editor_of row.state) (boxes_on n m.boxes) (held_on n m.held) (is_entered n m.entries) 2 ≡ None
+    → confirm_rule row (editor_number row.state) (boxes_on n m.boxes) (held_on n m.held) (is_entered n m.entries) 2 ≡ None
     → step_of m second_key (confirm_call n).call ≡ done (with_call (confirmed_by (record { 0 = 2 }) row) m)
 unfolding step_of
 confirm_done m n row staff there call none =

@@ -6,15 +6,15 @@ use Rattle.std.proofs.lemmas.List.{get_or-replicate, take_all, take_more}
 use Rattle.std.proofs.lemmas.List.FromFn.{get_or-map-range_with_len, length-map-range_with_len}
 use Rattle.bp_core.specs.Rectangle.{has_pixel}
 use Rattle.bp_core.specs.declared.rectangle.Rect.{Rect}
-use Rattle.bp_rows.specs.Burned.{burned, covers}
+use Rattle.bp_rows.specs.Burned.{burned, covers_pixel}
 use Rattle.bp_rows.specs.Changes.{Rises, Shows, odd, place_at}
 use Rattle.bp_rows.specs.Image.{pixel, row_of, white_image}
 use Rattle.bp_rows.specs.declared.resolution.Res.{Res}
 use Rattle.bp_rows.specs.declared.resolution.Unit.TheVariants.{Inch}
 use Rattle.bp_rows.proofs.BurnedLemmas.{burned_is_grid, pixel-burned}
 use Rattle.bp_text.specs.declared.words.Word.{Word}
-use Rattle.bp_demo.specs.Draws.{after, next}
-use Rattle.bp_demo.specs.Pages.{AreLines, PassesNone, PassesWord, StandsAt, demo_dots, page_image, page_words, word_from}
+use Rattle.bp_demo.specs.Draws.{after_draws, next}
+use Rattle.bp_demo.specs.Pages.{AreLines, PassesNone, PassesWord, StandsAt, demo_dots, page_image, words_drawn, word_from}
 use Rattle.bp_demo.proofs.PageLemmas.{drawn_below}
 
 -- ---- the pixels of one word
@@ -76,7 +76,7 @@ from_first words stand i d less =
 -- no word passes a row that lies above or below each
 no_word : (base : ℕ) (words : List Word) (r c : ℕ) → StandFrom base words
     → ((i : ℕ) → i < length words → (50 + 25 * (base + i) ≤ r) → (r < 50 + 25 * (base + i) + 12) → ⊥)
-    → covers (map (λ word. word.rect) words) r c ≡ false
+    → covers_pixel (map (λ word. word.rect) words) r c ≡ false
 no_word base [] r c stand outside = refl
 no_word base (word ∷ words) r c stand outside =
     or_from _ _ (outside_word base word r c (first_stands base word words stand)
@@ -91,14 +91,14 @@ or_none false = refl
 -- a row that passes a word passes no other
 only_word : (base : ℕ) (words : List Word) (i r c : ℕ) (d : Word) → StandFrom base words → i < length words
     → 50 + 25 * (base + i) ≤ r → r < 50 + 25 * (base + i) + 12
-    → covers (map (λ word. word.rect) words) r c ≡ has_pixel (slice_index_or words i d).rect r c
+    → covers_pixel (map (λ word. word.rect) words) r c ≡ has_pixel (slice_index_or words i d).rect r c
 only_word base [] i r c d stand less from to = absurd (omega (arith, less))
 only_word base (word ∷ words) zero r c d stand less from to =
     ap (λ b. has_pixel word.rect r c || b)
     (no_word (base + 1) words r c (behind_first base word words stand) (λ k inside up down. omega (arith, up, to)))
     ∙ or_none (has_pixel word.rect r c)
 only_word base (word ∷ words) (suc i) r c d stand less from to =
-    ap (λ b. b || covers (map (λ word. word.rect) words) r c) (below_word base word r c (first_stands base word words stand) (omega (arith, from)))
+    ap (λ b. b || covers_pixel (map (λ word. word.rect) words) r c) (below_word base word r c (first_stands base word words stand) (omega (arith, from)))
     ∙ only_word (base + 1) words i r c d (behind_first base word words stand) (omega (arith, less)) (omega (arith, from)) (omega (arith, to))
 
 -- ---- the pixels of a page
@@ -108,12 +108,12 @@ white_pixel w h dots r c down across =
     ap (λ row. slice_index_or row c false) (get_or-replicate h r (replicate w false) [] down) ∙ get_or-replicate w c false false across
 
 black_pixel : (w h : ℕ) (dots : Res) (boxes : List Rect) (r c : ℕ) → r < h → c < w
-    → pixel (burned (white_image w h dots dots Inch) boxes) r c ≡ covers boxes r c
+    → pixel (burned (white_image w h dots dots Inch) boxes) r c ≡ covers_pixel boxes r c
 black_pixel w h dots boxes r c down across =
     pixel-burned (white_image w h dots dots Inch) boxes r c down across
-    ∙ ap (λ b. covers boxes r c || b) (white_pixel w h dots r c down across) ∙ or_none (covers boxes r c)
+    ∙ ap (λ b. covers_pixel boxes r c || b) (white_pixel w h dots r c down across) ∙ or_none (covers_pixel boxes r c)
 
-page_pixel : (words : List Word) (r c : ℕ) → r < 1100 → c < 850 → pixel (page_image words) r c ≡ covers (map (λ word. word.rect) words) r c
+page_pixel : (words : List Word) (r c : ℕ) → r < 1100 → c < 850 → pixel (page_image words) r c ≡ covers_pixel (map (λ word. word.rect) words) r c
 unfolding page_image
 page_pixel words r c down across = black_pixel 850 1100 demo_dots (map (λ word. word.rect) words) r c down across
 
@@ -238,8 +238,8 @@ word_stands x i = record {
   right = omega (arith, drawn_below (next x) 600 (omega arith), drawn_below (next (next x)) 150 (omega arith));
 }
 
-pub drawn_are_lines : (x : ℕ) → AreLines (page_words x)
-unfolding page_words
+pub drawn_are_lines : (x : ℕ) → AreLines (words_drawn x)
+unfolding words_drawn
 drawn_are_lines x i d less =
-    let long : length (map (λ i. word_from (after (3 * i) x) i) (range_with_len 0 40)) ≡ 40 = length-map-range_with_len (λ i. word_from (after (3 * i) x) i) 0 40 in
-    subst (StandsAt i) (sym (get_or-map-range_with_len (λ i. word_from (after (3 * i) x) i) 0 40 i i d (omega (arith, less, long)) (omega arith))) (word_stands (after (3 * i) x) i)
+    let long : length (map (λ i. word_from (after_draws (3 * i) x) i) (range_with_len 0 40)) ≡ 40 = length-map-range_with_len (λ i. word_from (after_draws (3 * i) x) i) 0 40 in
+    subst (StandsAt i) (sym (get_or-map-range_with_len (λ i. word_from (after_draws (3 * i) x) i) 0 40 i i d (omega (arith, less, long)) (omega arith))) (word_stands (after_draws (3 * i) x) i)

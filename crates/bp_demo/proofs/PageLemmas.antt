@@ -17,8 +17,8 @@ use Rattle.bp_matter.specs.Texts.{is_word_text}
 use Rattle.bp_matter.specs.Written.{are_few, image_written, is_word, rect_written, word_written}
 use Rattle.bp_matter.proofs.ImageLemmas.{page_lines}
 use Rattle.bp_demo.specs.Documents.{page_from}
-use Rattle.bp_demo.specs.Draws.{after, drawn, next}
-use Rattle.bp_demo.specs.Pages.{demo_dots, page_image, page_words, word_from}
+use Rattle.bp_demo.specs.Draws.{after_draws, drawn, next}
+use Rattle.bp_demo.specs.Pages.{demo_dots, page_image, words_drawn, word_from}
 use Rattle.bp_demo.proofs.TextLemmas.{word_text_fits, word_text_short}
 
 -- ---- one word
@@ -82,10 +82,10 @@ unfolding page_image
 image_is_page words = burned_is_page 850 1100 demo_dots (map (λ word. word.rect) words) refl (omega arith) (omega arith)
 
 pub page_fits : (x : ℕ) → batch_page_fits (page_from x) ≡ true
-unfolding page_image page_words
+unfolding page_image words_drawn
 page_fits x =
     and_from (sides_are_imported 850 1100) _ refl
-    (all_of_range (batch_word_fits (page_from x)) (λ i. word_from (after (3 * i) x) i) 0 40 (λ i from line. word_fits (after (3 * i) x) i line))
+    (all_of_range (batch_word_fits (page_from x)) (λ i. word_from (after_draws (3 * i) x) i) 0 40 (λ i from line. word_fits (after_draws (3 * i) x) i line))
 
 image_has_writing : (words : List Word) → image_written (page_image words) ≡ true
 unfolding page_image
@@ -94,12 +94,12 @@ image_has_writing words =
     (and_from (is_word 100) _ refl (and_from (is_word 1) _ refl
     (and_from (is_word 100) _ refl (and_from (is_word 1) _ refl (page_lines (page_image words) (image_is_page words)))))))
 
-words_have_writing : (x : ℕ) → are_few word_written (page_words x) ≡ true
-unfolding page_words
+words_have_writing : (x : ℕ) → are_few word_written (words_drawn x) ≡ true
+unfolding words_drawn
 words_have_writing x =
-    let word : ℕ → Word = λ i. word_from (after (3 * i) x) i in
-    and_from _ _ (all_of_range word_written word 0 40 (λ i from line. word_is_written (after (3 * i) x) i line))
+    let word : ℕ → Word = λ i. word_from (after_draws (3 * i) x) i in
+    and_from _ _ (all_of_range word_written word 0 40 (λ i from line. word_is_written (after_draws (3 * i) x) i line))
     (ap is_word (length-map-range_with_len word 0 40))
 
 pub page_written : (x : ℕ) → batch_page_written (page_from x) ≡ true
-page_written x = and_from _ _ (image_has_writing (page_words x)) (words_have_writing x)
+page_written x = and_from _ _ (image_has_writing (words_drawn x)) (words_have_writing x)

@@ -7,7 +7,7 @@ use Rattle.std.proofs.lemmas.List.Folds.{list_all-append}
 use Rattle.bp_matter.specs.Batches.{batch_doc_fits, batch_doc_written, batch_page_fits, batch_page_written, pages_in, parents_stand}
 use Rattle.bp_matter.specs.declared.batches.BatchDoc.{BatchDoc}
 use Rattle.bp_matter.specs.declared.batches.BatchPage.{BatchPage}
-use Rattle.bp_demo.specs.Documents.{Pile, begin_document, document, documents, first_page, go_on, last_number, next_parent, page_from, pages_drawn}
+use Rattle.bp_demo.specs.Documents.{Pile, begin_document, document, documents, first_page, go_on, last_drawn, next_parent, page_from, pages_drawn}
 use Rattle.bp_demo.specs.Draws.{drawn, next}
 use Rattle.bp_demo.proofs.PageLemmas.{page_fits, page_written}
 use Rattle.bp_demo.proofs.TextLemmas.{id_fits, id_short}
@@ -54,8 +54,8 @@ doc_written n parent pages small low written =
 -- what holds behind the first page and so many more
 pub record IsSound (n : ℕ) (pile : Pile) : Type 0 where
   pub families : parents_stand 1 1 pile.done ≡ true
-  pub parent : ((pile.parent == last_number pile) || (pile.parent == last_parent 1 pile.done)) ≡ true
-  pub low : pile.parent ≤ last_number pile
+  pub parent : ((pile.parent == last_drawn pile) || (pile.parent == last_parent 1 pile.done)) ≡ true
+  pub low : pile.parent ≤ last_drawn pile
   pub fit : list_all (batch_doc_fits 0) pile.done ≡ true
   pub written : list_all batch_doc_written pile.done ≡ true
   pub some : 1 ≤ length pile.pages
@@ -74,7 +74,7 @@ pub record AreSound (n : ℕ) (docs : List BatchDoc) : Type 0 where
 
 pub documents_sound : (n : ℕ) (pile : Pile) → n < 2000 → IsSound n pile → AreSound n (documents pile)
 documents_sound n pile small s =
-    let doc = document (last_number pile) pile.parent pile.pages in
+    let doc = document (last_drawn pile) pile.parent pile.pages in
     let few = s.few in
     let low = s.low in
     let place : 1 + length pile.done ≡ length pile.done + 1 = omega arith in
@@ -82,9 +82,9 @@ documents_sound n pile small s =
     record {
       families = stands_last 1 1 pile.done doc s.families stands;
       fit = list_all-append (batch_doc_fits 0) pile.done (doc ∷ [])
-          ∙ and_from _ _ s.fit (and_from (batch_doc_fits 0 doc) true (doc_fits (last_number pile) pile.parent pile.pages (omega arith) s.some s.pages_fit) refl);
+          ∙ and_from _ _ s.fit (and_from (batch_doc_fits 0 doc) true (doc_fits (last_drawn pile) pile.parent pile.pages (omega arith) s.some s.pages_fit) refl);
       written = list_all-append batch_doc_written pile.done (doc ∷ [])
-          ∙ and_from _ _ s.written (and_from (batch_doc_written doc) true (doc_written (last_number pile) pile.parent pile.pages (omega arith) (omega arith) s.pages_written) refl);
+          ∙ and_from _ _ s.written (and_from (batch_doc_written doc) true (doc_written (last_drawn pile) pile.parent pile.pages (omega arith) (omega arith) s.pages_written) refl);
       few = omega (arith, length-append pile.done (doc ∷ []));
       count = pages-append pile.done (doc ∷ []) ∙ omega (arith, s.count);
     }
@@ -105,17 +105,17 @@ first_sound seed = record {
 
 -- a new document is of the family before it, or begins one
 parent_sound : (n : ℕ) (pile : Pile) (joins : Bool) → IsSound n pile
-    → let parent = cond joins pile.parent (last_number pile + 1) in
+    → let parent = cond joins pile.parent (last_drawn pile + 1) in
     (((parent == length (documents pile) + 1) || (parent == last_parent 1 (documents pile))) ≡ true) × (parent ≤ length (documents pile) + 1)
 parent_sound n pile true s =
-    let doc = document (last_number pile) pile.parent pile.pages in
+    let doc = document (last_drawn pile) pile.parent pile.pages in
     let low = s.low in (
       or_right (pile.parent == length (documents pile) + 1) (pile.parent == last_parent 1 (documents pile)) (eq-eqb _ _ (sym (last_of_more 1 pile.done doc))),
       omega (arith, length-append pile.done (doc ∷ [])),
     )
 parent_sound n pile false s =
-    let doc = document (last_number pile) pile.parent pile.pages in (
-      or_left (last_number pile + 1 == length (documents pile) + 1) (last_number pile + 1 == last_parent 1 (documents pile)) (eq-eqb _ _ (omega (arith, length-append pile.done (doc ∷ [])))),
+    let doc = document (last_drawn pile) pile.parent pile.pages in (
+      or_left (last_drawn pile + 1 == length (documents pile) + 1) (last_drawn pile + 1 == last_parent 1 (documents pile)) (eq-eqb _ _ (omega (arith, length-append pile.done (doc ∷ [])))),
       omega (arith, length-append pile.done (doc ∷ [])),
     )
 

@@ -30,7 +30,7 @@ use Rattle.bp_freeze.specs.Selecting.{all_numbers, is_selected, is_settled, is_u
 use Rattle.bp_rules.specs.ImportRows.{doc_rows, of_docs, page_row}
 use Rattle.bp_demo.specs.Answered.{FreezesResponsive}
 use Rattle.bp_demo.specs.Demo.{demo_freeze, demo_matter}
-use Rattle.bp_demo.specs.Documents.{document, documents, last_number, pages_drawn}
+use Rattle.bp_demo.specs.Documents.{document, documents, last_drawn, pages_drawn}
 use Rattle.bp_demo.specs.Frozen.{demo_request}
 use Rattle.bp_demo.proofs.AnswerLemmas.{demo_known, drawn_few}
 use Rattle.bp_demo.proofs.DoneLemmas.{IsAt}
@@ -177,7 +177,7 @@ freezes_responsive seed pages some few =
     let known = demo_known seed pages some few in
     let rows = doc_rows 0 1 [] 1 docs in
     let long : length rows ≡ length docs = rows_long 1 docs in
-    let there : 1 ≤ length docs = rows_some 1 pile.done (document (last_number pile) pile.parent pile.pages) in
+    let there : 1 ≤ length docs = rows_some 1 pile.done (document (last_drawn pile) pile.parent pile.pages) in
     let most = drawn.documents in
     let stands : IsAt rows (of_docs page_row 1 docs) (1 + length rows) m = subst (λ (n : ℕ). IsAt rows (of_docs page_row 1 docs) (1 + n) m) (sym long) known in
     let passes = demo_passes m rows (of_docs page_row 1 docs) (omega (arith, long, most)) (omega (arith, long, there)) (page_numbers_few 1 docs drawn.short) stands in

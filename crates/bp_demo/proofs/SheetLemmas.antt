@@ -12,9 +12,9 @@ use Rattle.bp_matter.specs.declared.batches.BatchPage.{BatchPage}
 use Rattle.bp_rules.specs.Limits.{pixels_in, pixels_on}
 use Rattle.bp_rules.proofs.ListLemmas.{not_true}
 use Rattle.bp_demo.specs.Calls.{first_rect}
-use Rattle.bp_demo.specs.Documents.{Pile, begin_document, document, documents, first_page, go_on, last_number, next_page, next_parent, page_from, pages_drawn}
-use Rattle.bp_demo.specs.Draws.{after, drawn, next}
-use Rattle.bp_demo.specs.Pages.{page_image, page_words}
+use Rattle.bp_demo.specs.Documents.{Pile, begin_document, document, documents, first_page, go_on, last_drawn, next_page, next_parent, page_from, pages_drawn}
+use Rattle.bp_demo.specs.Draws.{after_draws, drawn, next}
+use Rattle.bp_demo.specs.Pages.{page_image, words_drawn}
 use Rattle.bp_demo.proofs.PageLemmas.{word_fits}
 use Rattle.bp_demo.proofs.TextLemmas.{apart}
 
@@ -50,7 +50,7 @@ sheet_parts w h r test =
     }
 
 pub sheet_drawn : (x : ℕ) → is_sheet (page_from x) ≡ true
-unfolding page_image page_words after
+unfolding page_image words_drawn after_draws
 sheet_drawn x =
     and_from (850 == 850) _ refl (and_from (1100 == 1100) _ refl
     (and_from _ _ (and_parts _ _ (word_fits x 0 (omega arith))).0
@@ -69,8 +69,8 @@ pub record AreSheets (pile : Pile) : Type 0 where
 
 pub documents_sheets : (pile : Pile) → AreSheets pile → list_all doc_sheets (documents pile) ≡ true
 documents_sheets pile s =
-    list_all-append doc_sheets pile.done (document (last_number pile) pile.parent pile.pages ∷ [])
-    ∙ and_from _ _ s.done (and_from (doc_sheets (document (last_number pile) pile.parent pile.pages)) true
+    list_all-append doc_sheets pile.done (document (last_drawn pile) pile.parent pile.pages ∷ [])
+    ∙ and_from _ _ s.done (and_from (doc_sheets (document (last_drawn pile) pile.parent pile.pages)) true
     (and_from (nat_le 1 (length pile.pages)) (list_all is_sheet pile.pages) (le-leb 1 (length pile.pages) s.some) s.pages) refl)
 
 first_sheets : (seed : ℕ) → AreSheets (first_page seed)

@@ -14,17 +14,17 @@ use Rattle.bp_rules.specs.declared.decide_imports.Imported.{Imported}
 use Rattle.bp_rules.specs.declared.decided.Decided.{Decided}
 use Rattle.bp_demo.specs.Asked.{demo_asked}
 use Rattle.bp_demo.specs.Calls.{lead_key}
-use Rattle.bp_demo.specs.Demo.{after_call, after_import, call_step, demo_matter, steps_of}
+use Rattle.bp_demo.specs.Demo.{after_demo_call, after_import, call_step, demo_matter, steps_of}
 use Rattle.bp_demo.specs.declared.asked.Asked.{Asked}
 use Rattle.bp_demo.specs.declared.calls.KeyedCall.{KeyedCall}
 use Rattle.bp_demo.proofs.CallLemmas.{next_one}
 
 -- ---- one call, one import
 
-pub called : (m n : Matter) (asked : KeyedCall) (decided : Decided) → n ≡ after m decided.change → step_of m asked.key asked.call ≡ Ok (stepped_of m decided) → n ≡ after_call m asked
+pub called : (m n : Matter) (asked : KeyedCall) (decided : Decided) → n ≡ after m decided.change → step_of m asked.key asked.call ≡ Ok (stepped_of m decided) → n ≡ after_demo_call m asked
 called m n asked decided made is = made ∙ ap (λ (r : Result Stepped Rule). (to_call m r).matter) (sym is)
 
-pub call_refused : (m : Matter) (asked : KeyedCall) (rule : Rule) → step_of m asked.key asked.call ≡ Err rule → m ≡ after_call m asked
+pub call_refused : (m : Matter) (asked : KeyedCall) (rule : Rule) → step_of m asked.key asked.call ≡ Err rule → m ≡ after_demo_call m asked
 call_refused m asked rule is = ap (λ (r : Result Stepped Rule). (to_call m r).matter) (sym is)
 
 pub imported : (m n : Matter) (batch : BatchShown) (found : Imported) → n ≡ after m found.change → import_of m batch ≡ Ok found → n ≡ after_import m batch
@@ -36,7 +36,7 @@ import_refused m batch rule is = ap (λ (r : Result Imported Rule). (to_import m
 -- ---- all calls
 
 -- the next was made, and the others follow
-pub more_called : (whole m n : Matter) (i : ℕ) (calls : List KeyedCall) (call : KeyedCall) → i < length calls → call ≡ slice_index_or calls i call → n ≡ after_call m call
+pub more_called : (whole m n : Matter) (i : ℕ) (calls : List KeyedCall) (call : KeyedCall) → i < length calls → call ≡ slice_index_or calls i call → n ≡ after_demo_call m call
     → run_of m (map call_step (drop i calls)) ≡ whole → run_of n (map call_step (drop (i + 1) calls)) ≡ whole
 more_called whole m n i calls call inside is made before =
     ap (λ (k : Matter). run_of k (map call_step (drop (i + 1) calls))) made
@@ -49,7 +49,7 @@ all_called whole m i calls past before = ap (λ (cs : List KeyedCall). run_of m 
 
 -- ---- all of it
 
-pub all_made : (m one two now : Matter) (asked : Asked) → one ≡ after_call m asked.second → two ≡ after_import one asked.batch → now ≡ run_of two (map call_step asked.calls) → now ≡ run_of m (steps_of asked)
+pub all_made : (m one two now : Matter) (asked : Asked) → one ≡ after_demo_call m asked.second → two ≡ after_import one asked.batch → now ≡ run_of two (map call_step asked.calls) → now ≡ run_of m (steps_of asked)
 all_made m one two now asked first then last =
     last
     ∙ ap (λ (k : Matter). run_of k (map call_step asked.calls)) then

@@ -8,8 +8,8 @@ use Rattle.bp_demo.specs.declared.asked.Asked.{Asked}
 
 -- what is asked in turn where these pages were drawn: staff 2 comes, the documents, and their calls,
 -- for which numbers are drawn on
-abbrev pub asked_of : Pile → Asked
-asked_of pile =
+abbrev pub asked_over : Pile → Asked
+asked_over pile =
     record {
       second = add_second;
       batch = batch_of (documents pile);
@@ -18,4 +18,4 @@ asked_of pile =
 
 -- what is asked for a seed and so many pages, from 1
 abbrev pub demo_asked : ℕ → ℕ → Asked
-demo_asked seed pages = asked_of (pages_drawn seed (pages - 1))
+demo_asked seed pages = asked_over (pages_drawn seed (pages - 1))

@@ -22,8 +22,8 @@ abbrev pub steps_of : Asked → List RunStep
 steps_of asked = call_step asked.second ∷ asks.Import asked.batch ∷ map call_step asked.calls
 
 -- the matter after a call; one that broke a rule would change nothing
-abbrev pub after_call : Matter → KeyedCall → Matter
-after_call m asked = (answered m (call_step asked)).matter
+abbrev pub after_demo_call : Matter → KeyedCall → Matter
+after_demo_call m asked = (answered m (call_step asked)).matter
 
 -- and after an import
 abbrev pub after_import : Matter → BatchShown → Matter

@@ -4,11 +4,11 @@ use Rattle.std.specs.Fmt.{decimal}
 use Rattle.bp_matter.specs.declared.batches.BatchDoc.{BatchDoc}
 use Rattle.bp_matter.specs.declared.batches.BatchPage.{BatchPage}
 use Rattle.bp_demo.specs.Draws.{drawn, next}
-use Rattle.bp_demo.specs.Pages.{behind_page, page_image, page_words}
+use Rattle.bp_demo.specs.Pages.{behind_page, page_image, words_drawn}
 
 -- the page that is drawn from this state on, and its words
 abbrev pub page_from : ℕ → BatchPage
-page_from x = record { page = page_image (page_words x); words = page_words x }
+page_from x = record { page = page_image (words_drawn x); words = words_drawn x }
 
 -- a document of this number, parent and pages; its number is its id, and it has no fields
 abbrev pub document : ℕ → ℕ → List BatchPage → BatchDoc
@@ -24,12 +24,12 @@ pub record Pile : Type 0 where
   pub state : ℕ
 
 -- the number of the last document
-abbrev pub last_number : Pile → ℕ
-last_number pile = length pile.done + 1
+abbrev pub last_drawn : Pile → ℕ
+last_drawn pile = length pile.done + 1
 
 -- all documents
 abbrev pub documents : Pile → List BatchDoc
-documents pile = pile.done ++ document (last_number pile) pile.parent pile.pages ∷ []
+documents pile = pile.done ++ document (last_drawn pile) pile.parent pile.pages ∷ []
 
 -- page 1 begins document 1, without a draw
 abbrev pub first_page : ℕ → Pile
@@ -53,7 +53,7 @@ go_on pile x =
 
 -- the parent of a new document: it joins the family before it where 0 of 4 is drawn
 abbrev pub next_parent : Pile → ℕ → ℕ
-next_parent pile x = if drawn x 4 == 0 then pile.parent else last_number pile + 1
+next_parent pile x = if drawn x 4 == 0 then pile.parent else last_drawn pile + 1
 
 -- another page begins a document where 0 of 3 is drawn
 abbrev pub next_page : Pile → Pile

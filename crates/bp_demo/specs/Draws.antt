@@ -11,6 +11,6 @@ abbrev pub drawn : ℕ → ℕ → ℕ
 drawn x n = x / 2 ^ 33 % n
 
 -- the state after so many draws
-unfoldable pub after : ℕ → ℕ → ℕ
-after zero x = x
-after (suc n) x = next (after n x)
+unfoldable pub after_draws : ℕ → ℕ → ℕ
+after_draws zero x = x
+after_draws (suc n) x = next (after_draws n x)

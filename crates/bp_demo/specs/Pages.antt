@@ -7,7 +7,7 @@ use Rattle.bp_rows.specs.Image.{Image, white_image}
 use Rattle.bp_rows.specs.declared.resolution.Res.{Res}
 use Rattle.bp_rows.specs.declared.resolution.Unit.TheVariants.{Inch}
 use Rattle.bp_text.specs.declared.words.Word.{Word}
-use Rattle.bp_demo.specs.Draws.{after, drawn, next}
+use Rattle.bp_demo.specs.Draws.{after_draws, drawn, next}
 use Rattle.bp_demo.specs.declared.pages.TheConstants.{LINES, PAGE_DOTS, PAGE_HEIGHT, PAGE_WIDTH}
 
 -- word i of a page, i counted from 0, drawn from this state on: its left side, its width and its
@@ -27,12 +27,12 @@ word_from x i =
     }
 
 -- the words of a page that is drawn from this state on: three draws for each
-unfoldable pub page_words : ℕ → List Word
-page_words x = map (λ i. word_from (after (3 * i) x) i) (range_with_len 0 LINES)
+unfoldable pub words_drawn : ℕ → List Word
+words_drawn x = map (λ i. word_from (after_draws (3 * i) x) i) (range_with_len 0 LINES)
 
 -- the state behind a page that is drawn from this state on
 abbrev pub behind_page : ℕ → ℕ
-behind_page x = after (3 * LINES) x
+behind_page x = after_draws (3 * LINES) x
 
 -- 100 dots to the inch
 abbrev pub demo_dots : Res

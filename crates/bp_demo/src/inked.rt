@@ -4,7 +4,7 @@ ghost use Rattle.std.specs.Prelude.{◌≡◌, ◌<◌, IfOk, MatchOption, OnOk}
 ghost use Rattle.bp_rows.specs.Changes.{Shows};
 ghost use Rattle.bp_rows.specs.Image.{row_of};
 ghost use Rattle.bp_rows.specs.declared.resolution.Unit.TheVariants.{Inch};
-ghost use Rattle.bp_t6.specs.Written.{strip_of};
+ghost use Rattle.bp_t6.specs.Written.{bits_strip};
 ghost use Rattle.bp_demo.specs.Pages.{AreLines, PassesNone, PassesWord, demo_dots, page_image};
 
 use crate::pages::{FIRST_ROW, LINE_ROWS, PAGE_DOTS, PAGE_HEIGHT, PAGE_WIDTH, WORD_ROWS};
@@ -57,7 +57,7 @@ fn page_frame() -> Frame
 // The strip of the page on which these words are black (ITU-T T.6).
 fn inked_strip(alloc: Global, words: &[Word]) -> Result<Bytes, OutOfMemory>
     requires { AreLines words.now }
-    ensures { IfOk result (λ strip. strip ≡ strip_of (page_image words.now)) }
+    ensures { IfOk result (λ strip. strip ≡ bits_strip (page_image words.now)) }
 {
     let mut writer = StripWriter::start(alloc, PAGE_WIDTH)?;
     let mut places = Vec::new(alloc);

@@ -1,7 +1,7 @@
 // The words of a page that is drawn.
 ghost use Rattle.std.specs.Prelude.{◌≡◌, ◌<◌, IfOk, OnOk};
 ghost use Rattle.bp_demo.specs.Draws.{next};
-ghost use Rattle.bp_demo.specs.Pages.{AreLines, behind_page, page_words, word_from};
+ghost use Rattle.bp_demo.specs.Pages.{AreLines, behind_page, words_drawn, word_from};
 
 use crate::draws::Draws;
 use crate::plain_texts::word_text;
@@ -32,7 +32,7 @@ pub const WORD_ROWS: u32 = 12;
 
 // Draws the words of a page.
 pub fn drawn_words(alloc: Global, draws: &mut Draws) -> Result<Vec<Word>, OutOfMemory>
-    ensures words { IfOk result (λ words. words.items ≡ page_words draws.old.state) }
+    ensures words { IfOk result (λ words. words.items ≡ words_drawn draws.old.state) }
     ensures lines { IfOk result (λ words. AreLines words.items) }
     ensures state { OnOk result (draws.new.state ≡ behind_page draws.old.state) }
 {

@@ -2,7 +2,7 @@
 ghost use Rattle.std.specs.Prelude.{◌≡◌, ◌≤◌, IfOk, OnErr, OnOk, map};
 ghost use Rattle.bp_rules.specs.Changes.{CanBeMade, after};
 ghost use Rattle.bp_rules.specs.Running.{run_of};
-ghost use Rattle.bp_demo.specs.Demo.{after_call, after_import, call_step, demo_matter, steps_of};
+ghost use Rattle.bp_demo.specs.Demo.{after_demo_call, after_import, call_step, demo_matter, steps_of};
 
 use crate::asked::{Asked, demo_asked};
 use crate::batch::digest_of;
@@ -59,7 +59,7 @@ fn make_calls(alloc: Global, tables: &mut Tables, calls: &[KeyedCall]) -> Result
 #[tactic(auto, using(crate::proofs::TableLemmas::called, crate::proofs::TableLemmas::call_refused))]
 // Makes a call. One that broke a rule would change nothing.
 fn make_call(alloc: Global, tables: &mut Tables, asked: &KeyedCall) -> Result<(), OutOfMemory>
-    ensures { OnOk result (tables.new.matter ≡ after_call tables.old.matter asked.now) }
+    ensures { OnOk result (tables.new.matter ≡ after_demo_call tables.old.matter asked.now) }
 {
     match decide(alloc, tables, &asked.key, &asked.call) {
         Ok(Decided { change, .. }) => {

@@ -39,7 +39,7 @@ use Rattle.bp_desk.specs.Calls.{AltersAmong, AltersOn, made_by}
 use Rattle.bp_desk.specs.History.{Turn, turns_of}
 use Rattle.bp_doors.specs.Exchanges.{memory_text}
 use Rattle.bp_doors.specs.Exchanges.Sent.{cut, whole}
-use Rattle.bp_desk.specs.Served.{Served, TellsRequest, TextOfNone, WasRead}
+use Rattle.bp_desk.specs.Served.{Served, TellsRequest, TextOfNone, WasReadWhole}
 use Rattle.bp_desk.specs.Served.Served.{called, nobody, uncalled}
 use Rattle.bp_desk.specs.Served.TextOfCall.{no_reply, reply}
 use Rattle.bp_desk.specs.Served.TextOfNone.{fault, no_memory, no_read, no_room, refusal}
@@ -208,7 +208,7 @@ few_were_needed bytes few =
     record { front = []; last = bytes; all = refl; few = few; needed = inr nothing_yet }
 
 -- so many bytes at most are read at once
-read_to_end : (x : Exchange) → x.ended ≡ true → length x.read ≤ INPUT_CHUNK → WasRead x
+read_to_end : (x : Exchange) → x.ended ≡ true → length x.read ≤ INPUT_CHUNK → WasReadWhole x
 read_to_end x ended few = record { stopped = inr ended; needed = few_were_needed x.read few }
 
 -- ---- an exchange of each case

@@ -17,11 +17,11 @@ use Rattle.bp_web.specs.declared.replies.Answer.TheVariants as answers
 use Rattle.bp_web.specs.declared.requests.Asked.{Asked}
 use Rattle.bp_doors.specs.Exchanges.{IsRefusalText, Sent, memory_text, text_of}
 use Rattle.bp_doors.specs.Serving.{RoseBy}
-use Rattle.bp_desk.specs.Exchanges.{AltersNow, Answers, AnswersRead, CallsAt, Deals, ReadsAs, Refuses, answer_from}
+use Rattle.bp_desk.specs.Exchanges.{AltersNow, AnswersCall, AnswersRead, CallsAt, Deals, ReadsAs, Refuses, answer_from}
 use Rattle.bp_desk.specs.Exchanges.Deals.{made_none, made_one}
 use Rattle.bp_desk.specs.Calls.{AltersOn}
 use Rattle.bp_desk.specs.History.{AreOthers, HistoryView, asked_by, is_full, matter_of, sent_for}
-use Rattle.bp_desk.specs.Served.{Asks, IsEnough, TellsRequest, TextOfNone, WasRead}
+use Rattle.bp_desk.specs.Served.{Asks, IsEnough, TellsRequest, TextOfNone, WasReadWhole}
 use Rattle.bp_desk.specs.Served.TextOfCall.{no_reply, reply}
 use Rattle.bp_desk.specs.Served.TextOfNone.{fault, no_memory, no_room, refusal}
 use Rattle.bp_desk.specs.declared.history.Made.{Made}
@@ -66,9 +66,9 @@ deal_made : (seat : ℕ) (before after : HistoryView) (made : Made) (answer : Re
     (text : List ℕ) (x : Exchange)
     → made.seat ≡ seat
     → Asks x (asked_by made)
-    → WasRead x
+    → WasReadWhole x
     → Sent x text
-    → Answers before made answer after
+    → AnswersCall before made answer after
     → (text ≡ reply_text (sent_for answer)) ⊎ (text ≡ memory_text)
     → Deals seat before x after
 deal_made seat before after made answer text x own asks read s is (inl t) =
@@ -82,7 +82,7 @@ deal_made seat before after made answer text x own asks read s is (inr t) =
 deal_fault : (seat : ℕ) (before after : HistoryView) (made : Made) (text : List ℕ) (x : Exchange)
     → made.seat ≡ seat
     → Asks x (asked_by made)
-    → WasRead x
+    → WasReadWhole x
     → Sent x text
     → Refuses before made.seat after × (risen before.faults ≤ after.faults)
     × AltersOn (matter_of after) made.key made.call
@@ -99,7 +99,7 @@ deal_full : (seat : ℕ) (before after : HistoryView) (made : Made) (count : ℕ
     (x : Exchange)
     → made.seat ≡ seat
     → Asks x (asked_by made)
-    → WasRead x
+    → WasReadWhole x
     → Sent x text
     → Refuses before made.seat after × (length after.calls ≡ after.room) × (count ≡ after.room)
     → (text ≡ reply_text (answers.JournalFull count)) ⊎ (text ≡ memory_text)
@@ -115,7 +115,7 @@ deal_full seat before after made count text x own asks read s is (inr t) =
 -- either text says that memory ran out
 deal_lacking : (seat : ℕ) (before after : HistoryView) (made : Made) (text : List ℕ) (x : Exchange)
     → made.seat ≡ seat
-    → WasRead x
+    → WasReadWhole x
     → Sent x text
     → Refuses before made.seat after
     → (text ≡ memory_text) ⊎ (text ≡ memory_text)
@@ -129,7 +129,7 @@ deal_given : (seat : ℕ) (before after : HistoryView) (made : Made)
     (given : Result Reply DeskRefusal) (text : List ℕ) (x : Exchange)
     → made.seat ≡ seat
     → Asks x (asked_by made)
-    → WasRead x
+    → WasReadWhole x
     → Sent x text
     → CallsAt before made given after
     → (text ≡ reply_text (answer_from given)) ⊎ (text ≡ memory_text)
@@ -206,7 +206,7 @@ pub answer_bytes : (seat : ℕ) (before after : HistoryView) (bytes text : List 
     → AnswersRead seat before request text after
     → (x : Exchange)
     → x.read ≡ bytes
-    → WasRead x
+    → WasReadWhole x
     → Sent x text
     → Deals seat before x after
 answer_bytes seat before after bytes text request reads is x read stopped s =

@@ -15,7 +15,7 @@ use Rattle.bp_desk.specs.Exchanges.Deals.{made_none, made_one}
 use Rattle.bp_desk.specs.History.{Grew, HistoryView, Turn, is_full, matter_of, turn_of, turns_of}
 use Rattle.bp_desk.specs.Served.{Served}
 use Rattle.bp_desk.specs.Served.Served.{called, nobody, uncalled}
-use Rattle.bp_desk.specs.Serving.{AltersSince, AreAnswered, DealsAt, Serves, ServesDoor}
+use Rattle.bp_desk.specs.Serving.{AltersSince, AreAnswered, DealsAt, ServesCalls, ServesCallDoor}
 use Rattle.bp_desk.specs.declared.history.Made.{Made}
 use Rattle.bp_desk.proofs.HistoryLemmas.{as_full, grew_not, grew_twice, matter_after, run_calls-append, turns_of-append, turns_of-last, turns_of-others}
 use Rattle.bp_desk.proofs.ServedLemmas.{fuller, served_append, served_complete}
@@ -174,7 +174,7 @@ known_in_turn seat knows v w xs count (next a b c x told others left h deals res
 -- ---- a door served
 
 serves_complete : (seat tried : ℕ) (b c : HistoryView) (u v : DoorView)
-    (serves : Serves seat tried b u c v)
+    (serves : ServesCalls seat tried b u c v)
     → is_full c ≡ false
     → (Rose b.faults c.faults → ⊥)
     → AreAnswered (turns_of seat (matter_of b) serves.made) serves.exchanges
@@ -185,11 +185,11 @@ serves_complete seat tried b c u v serves unfull not =
 pub serves_door : {W : Type 0} (seat connections count : ℕ) (knows : W → HistoryView) (a b : W)
     (u v : DoorView)
     → ServesDoorBy (λ a x told b. Deals seat (knows a) x (knows b)) connections a u count b v
-    → ServesDoor seat connections (knows a) u (knows b) v
+    → ServesCallDoor seat connections (knows a) u (knows b) v
 serves_door seat connections count knows a b u v is =
     let went : Went seat (knows a) is.serves.exchanges (knows b) =
     went_in_turn seat knows a b is.serves.exchanges count is.serves.turns in
-    let serves : Serves seat is.tried (knows a) u (knows b) v = record {
+    let serves : ServesCalls seat is.tried (knows a) u (knows b) v = record {
       exchanges = is.serves.exchanges;
       made = went.made;
       faults = went.faults;

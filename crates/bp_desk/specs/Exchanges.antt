@@ -19,7 +19,7 @@ use Rattle.bp_doors.specs.Exchanges.{Sent, WasCut, memory_text}
 use Rattle.bp_doors.specs.Exchanges.Sent.{whole}
 use Rattle.bp_doors.specs.Exchanges.WasCut.{no_read as cut_read, no_room as cut_room}
 use Rattle.bp_doors.specs.Serving.{RoseBy}
-use Rattle.bp_desk.specs.Served.{TellsRequest, TextOfCall, TextOfNone, WasRead}
+use Rattle.bp_desk.specs.Served.{TellsRequest, TextOfCall, TextOfNone, WasReadWhole}
 use Rattle.bp_desk.specs.Served.TextOfNone.{no_memory, no_read}
 use Rattle.bp_desk.specs.declared.history.Made.{Made}
 use Rattle.bp_desk.specs.declared.refusals.DeskRefusal.{DeskRefusal}
@@ -28,7 +28,7 @@ use Rattle.bp_desk.specs.declared.refusals.DeskRefusal.TheVariants as desk_refus
 -- ---- a call
 
 -- a call was made behind calls of others, and this is the answer at its place
-pub record Answers (before : HistoryView) (made : Made) (answer : Result Reply Rule)
+pub record AnswersCall (before : HistoryView) (made : Made) (answer : Result Reply Rule)
     (after : HistoryView) : Type 0 where
   pub others : List Made
   pub apart : AreOthers made.seat others
@@ -46,8 +46,8 @@ pub record Refuses (before : HistoryView) (seat : ℕ) (after : HistoryView) : T
 -- what a call gives: a reply or a broken rule is the answer at its place; each other refusal leaves
 -- the calls of this seat. The keeper failed at a call that alters the matter
 abbrev pub CallsAt : HistoryView → Made → Result Reply DeskRefusal → HistoryView → Type 0
-CallsAt before made (Ok reply) after = Answers before made (Ok reply) after
-CallsAt before made (Err (desk_refusals.Rule rule)) after = Answers before made (Err rule) after
+CallsAt before made (Ok reply) after = AnswersCall before made (Ok reply) after
+CallsAt before made (Err (desk_refusals.Rule rule)) after = AnswersCall before made (Err rule) after
 CallsAt before made (Err desk_refusals.KeeperFault) after =
     Refuses before made.seat after × (risen before.faults ≤ after.faults)
     × AltersOn (matter_of after) made.key made.call
@@ -113,4 +113,5 @@ deal_cut seat history x (cut_read short refused none) =
 -- it
 abbrev pub AnswersRead : ℕ → HistoryView → Result Asked WebRefusal → List ℕ → HistoryView → Type 0
 AnswersRead seat before request text after =
-    (x : Exchange) → ReadsAs x.read request → WasRead x → Sent x text → Deals seat before x after
+    (x : Exchange) → ReadsAs x.read request → WasReadWhole x → Sent x text
+    → Deals seat before x after

@@ -8,7 +8,7 @@ use Rattle.bp_web.specs.declared.requests.Asked.{Asked}
 use Rattle.bp_desk.specs.Calls.{AltersAmong}
 use Rattle.bp_desk.specs.History.{AreOthers, HistoryView, turns_of}
 use Rattle.bp_desk.specs.Served.{Served}
-use Rattle.bp_desk.specs.Serving.{AreAnswered, Returned, ServesDoor, raised}
+use Rattle.bp_desk.specs.Serving.{AreAnswered, Returned, ServesCallDoor, raised}
 use Rattle.bp_desk.specs.declared.history.Made.{Made}
 
 -- the history has as many calls as there is room for
@@ -40,7 +40,7 @@ pub record DoorServed (opening : Matter) (history : List Made) (room seat connec
 -- no other call of the seat
 abbrev pub SeatLaw : Type 0
 SeatLaw = (seat connections room : ℕ) (before after : HistoryView) (door door' : DoorView)
-    (history rest : List Made) (serves : ServesDoor seat connections before door after door')
+    (history rest : List Made) (serves : ServesCallDoor seat connections before door after door')
     → before.calls ≡ [] → before.room ≡ room
     → history ≡ after.calls ++ rest → AreOthers seat rest → length history ≤ room
     → DoorServed before.opening history room seat connections serves.serves.faults door door'

@@ -22,8 +22,8 @@ TellsRequest bytes false = ¬ (IsWhole bytes) × ¬ (NeverBegins (start_of bytes
 
 -- reading stopped because the bytes were enough, or at the end of input, and went on no further than
 -- was needed
-abbrev pub WasRead : Exchange → Type 0
-WasRead x = WasReadBy TellsRequest x
+abbrev pub WasReadWhole : Exchange → Type 0
+WasReadWhole x = WasReadBy TellsRequest x
 
 -- the bytes read ask for this
 abbrev pub Asks : Exchange → Asked → Type 0
@@ -31,8 +31,9 @@ Asks x asked = HttpReads x.read (Ok asked)
 
 -- what may be sent in an exchange that made this call: the reply, or that memory ran out for it
 pub data TextOfCall (turn : Turn) (x : Exchange) (text : List ℕ) : Type 0 where
-  reply : Asks x turn.asked → WasRead x → text ≡ reply_text turn.answer → TextOfCall turn x text
-  no_reply : Asks x turn.asked → WasRead x → text ≡ memory_text → TextOfCall turn x text
+  reply : Asks x turn.asked → WasReadWhole x → text ≡ reply_text turn.answer
+      → TextOfCall turn x text
+  no_reply : Asks x turn.asked → WasReadWhole x → text ≡ memory_text → TextOfCall turn x text
 
 -- What may be sent in one that made no call: why the bytes are no request; that the history is
 -- full, where no call of the seat is left; that the keeper failed, at a call that alters what is
@@ -40,12 +41,12 @@ pub data TextOfCall (turn : Turn) (x : Exchange) (text : List ℕ) : Type 0 wher
 -- needed.
 pub data TextOfNone (Alters : Asked → Type 0) (full : Bool) (room : ℕ) (left : List Turn)
     (x : Exchange) (text : List ℕ) : ℕ → Type 0 where
-  refusal : (why : WebRefusal) → HttpReads x.read (Err why) → WasRead x
+  refusal : (why : WebRefusal) → HttpReads x.read (Err why) → WasReadWhole x
       → text ≡ reply_text (answers.Web why) → TextOfNone Alters full room left x text 0
-  no_room : (asked : Asked) → Asks x asked → WasRead x
+  no_room : (asked : Asked) → Asks x asked → WasReadWhole x
       → full ≡ true → left ≡ []
       → text ≡ reply_text (answers.JournalFull room) → TextOfNone Alters full room left x text 0
-  fault : (asked : Asked) → Asks x asked → WasRead x → Alters asked
+  fault : (asked : Asked) → Asks x asked → WasReadWhole x → Alters asked
       → text ≡ reply_text answers.KeeperFault → TextOfNone Alters full room left x text 1
   no_memory : WasNeeded TellsRequest x.read → text ≡ memory_text
       → TextOfNone Alters full room left x text 0

@@ -12,7 +12,7 @@ use Rattle.bp_doors.specs.Exchanges.{memory_text}
 use Rattle.bp_doors.specs.Serving.{InTurn}
 pub use Rattle.bp_doors.specs.Serving.{Knocks, Returned, RoseBy, raised}
 use Rattle.bp_desk.specs.Exchanges.{Deals}
-use Rattle.bp_desk.specs.Served.{Asks, Served, WasRead}
+use Rattle.bp_desk.specs.Served.{Asks, Served, WasReadWhole}
 use Rattle.bp_desk.specs.declared.history.Made.{Made}
 
 -- a call for what was asked alters the matter behind some beginning of the calls that came
@@ -27,8 +27,8 @@ DealsAt seat before x made after = Deals seat before x after
 -- the exchanges use up those of the seat. The keeper failed at least as often as was answered, and
 -- in the very exchanges: from what was known before each to what was known after it. A full history
 -- has no new calls.
-pub record Serves (seat tried : ℕ) (before : HistoryView) (door : DoorView) (after : HistoryView)
-    (door' : DoorView) : Type 0 where
+pub record ServesCalls (seat tried : ℕ) (before : HistoryView) (door : DoorView)
+    (after : HistoryView) (door' : DoorView) : Type 0 where
   pub exchanges : List Exchange
   pub made : List Made
   pub faults : ℕ
@@ -48,7 +48,7 @@ pub record IsAnswered (turns : List Turn) (x : Exchange) : Type 0 where
   pub turn : Turn
   pub there : slice_get turns place ≡ Some turn
   pub asked : Asks x turn.asked
-  pub read : WasRead x
+  pub read : WasReadWhole x
   pub written : x.written ≡ reply_text turn.answer
 
 -- each exchange that asks for a call, in which no read or write was refused, and which wasn't
@@ -60,10 +60,10 @@ AreAnswered turns exchanges =
 
 -- A door was served for so many connections. Where the history isn't full and the keeper's count
 -- didn't rise, each exchange that was not cut or out of memory was answered.
-pub record ServesDoor (seat connections : ℕ) (before : HistoryView) (door : DoorView)
+pub record ServesCallDoor (seat connections : ℕ) (before : HistoryView) (door : DoorView)
     (after : HistoryView) (door' : DoorView) : Type 0 where
   pub tried : ℕ
-  pub serves : Serves seat tried before door after door'
+  pub serves : ServesCalls seat tried before door after door'
   pub returned : Returned connections tried door'
   pub complete : is_full after ≡ false → ¬ (Rose before.faults after.faults)
       → AreAnswered (turns_of seat (matter_of before) serves.made) serves.exchanges

@@ -1,5 +1,5 @@
 // Serving a door by a caller.
-ghost use Rattle.bp_desk.specs.Serving.{Knocks, ServesDoor};
+ghost use Rattle.bp_desk.specs.Serving.{Knocks, ServesCallDoor};
 
 use crate::callers::Caller;
 use crate::handler::CallHandler;
@@ -20,8 +20,8 @@ pub fn serve_by<S, C: Caller<S>, D: Door>(
     connections: u32,
 )
     requires { C.Keeps caller.now at.old }
-    ensures served { ServesDoor (C.seat caller.now) connections (C.knows at.old) (D.shows door.old)
-        (C.knows at.new) (D.shows door.new) }
+    ensures served { ServesCallDoor (C.seat caller.now) connections (C.knows at.old)
+        (D.shows door.old) (C.knows at.new) (D.shows door.new) }
     ensures knocks { Knocks D.shows connections door.old door.new }
     ensures keeps { C.Keeps caller.now at.new }
 {

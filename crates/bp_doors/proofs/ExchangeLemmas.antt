@@ -5,8 +5,8 @@ use Rattle.std.specs.Option.{option_map}
 use Rattle.std.proofs.lemmas.List.{take-append-drop}
 use Rattle.bp_core.specs.declared.refusals.OutOfMemory.{OutOfMemory}
 use Rattle.bp_outside.proofs.DoorLemmas.{told_changed}
-use Rattle.bp_outside.specs.Door.{DoorView, Sends, after_refusal, changed, fresh, hung, refused, to_last, took, wrote}
-use Rattle.bp_outside.specs.Input.{StopsAt, TakesPart, TakesWhole, WasNeeded}
+use Rattle.bp_outside.specs.Door.{DoorView, Sends, door_after_refusal, changed, new_exchange, hung, door_refused, to_last, took, wrote}
+use Rattle.bp_outside.specs.Input.{InputStopsAt, TakesPart, TakesWhole, WasNeeded}
 use Rattle.bp_outside.specs.declared.exchange.Exchange.{Exchange}
 use Rattle.bp_outside.specs.declared.refusals.DoorRefusal.{DoorRefusal}
 use Rattle.bp_outside.specs.declared.refusals.DoorRefusal.TheVariants as door_refusals
@@ -45,12 +45,12 @@ changes_twice f g door between after first then =
     }
 
 changes_refused : (change : Exchange → Exchange) (why : DoorRefusal) (door after : DoorView)
-    → after ≡ after_refusal (changed change door) why
-    → Changes (λ x. refused why (change x)) door after
+    → after ≡ door_after_refusal (changed change door) why
+    → Changes (λ x. door_refused why (change x)) door after
 changes_refused change why door after is =
     record {
       exchanges = ap (λ d. d.exchanges) is
-          ∙ told_changed change (refused why) (λ x. refused why (change x)) (λ x. refl)
+          ∙ told_changed change (door_refused why) (λ x. door_refused why (change x)) (λ x. refl)
           door.exchanges;
       under_way = ap (λ d. d.under_way) is;
       closed = ap (λ d. d.closed) is;
@@ -71,27 +71,27 @@ talk_sent Deals w w' made door between after bytes ended text (Ok done) read sen
       changes = changes_twice (took bytes ended) (wrote text) door between after
           (changes_of (took bytes ended) door between read)
           (changes_of (wrote text) between after sent_);
-      deals = deal (hung (wrote text (took bytes ended fresh))) refl refl (whole refl);
+      deals = deal (hung (wrote text (took bytes ended new_exchange))) refl refl (whole refl);
     }
 talk_sent Deals w w' made door between after bytes ended text (Err door_refusals.Failed) read sent_ deal =
     let part = take sent_.count text in
     record {
-      change = λ x. refused door_refusals.Failed (wrote part (took bytes ended x));
-      changes = changes_twice (took bytes ended) (λ x. refused door_refusals.Failed (wrote part x))
+      change = λ x. door_refused door_refusals.Failed (wrote part (took bytes ended x));
+      changes = changes_twice (took bytes ended) (λ x. door_refused door_refusals.Failed (wrote part x))
           door between after (changes_of (took bytes ended) door between read)
           (changes_refused (wrote part) door_refusals.Failed between after sent_.written);
-      deals = deal (hung (refused door_refusals.Failed (wrote part (took bytes ended fresh))))
+      deals = deal (hung (door_refused door_refusals.Failed (wrote part (took bytes ended new_exchange))))
           refl refl (cut (inl refl) (drop sent_.count text) (take-append-drop sent_.count text));
     }
 talk_sent Deals w w' made door between after bytes ended text (Err door_refusals.OutOfMemory) read sent_ deal =
     let part = take sent_.count text in
     record {
-      change = λ x. refused door_refusals.OutOfMemory (wrote part (took bytes ended x));
+      change = λ x. door_refused door_refusals.OutOfMemory (wrote part (took bytes ended x));
       changes = changes_twice (took bytes ended)
-          (λ x. refused door_refusals.OutOfMemory (wrote part x))
+          (λ x. door_refused door_refusals.OutOfMemory (wrote part x))
           door between after (changes_of (took bytes ended) door between read)
           (changes_refused (wrote part) door_refusals.OutOfMemory between after sent_.written);
-      deals = deal (hung (refused door_refusals.OutOfMemory (wrote part (took bytes ended fresh))))
+      deals = deal (hung (door_refused door_refusals.OutOfMemory (wrote part (took bytes ended new_exchange))))
           refl refl (cut (inr refl) (drop sent_.count text) (take-append-drop sent_.count text));
     }
 
@@ -114,22 +114,22 @@ talk_memory Tells Deals w door between after said result cut_off part spoken sen
 pub talk_refused : {W : Type 0} (Tells : List ℕ → Bool → Type 0)
     (Deals : W → Exchange → Bool → W → Type 0) (w : W) (door after : DoorView) (why : DoorRefusal)
     → ((x : Exchange) → WasCut Tells x → Deals w x false w)
-    → StopsAt Tells door why after
+    → InputStopsAt Tells door why after
     → Talks Deals w door false w after
 talk_refused Tells Deals w door after door_refusals.Failed cut_off stop =
     let bytes = stop.some in
     record {
-      change = λ x. refused door_refusals.Failed (took bytes false x);
+      change = λ x. door_refused door_refusals.Failed (took bytes false x);
       changes = changes_refused (took bytes false) door_refusals.Failed door after stop.read;
-      deals = cut_off (hung (refused door_refusals.Failed (took bytes false fresh)))
+      deals = cut_off (hung (door_refused door_refusals.Failed (took bytes false new_exchange)))
           (no_read stop.short (inl refl) refl);
     }
 talk_refused Tells Deals w door after door_refusals.OutOfMemory cut_off stop =
     let bytes = stop.some in
     record {
-      change = λ x. refused door_refusals.OutOfMemory (took bytes false x);
+      change = λ x. door_refused door_refusals.OutOfMemory (took bytes false x);
       changes = changes_refused (took bytes false) door_refusals.OutOfMemory door after stop.read;
-      deals = cut_off (hung (refused door_refusals.OutOfMemory (took bytes false fresh)))
+      deals = cut_off (hung (door_refused door_refusals.OutOfMemory (took bytes false new_exchange)))
           (no_read stop.short (inr refl) refl);
     }
 

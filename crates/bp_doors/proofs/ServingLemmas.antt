@@ -5,7 +5,7 @@ use Rattle.std.specs.Option.{option_map}
 use Rattle.std.proofs.lemmas.List.{append-nil}
 use Rattle.bp_core.specs.Counts.{risen}
 use Rattle.bp_outside.proofs.DoorLemmas.{told_added}
-use Rattle.bp_outside.specs.Door.{DoorView, after_accept, after_hang_up, after_leave, fresh, hung, to_last}
+use Rattle.bp_outside.specs.Door.{DoorView, after_accept, after_hang_up, after_leave, new_exchange, hung, to_last}
 use Rattle.bp_outside.specs.declared.exchange.Exchange.{Exchange}
 use Rattle.bp_outside.specs.declared.refusals.DoorRefusal.{DoorRefusal}
 use Rattle.bp_doors.specs.Exchanges.{Talks}
@@ -27,13 +27,13 @@ told_nothing (Some old) = ap Some (sym (append-nil old))
 
 -- what is told after an exchange came, passed and was hung up
 told_one : (change : Exchange → Exchange) (told first then now : Option (List Exchange))
-    → first ≡ option_map (λ old. old ++ fresh ∷ []) told
+    → first ≡ option_map (λ old. old ++ new_exchange ∷ []) told
     → then ≡ option_map (to_last change) first
     → now ≡ option_map (to_last hung) then
-    → now ≡ option_map (λ old. old ++ hung (change fresh) ∷ []) told
+    → now ≡ option_map (λ old. old ++ hung (change new_exchange) ∷ []) told
 told_one change told first then now came passed over =
     over ∙ ap (option_map (to_last hung)) (passed ∙ ap (option_map (to_last change)) came
-    ∙ told_added change fresh told) ∙ told_added hung (change fresh) told
+    ∙ told_added change new_exchange told) ∙ told_added hung (change new_exchange) told
 
 -- ---- exchanges in turn
 
@@ -95,7 +95,7 @@ pub serves_one : {W : Type 0} (Deals : W → Exchange → Bool → W → Type 0)
     → over ≡ after_hang_up passed
     → Serves Deals 1 w door (count_if made) w' over
 serves_one Deals w w' made door came passed over c talks o =
-    let x : Exchange = hung (talks.change fresh) in
+    let x : Exchange = hung (talks.change new_exchange) in
     let P : ℕ → Type 0 = λ n. InTurn Deals w (x ∷ []) n w' in
     let none : count_if made + 0 ≡ count_if made = omega arith in
     record {

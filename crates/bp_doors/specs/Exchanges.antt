@@ -2,7 +2,7 @@
 use Rattle.std.specs.Prelude.{◌≡◌, ◌⊎◌, ℕ, Bool, true, false, List, [], ◌++◌, Result, Ok, Err}
 use Rattle.std.specs.Option.{option_map}
 use Rattle.bp_core.specs.declared.refusals.OutOfMemory.{OutOfMemory}
-use Rattle.bp_outside.specs.Door.{DoorView, fresh, hung, to_last}
+use Rattle.bp_outside.specs.Door.{DoorView, new_exchange, hung, to_last}
 use Rattle.bp_outside.specs.Input.{WasNeeded}
 use Rattle.bp_outside.specs.declared.exchange.Exchange.{Exchange}
 use Rattle.bp_web.specs.Replies.{reply_text}
@@ -70,4 +70,4 @@ pub record Talks {W : Type 0} (Deals : W → Exchange → Bool → W → Type 0)
     (door : DoorView) (made : Bool) (after : W) (door' : DoorView) : Type 0 where
   pub change : Exchange → Exchange
   pub changes : Changes change door door'
-  pub deals : Deals before (hung (change fresh)) made after
+  pub deals : Deals before (hung (change new_exchange)) made after

@@ -10,7 +10,7 @@ use Rattle.std.specs.declared.alloc.Global.{Global}
 use Rattle.csv.specs.Writing.{fields_written, has_written, writer_setup}
 use Rattle.csv.specs.declared.writer.QuoteStyle.TheVariants as style
 use Rattle.csv.specs.declared.writer.Writer.{Writer}
-use Rattle.bp_freeze.specs.Writing.{AddsLine, IsBetween, is_one_line, text_of, written}
+use Rattle.bp_freeze.specs.Writing.{AddsLine, WriterIsBetween, is_one_line, written_text, written}
 
 -- neither of two tests passes
 none_of_two : (a b : Bool) → not (a || b) ≡ true → (a ≡ false) × (b ≡ false)
@@ -68,18 +68,18 @@ grown (Some xs) (Some ys) before bytes e h =
     let same : xs ≡ before = cc in
     ap (λ zs. Some zs) (h ∙ ap (λ zs. zs ++ bytes) same)
 
-pub not-by-number : (w : Writer (Vec ℕ Global)) → IsBetween w → (writer_setup w).style ≢ style.NonNumeric
+pub not-by-number : (w : Writer (Vec ℕ Global)) → WriterIsBetween w → (writer_setup w).style ≢ style.NonNumeric
 not-by-number w between e =
     let plain : (writer_setup w).style ≡ style.Necessary = ap (λ setup. setup.style) between.setup in
     cc
 
-pub adds-line : (old new : Writer (Vec ℕ Global)) (values : List (List ℕ)) → IsBetween old → 2 ≤ length values → list_all is_one_line values ≡ true
+pub adds-line : (old new : Writer (Vec ℕ Global)) (values : List (List ℕ)) → WriterIsBetween old → 2 ≤ length values → list_all is_one_line values ≡ true
     → writer_setup new ≡ writer_setup old → fields_written new ≡ 0 → has_written new ≡ false
     → Appends (written old) (written new) (row_text (writer_setup old) values) → AddsLine old new (csv_line values)
 adds-line old new values between two lines setup fields wrote more =
-    let now : written new ≡ Some (text_of old ++ row_text (writer_setup old) values) = grown (written old) (written new) (text_of old) (row_text (writer_setup old) values) between.known more in
-    let text : text_of new ≡ text_of old ++ row_text (writer_setup old) values = ap (λ known. unwrap_or known []) now in
+    let now : written new ≡ Some (written_text old ++ row_text (writer_setup old) values) = grown (written old) (written new) (written_text old) (row_text (writer_setup old) values) between.known more in
+    let text : written_text new ≡ written_text old ++ row_text (writer_setup old) values = ap (λ known. unwrap_or known []) now in
     record {
       between = record { setup = setup ∙ between.setup; fields = fields; wrote = wrote; known = now ∙ ap (λ t. Some t) (sym text) };
-      text = text ∙ ap (λ line. text_of old ++ line) (ap (λ s. row_text s values) between.setup ∙ row-line values two lines);
+      text = text ∙ ap (λ line. written_text old ++ line) (ap (λ s. row_text s values) between.setup ∙ row-line values two lines);
     }

@@ -21,7 +21,7 @@ use Rattle.bp_matter.specs.declared.rows.ProductionRow.{ProductionRow}
 use Rattle.bp_matter.specs.declared.rows.Request.{Request}
 use Rattle.bp_matter.specs.declared.rows.State.TheVariants.{First, Confirmed}
 use Rattle.bp_freeze.specs.Freezing.{freeze_of}
-use Rattle.bp_freeze.specs.Keeping.{Keeps, frozen_matter}
+use Rattle.bp_freeze.specs.Keeping.{KeepsProduction, frozen_matter}
 use Rattle.bp_freeze.specs.Numbers.{all_labels, numbers_under}
 use Rattle.bp_freeze.specs.Together.{HasItemOf, StandsIn, item_doc}
 
@@ -155,10 +155,10 @@ twice_valid = record {
 
 -- ---- the productions that are kept, and the numbers that they took
 
-first_kept : Keeps twice first
+first_kept : KeepsProduction twice first
 first_kept = refl
 
-second_kept : Keeps twice second
+second_kept : KeepsProduction twice second
 second_kept = refl
 
 all_numbers : numbers_under (codes "AB-") twice.productions ≡ (1 ∷ 2 ∷ 3 ∷ 4 ∷ [])

@@ -16,7 +16,7 @@ use Rattle.bp_matter.specs.declared.rows.Request.{Request}
 use Rattle.bp_freeze.specs.Freezing.{production_of}
 use Rattle.bp_freeze.specs.Refusals.{first_refusal, next_number, prefix_row}
 use Rattle.bp_freeze.specs.Seeing.{Seen, decisions_of, is_produced, parent_of, seen_in, seen_of}
-use Rattle.bp_freeze.specs.Selecting.{all_numbers, first_number, has_responsive, is_selected, items_from, last_number, selected}
+use Rattle.bp_freeze.specs.Selecting.{all_numbers, first_of_items, has_responsive, is_selected, items_from, last_of_items, selected}
 use Rattle.bp_freeze.proofs.FrozenFamilyLemmas.{whole-range}
 use Rattle.bp_freeze.proofs.FrozenMarkLemmas.{item-fits}
 use Rattle.bp_freeze.proofs.FrozenNumberLemmas.{TakeNumbers, after-from, few-items, many-numbers, next-small, span-same}
@@ -127,19 +127,19 @@ frozen-span m q next passed =
 
 -- they begin with that number
 pub frozen-first : (m : Matter) (q : Request) (next : ℕ) → first_refusal (decisions_of m) (seen_of m q) q ≡ None
-    → first_number (items_from next (selected (seen_of m q))) ≡ next
+    → first_of_items (items_from next (selected (seen_of m q))) ≡ next
 frozen-first m q next passed =
     sym (first-taken next (selected (seen_of m q)) (some-passed m q passed))
 
 -- and end with the last of as many as they take
 pub frozen-last : (m : Matter) (q : Request) (next : ℕ) → IsValid m → first_refusal (decisions_of m) (seen_of m q) q ≡ None
-    → last_number (items_from next (selected (seen_of m q))) + 1 ≡ next + all_numbers (selected (seen_of m q))
+    → last_of_items (items_from next (selected (seen_of m q))) + 1 ≡ next + all_numbers (selected (seen_of m q))
 frozen-last m q next valid passed =
     let all = breaks-none m q passed in
     let docs : List Seen = selected (seen_of m q) in
     let many : length docs ≤ all_numbers docs = many-numbers m (is_selected (seen_of m q)) (span q) q.from.0 (take_numbers m valid q all) in
     let some : 1 ≤ length docs = some_length (length docs) (some-passed m q passed) in
-    let last : next + all_numbers docs - 1 ≡ last_number (items_from next docs) = last-taken next docs (some-passed m q passed) in
+    let last : next + all_numbers docs - 1 ≡ last_of_items (items_from next docs) = last-taken next docs (some-passed m q passed) in
     omega (arith, many, some, last)
 
 -- the spans follow one another from that number on

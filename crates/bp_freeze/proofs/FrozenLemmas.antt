@@ -22,7 +22,7 @@ use Rattle.bp_freeze.specs.Freezing.{freeze_of, kept_production, new_production}
 use Rattle.bp_freeze.specs.Keeping.{frozen_matter, prefix_after, prefix_number, production_after, with_production}
 use Rattle.bp_freeze.specs.Refusals.{first_refusal, next_number, prefix_row, same_width}
 use Rattle.bp_freeze.specs.Seeing.{decisions_of, seen_of}
-use Rattle.bp_freeze.specs.Selecting.{all_numbers, items_from, last_number, selected}
+use Rattle.bp_freeze.specs.Selecting.{all_numbers, items_from, last_of_items, selected}
 use Rattle.bp_freeze.proofs.FrozenItemLemmas.{frozen-after, frozen-fit, frozen-last, frozen-once, frozen-some, frozen-span, frozen-whole, frozen-written}
 use Rattle.bp_freeze.proofs.FrozenPrefixLemmas.{Prefixed, Takes, prefixed-kept, prefixed-new}
 use Rattle.bp_freeze.proofs.FrozenRequestLemmas.{passed-all, prefix-short, request-fits, request-written}
@@ -66,7 +66,7 @@ pub record Within (m : Matter) (q : Request) : Type 0 where
 within : (m : Matter) (q : Request) → Fresh m q → Within m q
 within m q f =
     let p = passed-all (decisions_of m) (seen_of m q) q f.passed in
-    let next : last_number (items_of m q) + 1 ≡ next_of m q + all_numbers (selected (seen_of m q)) = frozen-last m q (next_of m q) f.valid f.passed in
+    let next : last_of_items (items_of m q) + 1 ≡ next_of m q + all_numbers (selected (seen_of m q)) = frozen-last m q (next_of m q) f.valid f.passed in
     let last : next_of m q + all_numbers (selected (seen_of m q)) - 1 ≤ largest_of q.prefix.width = p.last in
     let good = IsGood-from_test q.prefix.text q.prefix.width p.good in
     let one : 1 ≤ 10 ^ q.prefix.width = one-le-pow q.prefix.width 10 (omega arith) in

@@ -18,7 +18,7 @@ use Rattle.bp_matter.specs.declared.rows.Request.{Request}
 use Rattle.bp_freeze.specs.Freezing.{production_of}
 use Rattle.bp_freeze.specs.Refusals.{family_rules, first_refusal, first_rule, last_taken, next_number, prefix_row, productions_full_rule, request_rules, taking_rules, unless}
 use Rattle.bp_freeze.specs.Seeing.{Decisions, Seen, seen_from, seen_in}
-use Rattle.bp_freeze.specs.Selecting.{all_numbers, first_number, item_of, items_from, last_number, selected}
+use Rattle.bp_freeze.specs.Selecting.{all_numbers, first_of_items, item_of, items_from, last_of_items, selected}
 use Rattle.bp_freeze.proofs.FrozenRangeLemmas.{both-kept}
 use Rattle.bp_freeze.proofs.RuleLemmas.{good-passed}
 
@@ -78,25 +78,25 @@ few-items m test (suc count) n next =
 -- ---- the span of a production
 
 -- the first number of a production is that which is written
-same_first : (items : List Item) → first_number items ≡ first_written items
+same_first : (items : List Item) → first_of_items items ≡ first_written items
 same_first [] = refl
 same_first (i ∷ items) = refl
 
 -- the last one of some items, whatever stood before them
-same_last : (last : ℕ) (i : Item) (items : List Item) → last_number (i ∷ items) ≡ last_written last (i ∷ items)
+same_last : (last : ℕ) (i : Item) (items : List Item) → last_of_items (i ∷ items) ≡ last_written last (i ∷ items)
 same_last last i [] = refl
 same_last last i (next ∷ items) = same_last i.span.last next items
 
 -- the last one of a production
-same_end : (items : List Item) → last_number items ≡ last_written 0 items
+same_end : (items : List Item) → last_of_items items ≡ last_written 0 items
 same_end [] = refl
 same_end (i ∷ items) = same_last 0 i items
 
 -- it is that of its items
 pub span-same : (q : Request) (items : List Item) → IsTrue (same_span (production_of q items).span (span_of items))
 span-same q items =
-    and_from (eqb (first_number items) (first_written items)) (eqb (last_number items) (last_written 0 items))
-    (eq-eqb (first_number items) (first_written items) (same_first items)) (eq-eqb (last_number items) (last_written 0 items) (same_end items))
+    and_from (eqb (first_of_items items) (first_written items)) (eqb (last_of_items items) (last_written 0 items))
+    (eq-eqb (first_of_items items) (first_written items) (same_first items)) (eq-eqb (last_of_items items) (last_written 0 items) (same_end items))
 
 -- ---- how far they go
 

@@ -7,7 +7,7 @@ use Rattle.bp_core.specs.Sorted.{find_key}
 use Rattle.bp_matter.specs.Matter.{Matter, doc_key}
 use Rattle.bp_matter.specs.Valid.{IsValid}
 use Rattle.bp_matter.specs.ValidItems.{item_fits, item_of as is_item_of}
-use Rattle.bp_matter.specs.ValidProductions.{all_marked_on, blank, is_marked, mark, marked_on, production_fits, stand_once}
+use Rattle.bp_matter.specs.ValidProductions.{all_marked_on, blank, is_marked_at, mark, marked_on, production_fits, stand_once}
 use Rattle.bp_matter.specs.declared.rows.DocRow.{DocRow}
 use Rattle.bp_matter.specs.declared.rows.FieldRow.{FieldRow}
 use Rattle.bp_matter.specs.declared.rows.Item.{Item}
@@ -21,7 +21,7 @@ use Rattle.bp_freeze.proofs.FrozenRangeLemmas.{row-at}
 -- ---- marks
 
 -- one mark more leaves the others
-pub mark_other : (k n : ℕ) (marks : List Bool) → k ≢ n → is_marked k (mark n marks) ≡ is_marked k marks
+pub mark_other : (k n : ℕ) (marks : List Bool) → k ≢ n → is_marked_at k (mark n marks) ≡ is_marked_at k marks
 mark_other k n [] other = refl
 mark_other zero zero (x ∷ marks) other = absurd (other refl)
 mark_other zero (suc n) (x ∷ marks) other = refl
@@ -29,7 +29,7 @@ mark_other (suc k) zero (x ∷ marks) other = refl
 mark_other (suc k) (suc n) (x ∷ marks) other = mark_other k n marks (λ e. other (ap (λ i. suc i) e))
 
 -- at first none is marked
-pub blank_none : (n k : ℕ) → is_marked k (blank n) ≡ false
+pub blank_none : (n k : ℕ) → is_marked_at k (blank n) ≡ false
 blank_none zero zero = refl
 blank_none zero (suc k) = refl
 blank_none (suc n) zero = refl
@@ -49,14 +49,14 @@ unmarked_items [] = refl
 unmarked_items (i ∷ items) = refl
 
 -- a mark that is there was there, or is that of an item
-mark_of : (doc : ℕ) (items : List Item) (marks now : List Bool) → marked_on (Some marks) items ≡ Some now → is_marked doc now ≡ true
-    → (is_marked doc marks ≡ true) ⊎ (list_any (is_of doc) items ≡ true)
+mark_of : (doc : ℕ) (items : List Item) (marks now : List Bool) → marked_on (Some marks) items ≡ Some now → is_marked_at doc now ≡ true
+    → (is_marked_at doc marks ≡ true) ⊎ (list_any (is_of doc) items ≡ true)
 mark_of doc [] marks now e h =
     let same : Some marks ≡ Some now = e in
     let is : marks ≡ now = cc in
-    inl (ap (is_marked doc) is ∙ h)
+    inl (ap (is_marked_at doc) is ∙ h)
 mark_of doc (i ∷ items) marks now e h =
-    elim (cases_Bool (is_marked i.doc.0 marks)) [
+    elim (cases_Bool (is_marked_at i.doc.0 marks)) [
       | inl twice ↦ absurd (
           let stuck : None ≡ Some now = sym (ap (λ (b : Bool). marked_on (cond b None (Some (mark i.doc.0 marks))) items) twice ∙ unmarked_items items) ∙ e in
           cc)
@@ -82,12 +82,12 @@ some_after None rows now e = absurd (let stuck : None ≡ Some now = sym (marked
 some_after (Some marks) rows now e = record { marks = marks; is = refl }
 
 -- the same of the items of all productions
-mark_of_all : (doc : ℕ) (rows : List ProductionRow) (marks now : List Bool) → all_marked_on (Some marks) rows ≡ Some now → is_marked doc now ≡ true
-    → (is_marked doc marks ≡ true) ⊎ (list_any (has_doc doc) rows ≡ true)
+mark_of_all : (doc : ℕ) (rows : List ProductionRow) (marks now : List Bool) → all_marked_on (Some marks) rows ≡ Some now → is_marked_at doc now ≡ true
+    → (is_marked_at doc marks ≡ true) ⊎ (list_any (has_doc doc) rows ≡ true)
 mark_of_all doc [] marks now e h =
     let same : Some marks ≡ Some now = e in
     let is : marks ≡ now = cc in
-    inl (ap (is_marked doc) is ∙ h)
+    inl (ap (is_marked_at doc) is ∙ h)
 mark_of_all doc (row ∷ rows) marks now e h =
     let after = some_after (marked_on (Some marks) row.production.items) rows now e in
     elim (mark_of_all doc rows after.marks now (sym (ap (λ o. all_marked_on o rows) after.is) ∙ e) h) [
@@ -143,13 +143,13 @@ produced_family fields docs pages doc row found (r ∷ rows) all some =
 
 -- a document whose family no production has isn't marked
 pub unproduced-free : (m : Matter) → IsValid m → (doc : ℕ) (now : List Bool) → 1 ≤ doc → doc ≤ length m.docs → all_marked_on (Some (blank (length m.docs))) m.productions ≡ Some now
-    → is_produced m.productions (parent_of (decisions_of m) doc) ≡ false → is_marked doc now ≡ false
+    → is_produced m.productions (parent_of (decisions_of m) doc) ≡ false → is_marked_at doc now ≡ false
 unproduced-free m valid doc now from to e free =
-    elim (cases_Bool (is_marked doc now)) [
+    elim (cases_Bool (is_marked_at doc now)) [
       | inl marked ↦ absurd (
           let at = row-at m.docs doc valid.docs.numbered from to in
           elim (mark_of_all doc m.productions (blank (length m.docs)) now e marked) [
-            | inl before ↦ (let fails : is_marked doc (blank (length m.docs)) ≡ false = blank_none (length m.docs) doc in cc)
+            | inl before ↦ (let fails : is_marked_at doc (blank (length m.docs)) ≡ false = blank_none (length m.docs) doc in cc)
             | inr stands ↦ (
                 let passes : is_produced m.productions at.row.parent.0 ≡ true = produced_family m.fields m.docs m.pages doc at.row at.found m.productions valid.productions.fit stands in
                 let fails : is_produced m.productions at.row.parent.0 ≡ false = subst (λ k. is_produced m.productions k ≡ false) at.parent free in
@@ -160,13 +160,13 @@ unproduced-free m valid doc now from to e free =
 
 -- items of documents that aren't marked, each higher than the one before
 pub free-marked : (m : Matter) (test : Seen → Bool) (count n next : ℕ) (marks : List Bool)
-    → ((doc : ℕ) → n ≤ doc → doc < n + count → test (seen_in m doc) ≡ true → is_marked doc marks ≡ false)
+    → ((doc : ℕ) → n ≤ doc → doc < n + count → test (seen_in m doc) ≡ true → is_marked_at doc marks ≡ false)
     → is_none (marked_on (Some marks) (items_from next (filter test (seen_from m n count)))) ≡ false
 free-marked m test zero n next marks free = refl
 free-marked m test (suc count) n next marks free =
     elim (cases_Bool (test (seen_in m n))) [
       | inl passes ↦ (
-          let here : is_marked n marks ≡ false = free n (omega arith) (omega arith) passes in
+          let here : is_marked_at n marks ≡ false = free n (omega arith) (omega arith) passes in
           let rest = free-marked m test count (n + 1) (next + (seen_in m n).numbers) (mark n marks)
           (λ doc low high h. mark_other doc n marks (λ e. omega arith) ∙ free doc (omega arith) (omega arith) h) in
           rw passes (ap (λ (b : Bool). is_none (marked_on (cond b None (Some (mark n marks))) (items_from (next + (seen_in m n).numbers) (filter test (seen_from m (n + 1) count))))) here ∙ rest))

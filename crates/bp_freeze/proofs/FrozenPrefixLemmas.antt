@@ -6,7 +6,7 @@ use Rattle.std.proofs.lemmas.Bool.{and_parts, and_from, or_parts, or_from, eqb-t
 use Rattle.std.proofs.lemmas.List.Folds.{list_all-append}
 use Rattle.bp_core.specs.Sorted.{put}
 use Rattle.bp_matter.specs.Matter.{prefix_key}
-use Rattle.bp_matter.specs.ValidPrefixes.{PrefixFacts, after_items, after_productions, is_number, is_under, is_used, prefix_fits, prefix_text, spans_reach}
+use Rattle.bp_matter.specs.ValidPrefixes.{PrefixFacts, after_items, after_productions, was_reached, is_under, is_used, prefix_fits, prefix_text, spans_reach}
 use Rattle.bp_matter.specs.ValidProductions.{has_prefix}
 use Rattle.bp_matter.specs.Written.{prefix_written}
 use Rattle.bp_matter.specs.declared.rows.PrefixRow.{PrefixRow}
@@ -33,24 +33,24 @@ reached-none text n [] none = refl
 reached-none text n (row ∷ rows) none =
     let parts = or_parts (is_under text row) (list_any (is_under text) rows) none in rw parts.0 (reached-none text n rows parts.1)
 
-pub is-number : (reached : Option ℕ) (n : ℕ) → is_number reached n ≡ true → reached ≡ Some n
+pub is-number : (reached : Option ℕ) (n : ℕ) → was_reached reached n ≡ true → reached ≡ Some n
 is-number None n is = absurd cc
 is-number (Some m) n is = ap (λ k. Some k) (eqb-true m n is)
 
-number-is : (n : ℕ) → is_number (Some n) n ≡ true
+number-is : (n : ℕ) → was_reached (Some n) n ≡ true
 number-is n = eq-eqb n n refl
 
 -- the prefix under which the numbers were taken, and any other
 reach-taken : (rows : List ProductionRow) (p : ProductionRow) (row : PrefixRow) (from : ℕ) → after_productions row.prefix.text (Some 1) rows ≡ Some from → is_under row.prefix.text p ≡ true → after_items from p.production.items ≡ Some row.next
     → spans_reach (rows ++ p ∷ []) row ≡ true
 reach-taken rows p row from reached under after =
-    ap (λ o. is_number o row.next)
+    ap (λ o. was_reached o row.next)
     (reached-behind row.prefix.text rows (Some 1) p ∙ ap (λ o. after_productions row.prefix.text o (p ∷ [])) reached ∙ reached-under row.prefix.text from p under ∙ after)
     ∙ number-is row.next
 
 reach-other : (rows : List ProductionRow) (p : ProductionRow) (row : PrefixRow) → is_under row.prefix.text p ≡ false → spans_reach rows row ≡ true → spans_reach (rows ++ p ∷ []) row ≡ true
 reach-other rows p row other reach =
-    ap (λ o. is_number o row.next)
+    ap (λ o. was_reached o row.next)
     (reached-behind row.prefix.text rows (Some 1) p ∙ reached-other row.prefix.text (after_productions row.prefix.text (Some 1) rows) p other)
     ∙ reach
 

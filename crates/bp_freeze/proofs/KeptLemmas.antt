@@ -16,7 +16,7 @@ use Rattle.bp_matter.specs.declared.rows.Production.{Production}
 use Rattle.bp_matter.specs.declared.rows.ProductionRow.{ProductionRow}
 use Rattle.bp_matter.specs.declared.rows.Request.{Request}
 use Rattle.bp_freeze.specs.Freezing.{freeze_of, frozen_by, frozen_unless, kept_production, new_production, same_request}
-use Rattle.bp_freeze.specs.Keeping.{Keeps, after_freeze, frozen_matter, production_after, with_production}
+use Rattle.bp_freeze.specs.Keeping.{KeepsProduction, after_freeze, frozen_matter, production_after, with_production}
 use Rattle.bp_freeze.specs.Refusals.{first_refusal}
 use Rattle.bp_freeze.specs.Seeing.{decisions_of, seen_of}
 use Rattle.bp_freeze.proofs.PutRowLemmas.{find-passes, same-text, text-same}
@@ -106,13 +106,13 @@ frozen-cases m q f e = by-cases m q f (kept_production m.productions q.id) refl 
 -- ---- the matter after it
 
 -- what is found under an id is kept under its own
-pub found_is_kept : (m : Matter) (id : List ℕ) (f : Production) → kept_production m.productions id ≡ Some f → Keeps m f
+pub found_is_kept : (m : Matter) (id : List ℕ) (f : Production) → kept_production m.productions id ≡ Some f → KeepsProduction m f
 found_is_kept m id f found = ap (kept_production m.productions) (kept-id m.productions id f found) ∙ found
 
-pub repeat-keeps : (m : Matter) (q : Request) (f : Production) → IsRepeat m q f → Keeps m f
+pub repeat-keeps : (m : Matter) (q : Request) (f : Production) → IsRepeat m q f → KeepsProduction m f
 repeat-keeps m q f old = found_is_kept m q.id f old.kept
 
-pub kept-matter : (m : Matter) (f : Production) → Keeps m f → frozen_matter f m ≡ m
+pub kept-matter : (m : Matter) (f : Production) → KeepsProduction m f → frozen_matter f m ≡ m
 kept-matter m f kept = ap (λ o. after_freeze o f m) kept
 
 pub repeat-matter : (m : Matter) (q : Request) (f : Production) → IsRepeat m q f → frozen_matter f m ≡ m
@@ -134,11 +134,11 @@ first-kept m q f first = kept-behind m.productions (production_after f m.product
 
 -- ---- the laws
 
-pub new-kept : (m : Matter) (q : Request) (f : Production) → freeze_of m q ≡ Ok f → Keeps (frozen_matter f m) f
+pub new-kept : (m : Matter) (q : Request) (f : Production) → freeze_of m q ≡ Ok f → KeepsProduction (frozen_matter f m) f
 new-kept m q f e =
     elim (frozen-cases m q f e) [
-      | inl old ↦ subst (λ n. Keeps n f) (sym (repeat-matter m q f old)) (repeat-keeps m q f old)
-      | inr first ↦ subst (λ n. Keeps n f) (sym (first-frozen m q f first))
+      | inl old ↦ subst (λ n. KeepsProduction n f) (sym (repeat-matter m q f old)) (repeat-keeps m q f old)
+      | inr first ↦ subst (λ n. KeepsProduction n f) (sym (first-frozen m q f first))
           (ap (λ (r : Request). kept_production (with_production f m).productions r.id) (first-id m q f first) ∙ first-kept m q f first)
     ]
 
@@ -150,11 +150,11 @@ asked-kept m q f e =
       | inr first ↦ subst (λ (n : Matter). kept_production n.productions q.id ≡ Some f) (sym (first-frozen m q f first)) (first-kept m q f first)
     ]
 
-pub others-kept : (m : Matter) (q : Request) (f g : Production) → Keeps m g → freeze_of m q ≡ Ok f → Keeps (frozen_matter f m) g
+pub others-kept : (m : Matter) (q : Request) (f g : Production) → KeepsProduction m g → freeze_of m q ≡ Ok f → KeepsProduction (frozen_matter f m) g
 others-kept m q f g kept e =
     elim (frozen-cases m q f e) [
-      | inl old ↦ subst (λ n. Keeps n g) (sym (repeat-matter m q f old)) kept
-      | inr first ↦ subst (λ n. Keeps n g) (sym (first-frozen m q f first)) (kept-more m.productions (production_after f m.productions ∷ []) g.request.id g kept)
+      | inl old ↦ subst (λ n. KeepsProduction n g) (sym (repeat-matter m q f old)) kept
+      | inr first ↦ subst (λ n. KeepsProduction n g) (sym (first-frozen m q f first)) (kept-more m.productions (production_after f m.productions ∷ []) g.request.id g kept)
     ]
 
 fields-same : (fields : List (List ℕ)) → pointwise bytes_eq fields fields ≡ true
@@ -182,5 +182,5 @@ repeat-stored m q f e =
 pub repeat-adds-nothing : (m : Matter) (q : Request) (f : Production) → freeze_of m q ≡ Ok f → frozen_matter f (frozen_matter f m) ≡ frozen_matter f m
 repeat-adds-nothing m q f e = kept-matter (frozen_matter f m) f (new-kept m q f e)
 
-pub kept-stored : (m : Matter) (f : Production) → Keeps m f → freeze_of m f.request ≡ Ok f
+pub kept-stored : (m : Matter) (f : Production) → KeepsProduction m f → freeze_of m f.request ≡ Ok f
 kept-stored m f kept = kept-answer m f.request f kept (request-itself f.request)

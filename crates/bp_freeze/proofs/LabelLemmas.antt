@@ -4,7 +4,7 @@ use Rattle.std.specs.List.{list_all, list_any, range_with_len}
 use Rattle.std.specs.Str.{bytes_eq}
 use Rattle.std.proofs.lemmas.Bool.{and_parts, and_from, or_from, or_cases, not-true, not_from_false, cases_Bool, eqb-true, leb-true, le-leb, lt-ltb, ltb-true, false_from_ne_true, and_left, and_right, eq-eqb, ne_eqb}
 use Rattle.std.proofs.lemmas.List.Folds.{list_all-append, list_any-append}
-use Rattle.bp_bates.specs.Labels.{label_of}
+use Rattle.bp_bates.specs.Labels.{bates_label}
 use Rattle.bp_bates.specs.Prefixes.{is_good_prefix}
 use Rattle.bp_bates.specs.Spans.{largest_of}
 use Rattle.bp_bates.proofs.LabelLemmas.{labels_same}
@@ -45,20 +45,20 @@ record IsLabel (text : List ℕ) (width n : ℕ) : Type 0 where
   good : IsGood text width
   small : n ≤ largest_of width
 
-other-label : (p q : List ℕ) (v w m n : ℕ) → IsLabel p v m → IsLabel q w n → (bytes_eq p q && eqb m n) ≡ false → bytes_eq (label_of p v m) (label_of q w n) ≡ false
+other-label : (p q : List ℕ) (v w m n : ℕ) → IsLabel p v m → IsLabel q w n → (bytes_eq p q && eqb m n) ≡ false → bytes_eq (bates_label p v m) (bates_label q w n) ≡ false
 other-label p q v w m n a b differ =
-    false_from_ne_true (bytes_eq (label_of p v m) (label_of q w n)) (λ same. (
-    let parts = labels_same p q v w m n a.good b.good a.small b.small (same-text (label_of p v m) (label_of q w n) same) in
+    false_from_ne_true (bytes_eq (bates_label p v m) (bates_label q w n)) (λ same. (
+    let parts = labels_same p q v w m n a.good b.good a.small b.small (same-text (bates_label p v m) (bates_label q w n) same) in
     let both : (bytes_eq p q && eqb m n) ≡ true = and_from (bytes_eq p q) (eqb m n) (text-same p q parts.prefix) (eq-eqb m n parts.number) in
     absurd cc))
 
 no-label : (p q : List ℕ) (v w n : ℕ) (numbers : List ℕ) → IsGood p v → IsLabel q w n → list_all (λ k. leb k (largest_of v)) numbers ≡ true → list_all (λ k. not (bytes_eq p q && eqb k n)) numbers ≡ true
-    → list_any (λ l. bytes_eq l (label_of q w n)) (map (label_of p v) numbers) ≡ false
+    → list_any (λ l. bytes_eq l (bates_label q w n)) (map (bates_label p v) numbers) ≡ false
 no-label p q v w n [] good b small differ = refl
 no-label p q v w n (k ∷ numbers) good b small differ =
     let smalls = and_parts (leb k (largest_of v)) (list_all (λ j. leb j (largest_of v)) numbers) small in
     let differs = and_parts (not (bytes_eq p q && eqb k n)) (list_all (λ j. not (bytes_eq p q && eqb j n)) numbers) differ in
-    or_from (bytes_eq (label_of p v k) (label_of q w n)) (list_any (λ l. bytes_eq l (label_of q w n)) (map (label_of p v) numbers))
+    or_from (bytes_eq (bates_label p v k) (bates_label q w n)) (list_any (λ l. bytes_eq l (bates_label q w n)) (map (bates_label p v) numbers))
     (other-label p q v w k n (record { good = good; small = leb-true k (largest_of v) smalls.0 }) b (not-true _ differs.0))
     (no-label p q v w n numbers good b smalls.1 differs.1)
 
@@ -100,13 +100,13 @@ below-end : (from end : ℕ) (numbers : List ℕ) → AreFrom from end numbers �
 below-end from end numbers are = let low : from ≤ end = are.low in ap (list_all (λ k. ltb k end)) are.same ∙ range-below end from (end - from) (omega arith)
 
 no-label-behind : (text : List ℕ) (width n from end : ℕ) (rows : List ProductionRow) → IsLabel text width n → n < from → list_all labelled rows ≡ true → after_productions text (Some from) rows ≡ Some end
-    → list_any (λ l. bytes_eq l (label_of text width n)) (all_labels rows) ≡ false
+    → list_any (λ l. bytes_eq l (bates_label text width n)) (all_labels rows) ≡ false
 no-label-behind text width n from end [] b less all e = refl
 no-label-behind text width n from end (row ∷ rows) b less all e =
     let parts = and_parts (labelled row) (list_all labelled rows) all in
     let own = and_parts (is_good_prefix row.production.request.prefix.text row.production.request.prefix.width) (list_all (λ k. leb k (largest_of row.production.request.prefix.width)) (production_numbers row)) parts.0 in
     let good = IsGood-from_test row.production.request.prefix.text row.production.request.prefix.width own.0 in
-    list_any-append (λ l. bytes_eq l (label_of text width n)) (production_labels row) (all_labels rows)
+    list_any-append (λ l. bytes_eq l (bates_label text width n)) (production_labels row) (all_labels rows)
     ∙ elim (cases_Bool (is_under text row)) [
       | inl under ↦ (
           let start = begins text from end row rows under e in
@@ -133,7 +133,7 @@ differ-join (x ∷ xs) ys first second apart =
     (differ-join xs ys parts.1 second others.1)
 
 -- numbers in a row have labels that differ
-row-differs : (text : List ℕ) (width a n : ℕ) → IsGood text width → list_all (λ k. leb k (largest_of width)) (range_with_len a n) ≡ true → all_differ itself (map (label_of text width) (range_with_len a n)) ≡ true
+row-differs : (text : List ℕ) (width a n : ℕ) → IsGood text width → list_all (λ k. leb k (largest_of width)) (range_with_len a n) ≡ true → all_differ itself (map (bates_label text width) (range_with_len a n)) ≡ true
 row-differs text width a zero good small = refl
 row-differs text width a (suc n) good small =
     let smalls = and_parts (leb a (largest_of width)) (list_all (λ k. leb k (largest_of width)) (range_with_len (a + 1) n)) small in
@@ -144,7 +144,7 @@ row-differs text width a (suc n) good small =
 
 -- none of these numbers has a label of the productions behind
 none-behind : (text : List ℕ) (width next end : ℕ) (rows : List ProductionRow) (numbers : List ℕ) → IsGood text width → list_all labelled rows ≡ true → after_productions text (Some next) rows ≡ Some end
-    → list_all (λ k. leb k (largest_of width)) numbers ≡ true → list_all (λ k. ltb k next) numbers ≡ true → list_all (λ x. not (list_any (λ l. bytes_eq l x) (all_labels rows))) (map (label_of text width) numbers) ≡ true
+    → list_all (λ k. leb k (largest_of width)) numbers ≡ true → list_all (λ k. ltb k next) numbers ≡ true → list_all (λ x. not (list_any (λ l. bytes_eq l x) (all_labels rows))) (map (bates_label text width) numbers) ≡ true
 none-behind text width next end rows [] good all e small less = refl
 none-behind text width next end rows (k ∷ numbers) good all e small less =
     let smalls = and_parts (leb k (largest_of width)) (list_all (λ j. leb j (largest_of width)) numbers) small in
@@ -173,7 +173,7 @@ labels-differ (row ∷ rows) all reach =
     let start = begins text r.from r.end row rows (text-same text text refl) r.is in
     let small : list_all (λ k. leb k (largest_of width)) (range_with_len r.from (start.next - r.from)) ≡ true = ap (list_all (λ k. leb k (largest_of width))) (sym start.numbers.same) ∙ own.1 in
     differ-join (production_labels row) (all_labels rows)
-    (ap (λ numbers. all_differ itself (map (label_of text width) numbers)) start.numbers.same ∙ row-differs text width r.from (start.next - r.from) good small)
+    (ap (λ numbers. all_differ itself (map (bates_label text width) numbers)) start.numbers.same ∙ row-differs text width r.from (start.next - r.from) good small)
     (labels-differ rows parts.1 (λ t. reaches-on t row rows (reach t)))
     (none-behind text width start.next r.end rows (production_numbers row) good parts.1 start.rest own.1 (below-end r.from start.next (production_numbers row) start.numbers))
 

@@ -7,7 +7,7 @@ use Rattle.std.proofs.lemmas.List.Folds.{list_any-append}
 use Rattle.std.proofs.Math.Utf8.{encode}
 use Rattle.bp_core.specs.Characters.{carriage_return, newline}
 use Rattle.bp_core.specs.declared.review.Basis.TheVariants.{Ac, Wp}
-use Rattle.bp_bates.specs.Labels.{label_of, padded}
+use Rattle.bp_bates.specs.Labels.{bates_label, padded}
 use Rattle.bp_bates.specs.Prefixes.{is_allowed, is_good_prefix, is_good_text}
 use Rattle.bp_bates.specs.declared.prefixes.Prefix.{Prefix}
 use Rattle.bp_matter.specs.Texts.{is_text, is_text_character}
@@ -67,7 +67,7 @@ good_text text width good =
     let two = and_parts _ _ three.0 in
     let one = and_parts (list_all is_allowed text) _ two.0 in one.0
 
-one_label : (text : List ℕ) (width n : ℕ) → is_good_prefix text width ≡ true → is_one_line (label_of text width n) ≡ true
+one_label : (text : List ℕ) (width n : ℕ) → is_good_prefix text width ≡ true → is_one_line (bates_label text width n) ≡ true
 one_label text width n good =
     ap not (joined text (padded width n) (all_unbroken is_allowed refl refl text (good_text text width good)) (unbroken_padded width n))
 

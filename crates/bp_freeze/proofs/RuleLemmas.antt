@@ -17,7 +17,7 @@ use Rattle.bp_matter.specs.declared.rows.Request.{Request}
 use Rattle.bp_freeze.specs.Freezing.{frozen_unless, new_production, production_of}
 use Rattle.bp_freeze.specs.Refusals.{first_rule, is_range, last_taken, next_number, prefix_row, request_rules, taken_rules, taking_rules, unless}
 use Rattle.bp_freeze.specs.Seeing.{Decisions, Seen}
-use Rattle.bp_freeze.specs.Selecting.{all_numbers, first_number, items_from, last_number, selected}
+use Rattle.bp_freeze.specs.Selecting.{all_numbers, first_of_items, items_from, last_of_items, selected}
 
 refused : (rules more : List (Option Rule)) (rule : Rule) → Some rule ≡ first_rule rules → Some rule ≡ first_rule (rules ++ more)
 refused [] more rule e = absurd cc
@@ -101,11 +101,11 @@ pub length-items : (next : ℕ) (docs : List Seen) → length (items_from next d
 length-items next [] = refl
 length-items next (s ∷ docs) = ap (λ n. suc n) (length-items (next + s.numbers) docs)
 
-pub first-taken : (next : ℕ) (docs : List Seen) → length docs ≢ 0 → next ≡ first_number (items_from next docs)
+pub first-taken : (next : ℕ) (docs : List Seen) → length docs ≢ 0 → next ≡ first_of_items (items_from next docs)
 first-taken next [] some = absurd (some refl)
 first-taken next (s ∷ docs) some = refl
 
-pub last-taken : (next : ℕ) (docs : List Seen) → length docs ≢ 0 → next + all_numbers docs - 1 ≡ last_number (items_from next docs)
+pub last-taken : (next : ℕ) (docs : List Seen) → length docs ≢ 0 → next + all_numbers docs - 1 ≡ last_of_items (items_from next docs)
 last-taken next [] some = absurd (some refl)
 last-taken next (s ∷ []) some = omega arith
 last-taken next (s ∷ t ∷ docs) some =
@@ -140,14 +140,14 @@ same-production d docs q items first is begins =
 
 -- the first and the last number of what was taken
 pub record Numbered (items : List Item) (from to : ℕ) : Type 0 where
-  pub first : from ≡ first_number items
-  pub last : to ≡ last_number items
+  pub first : from ≡ first_of_items items
+  pub last : to ≡ last_of_items items
 
 pub numbered : (docs : List Seen) (items : List Item) (first next documents last width productions : ℕ) → items ≡ items_from first docs → next ≡ first + all_numbers docs → documents ≡ length items
     → None ≡ first_rule (taken_rules documents last width productions) → Numbered items first (next - 1)
 numbered docs items first next documents last width productions is after many none =
     let some : length docs ≢ 0 = λ e. some-taken documents last width productions none (many ∙ ap length is ∙ length-items first docs ∙ e) in
     record {
-      first = first-taken first docs some ∙ ap first_number (sym is);
-      last = ap (λ n. n - 1) after ∙ last-taken first docs some ∙ ap last_number (sym is);
+      first = first-taken first docs some ∙ ap first_of_items (sym is);
+      last = ap (λ n. n - 1) after ∙ last-taken first docs some ∙ ap last_of_items (sym is);
     }

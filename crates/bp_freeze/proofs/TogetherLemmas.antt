@@ -9,7 +9,7 @@ use Rattle.bp_matter.specs.Matter.{Matter, doc_key}
 use Rattle.bp_matter.specs.Valid.{IsValid}
 use Rattle.bp_matter.specs.ValidItems.{are_whole, due_after, is_due, item_fits, item_of as is_item_of}
 use Rattle.bp_matter.specs.ValidRows.{is_numbered}
-use Rattle.bp_matter.specs.ValidProductions.{all_marked_on, blank, is_marked, mark, marked_on, production_fits}
+use Rattle.bp_matter.specs.ValidProductions.{all_marked_on, blank, is_marked_at, mark, marked_on, production_fits}
 use Rattle.bp_matter.specs.declared.rows.DocRow.{DocRow}
 use Rattle.bp_matter.specs.declared.rows.Item.{Item}
 use Rattle.bp_matter.specs.declared.rows.PageRow.{PageRow}
@@ -306,7 +306,7 @@ stands-ascending m valid row there = ascends_on m.docs 0 1 row.production.items 
 
 -- ---- each family in one production
 
-mark_here : (n : ℕ) (marks : List Bool) → n < length marks → is_marked n (mark n marks) ≡ true
+mark_here : (n : ℕ) (marks : List Bool) → n < length marks → is_marked_at n (mark n marks) ≡ true
 mark_here n [] within = absurd (omega arith)
 mark_here zero (x ∷ marks) within = refl
 mark_here (suc n) (x ∷ marks) within = mark_here n marks (omega arith)
@@ -322,12 +322,12 @@ blank_length (suc n) = omega (arith, blank_length n)
 
 -- the first of these items had no mark, and gets one
 record Once (i : Item) (items : List Item) (marks now : List Bool) : Type 0 where
-  pub free : is_marked i.doc.0 marks ≡ false
+  pub free : is_marked_at i.doc.0 marks ≡ false
   pub rest : marked_on (Some (mark i.doc.0 marks)) items ≡ Some now
 
 once : (i : Item) (items : List Item) (marks now : List Bool) → marked_on (Some marks) (i ∷ items) ≡ Some now → Once i items marks now
 once i items marks now e =
-    elim (cases_Bool (is_marked i.doc.0 marks)) [
+    elim (cases_Bool (is_marked_at i.doc.0 marks)) [
       | inl twice ↦ absurd (
           let stuck : None ≡ Some now = sym (ap (λ (b : Bool). marked_on (cond b None (Some (mark i.doc.0 marks))) items) twice ∙ unmarked_items items) ∙ e in
           cc)
@@ -337,19 +337,19 @@ once i items marks now e =
 -- what items leave of the marks: as many, a mark that was there, and then none of these is of that document
 record Leaves (doc : ℕ) (items : List Item) (marks now : List Bool) : Type 0 where
   pub many : length now ≡ length marks
-  pub marked : is_marked doc marks ≡ true → is_marked doc now ≡ true
-  pub none : is_marked doc marks ≡ true → list_any (is_of doc) items ≡ false
+  pub marked : is_marked_at doc marks ≡ true → is_marked_at doc now ≡ true
+  pub none : is_marked_at doc marks ≡ true → list_any (is_of doc) items ≡ false
 
 leaves : (doc : ℕ) (items : List Item) (marks now : List Bool) → marked_on (Some marks) items ≡ Some now → Leaves doc items marks now
 leaves doc [] marks now e =
     let same : Some marks ≡ Some now = e in
     let is : marks ≡ now = cc in
-    record { many = ap (λ (ms : List Bool). length ms) (sym is); marked = λ h. ap (is_marked doc) (sym is) ∙ h; none = λ h. refl }
+    record { many = ap (λ (ms : List Bool). length ms) (sym is); marked = λ h. ap (is_marked_at doc) (sym is) ∙ h; none = λ h. refl }
 leaves doc (i ∷ items) marks now e =
     let first = once i items marks now e in
     let rest = leaves doc items (mark i.doc.0 marks) now first.rest in
-    let other : is_marked doc marks ≡ true → doc ≢ i.doc.0 = λ h same. absurd (let free : is_marked doc marks ≡ false = ap (λ k. is_marked k marks) same ∙ first.free in cc) in
-    let stays : is_marked doc marks ≡ true → is_marked doc (mark i.doc.0 marks) ≡ true = λ h. mark_other doc i.doc.0 marks (other h) ∙ h in
+    let other : is_marked_at doc marks ≡ true → doc ≢ i.doc.0 = λ h same. absurd (let free : is_marked_at doc marks ≡ false = ap (λ k. is_marked_at k marks) same ∙ first.free in cc) in
+    let stays : is_marked_at doc marks ≡ true → is_marked_at doc (mark i.doc.0 marks) ≡ true = λ h. mark_other doc i.doc.0 marks (other h) ∙ h in
     record {
       many = rest.many ∙ mark_length i.doc.0 marks;
       marked = λ h. rest.marked (stays h);
@@ -357,19 +357,19 @@ leaves doc (i ∷ items) marks now e =
     }
 
 -- a document with an item is marked after it
-marked_now : (doc : ℕ) (items : List Item) (marks now : List Bool) → doc < length marks → marked_on (Some marks) items ≡ Some now → list_any (is_of doc) items ≡ true → is_marked doc now ≡ true
+marked_now : (doc : ℕ) (items : List Item) (marks now : List Bool) → doc < length marks → marked_on (Some marks) items ≡ Some now → list_any (is_of doc) items ≡ true → is_marked_at doc now ≡ true
 marked_now doc [] marks now within e some = absurd cc
 marked_now doc (i ∷ items) marks now within e some =
     let first = once i items marks now e in
     elim (or_cases (eqb i.doc.0 doc) (list_any (is_of doc) items) some) [
       | inl here ↦ (
           let at : doc ≡ i.doc.0 = sym (eqb-true i.doc.0 doc here) in
-          (leaves doc items (mark i.doc.0 marks) now first.rest).marked (subst (λ k. is_marked doc (mark k marks) ≡ true) at (mark_here doc marks within)))
+          (leaves doc items (mark i.doc.0 marks) now first.rest).marked (subst (λ k. is_marked_at doc (mark k marks) ≡ true) at (mark_here doc marks within)))
       | inr later ↦ marked_now doc items (mark i.doc.0 marks) now (omega (arith, mark_length i.doc.0 marks)) first.rest later
     ]
 
 -- a document that is marked has no item in the productions that follow
-none_later : (doc : ℕ) (rows : List ProductionRow) (marks now : List Bool) → all_marked_on (Some marks) rows ≡ Some now → is_marked doc marks ≡ true → list_any (has_doc doc) rows ≡ false
+none_later : (doc : ℕ) (rows : List ProductionRow) (marks now : List Bool) → all_marked_on (Some marks) rows ≡ Some now → is_marked_at doc marks ≡ true → list_any (has_doc doc) rows ≡ false
 none_later doc [] marks now e h = refl
 none_later doc (row ∷ rows) marks now e h =
     let after = some_after (marked_on (Some marks) row.production.items) rows now e in

@@ -20,16 +20,17 @@ abbrev pub rects_on : List BoxRow → ℕ → List Rect
 rects_on boxes page = map (λ box. box.rect) (filter (λ box. box.page.0 == page) boxes)
 
 -- the held field of that number
-abbrev pub held_for : List HeldRow → ℕ → Option HeldRow
-held_for held field = find (λ row. row.field == field) held
+abbrev pub held_of_number : List HeldRow → ℕ → Option HeldRow
+held_of_number held field = find (λ row. row.field == field) held
 
 -- the number of the field of that name
 abbrev pub field_number : Matter → List ℕ → Option ℕ
 field_number m name = of_row (λ row. row.field) (field_with name m)
 
 -- the value of a document in a field; a field that came after it is empty
-abbrev pub value_in : Matter → ℕ → ℕ → Option (List ℕ)
-value_in m doc field = of_row (λ row. slice_index_or row.values (field - 1) []) (doc_with doc m)
+abbrev pub value_of_field : Matter → ℕ → ℕ → Option (List ℕ)
+value_of_field m doc field =
+    of_row (λ row. slice_index_or row.values (field - 1) []) (doc_with doc m)
 
 -- two pages that may not be there agree outside the rectangles
 abbrev pub PagesAgree : List Rect → Option Image → Option Image → Type 0
@@ -52,8 +53,8 @@ pub record PageAgrees (m n : Matter) (i : Item) (page : ℕ) : Type 0 where
 -- its document has the same value in a field, unless the item holds it
 abbrev pub ValueAgrees : Matter → Matter → Item → List ℕ → Type 0
 ValueAgrees m n i name =
-    (field : ℕ) → field_number m name ≡ Some field → held_for i.held field ≡ None
-    → value_in m i.doc.0 field ≡ value_in n i.doc.0 field
+    (field : ℕ) → field_number m name ≡ Some field → held_of_number i.held field ≡ None
+    → value_of_field m i.doc.0 field ≡ value_of_field n i.doc.0 field
 
 -- an item shows the same
 pub record ItemAgrees (f : Production) (m n : Matter) (i : Item) : Type 0 where

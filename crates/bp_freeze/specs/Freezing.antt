@@ -16,7 +16,7 @@ use Rattle.bp_matter.specs.declared.rows.ProductionRow.{ProductionRow}
 use Rattle.bp_matter.specs.declared.rows.Request.{Request}
 use Rattle.bp_freeze.specs.Refusals.{first_refusal, next_number, prefix_row}
 use Rattle.bp_freeze.specs.Seeing.{Decisions, Seen, decisions_of, seen_of}
-use Rattle.bp_freeze.specs.Selecting.{first_number, items_from, last_number, selected}
+use Rattle.bp_freeze.specs.Selecting.{first_of_items, items_from, last_of_items, selected}
 
 -- a production of these items: from the first number of the first to the last number of the last,
 -- its boxes lettered
@@ -25,7 +25,7 @@ production_of q items = record {
   ink = Lettered;
   request = q;
   items = items;
-  span = record { first = first_number items; last = last_number items };
+  span = record { first = first_of_items items; last = last_of_items items };
 }
 
 -- the production of a new request that breaks no rule: the selected documents, from the next number

@@ -14,8 +14,8 @@ use Rattle.bp_freeze.specs.Freezing.{kept_production}
 use Rattle.bp_freeze.specs.Refusals.{prefix_row}
 
 -- the matter keeps the production, under its id
-abbrev pub Keeps : Matter → Production → Type 0
-Keeps m f = kept_production m.productions f.request.id ≡ Some f
+abbrev pub KeepsProduction : Matter → Production → Type 0
+KeepsProduction m f = kept_production m.productions f.request.id ≡ Some f
 
 -- ---- what a freeze adds
 

@@ -6,7 +6,7 @@ use Rattle.bp_core.specs.declared.review.Basis.{Basis}
 use Rattle.bp_core.specs.declared.review.Basis.TheVariants.{Ac, Pi, Ts, Wp}
 use Rattle.bp_core.specs.declared.review.Treatment.{Treatment}
 use Rattle.bp_core.specs.declared.review.Treatment.TheVariants.{Withhold}
-use Rattle.bp_bates.specs.Labels.{label_of}
+use Rattle.bp_bates.specs.Labels.{bates_label}
 use Rattle.bp_bates.specs.Prefixes.{is_good_prefix}
 use Rattle.bp_bates.specs.Spans.{largest_of}
 use Rattle.bp_bates.specs.declared.prefixes.Prefix.{Prefix}
@@ -73,7 +73,7 @@ entry_values (Some e) =
 -- the label of a number
 -- by FRCP 26(b)(5)(A)
 abbrev pub label_in : Prefix → ℕ → List ℕ
-label_in prefix number = label_of prefix.text prefix.width number
+label_in prefix number = bates_label prefix.text prefix.width number
 
 -- its first and its last label, what became of it, and on which ground
 -- by FRCP 26(b)(5)(A)

@@ -1,7 +1,7 @@
 -- The label numbers (Bates numbers) that the productions of a matter have taken under each prefix.
 use Rattle.std.specs.Prelude.{◌≡◌, ℕ, ◌+◌, ◌-◌, IsTrue, List, None, map, not}
 use Rattle.std.specs.List.{Contains, filter, flat_map, list_any, range_with_len}
-use Rattle.bp_bates.specs.Labels.{label_of}
+use Rattle.bp_bates.specs.Labels.{bates_label}
 use Rattle.bp_matter.specs.Matter.{Matter}
 use Rattle.bp_matter.specs.ValidPrefixes.{is_under}
 use Rattle.bp_matter.specs.declared.rows.Item.{Item}
@@ -24,7 +24,7 @@ numbers_under text productions = flat_map production_numbers (filter (is_under t
 -- the labels of a production, in order
 abbrev pub production_labels : ProductionRow → List (List ℕ)
 production_labels row =
-    map (label_of row.production.request.prefix.text row.production.request.prefix.width)
+    map (bates_label row.production.request.prefix.text row.production.request.prefix.width)
     (production_numbers row)
 
 -- those of all productions, in order

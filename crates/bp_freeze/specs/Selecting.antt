@@ -90,13 +90,13 @@ items_from next (s ∷ docs) = item_of next s ∷ items_from (next + s.numbers) 
 
 -- the first number of the first item
 -- by FRCP 34, 26(b)(5)(A)
-abbrev pub first_number : List Item → ℕ
-first_number [] = 0
-first_number (item ∷ items) = item.span.first
+abbrev pub first_of_items : List Item → ℕ
+first_of_items [] = 0
+first_of_items (item ∷ items) = item.span.first
 
 -- the last number of the last item
 -- by FRCP 34, 26(b)(5)(A)
-abbrev pub last_number : List Item → ℕ
-last_number [] = 0
-last_number (item ∷ []) = item.span.last
-last_number (item ∷ next ∷ items) = last_number (next ∷ items)
+abbrev pub last_of_items : List Item → ℕ
+last_of_items [] = 0
+last_of_items (item ∷ []) = item.span.last
+last_of_items (item ∷ next ∷ items) = last_of_items (next ∷ items)

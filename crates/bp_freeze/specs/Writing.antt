@@ -12,26 +12,26 @@ abbrev pub written : Writer (Vec ℕ Global) → Option (List ℕ)
 written w = text_written (λ v. Some v.items) w
 
 -- what was written
-abbrev pub text_of : Writer (Vec ℕ Global) → List ℕ
-text_of w = unwrap_or (written w) []
+abbrev pub written_text : Writer (Vec ℕ Global) → List ℕ
+written_text w = unwrap_or (written w) []
 
 -- the writer stands where a line may begin
-pub record IsBetween (w : Writer (Vec ℕ Global)) : Type 0 where
+pub record WriterIsBetween (w : Writer (Vec ℕ Global)) : Type 0 where
   pub setup : writer_setup w ≡ default_writer
   pub fields : fields_written w ≡ 0
   pub wrote : has_written w ≡ false
-  pub known : written w ≡ Some (text_of w)
+  pub known : written w ≡ Some (written_text w)
 
 -- a line more was written
 pub record AddsLine (old new : Writer (Vec ℕ Global)) (line : List ℕ) : Type 0 where
-  pub between : IsBetween new
-  pub text : text_of new ≡ text_of old ++ line
+  pub between : WriterIsBetween new
+  pub text : written_text new ≡ written_text old ++ line
 
 -- the value has no end of a line in it
 abbrev pub is_one_line : List ℕ → Bool
 is_one_line bytes = not (list_any (λ b. (b == carriage_return) || (b == newline)) bytes)
 
 -- the record has these values, and no part of a further one
-pub record IsRow (row : Row) (list : List (List ℕ)) : Type 0 where
+pub record WritesRow (row : Row) (list : List (List ℕ)) : Type 0 where
   pub values : fields_of row ≡ list
   pub whole : partial_of row ≡ []

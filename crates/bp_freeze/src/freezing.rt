@@ -9,7 +9,7 @@ ghost use Rattle.bp_freeze.specs.Freezing.{freeze_of, frozen_unless, new_product
 ghost use Rattle.bp_freeze.specs.Marks.{AreMarks};
 ghost use Rattle.bp_freeze.specs.Refusals.{family_rules, first_refusal, first_rule, next_number, prefix_row, request_rules, taken_rules, taking_rules};
 ghost use Rattle.bp_freeze.specs.Seeing.{decisions_of, is_produced, seen_of};
-ghost use Rattle.bp_freeze.specs.Selecting.{first_number, last_number};
+ghost use Rattle.bp_freeze.specs.Selecting.{first_of_items, last_of_items};
 
 use crate::families::{first_split, first_unsettled, responsive_marks};
 use crate::items::take_items;
@@ -197,8 +197,8 @@ fn production_of(
     items: Vec<Item>,
     span: Span,
 ) -> Result<Production, OutOfMemory>
-    requires first { span.first ≡ first_number items.items }
-    requires last { span.last ≡ last_number items.items }
+    requires first { span.first ≡ first_of_items items.items }
+    requires last { span.last ≡ last_of_items items.items }
     ensures { IfOk result (λ f. f ≡ production_of request.now items.items) }
 {
     Ok(Production {

@@ -8,7 +8,7 @@ ghost use Rattle.bp_matter.specs.declared.rows.Production.{Production};
 ghost use Rattle.bp_matter.specs.declared.rows.Request.{Request};
 ghost use Rattle.bp_freeze.specs.Alike.{DecidedAlike};
 ghost use Rattle.bp_freeze.specs.Freezing.{freeze_of, kept_production};
-ghost use Rattle.bp_freeze.specs.Keeping.{Keeps, frozen_matter};
+ghost use Rattle.bp_freeze.specs.Keeping.{KeepsProduction, frozen_matter};
 ghost use Rattle.bp_freeze.specs.Numbers.{AreTakenOnce, all_labels};
 ghost use Rattle.bp_freeze.specs.Together.{FamiliesStandOnce, FamiliesStandWhole, ItemsAscend};
 
@@ -55,20 +55,20 @@ pub fn a_repeat_is_stored()
         freeze_of m q ≡ Ok f →
         frozen_matter f (frozen_matter f m) ≡ frozen_matter f m }
     ensures stored { (m : Matter) (f : Production) →
-        Keeps m f →
+        KeepsProduction m f →
         freeze_of m f.request ≡ Ok f }
-    ensures left { (m : Matter) (f : Production) → Keeps m f → frozen_matter f m ≡ m }
+    ensures left { (m : Matter) (f : Production) → KeepsProduction m f → frozen_matter f m ≡ m }
 {}
 
 /// A freeze keeps each production that was kept, and its own, under the id that was asked for.
 pub fn a_freeze_keeps()
     ensures others { (m : Matter) (q : Request) (f g : Production) →
-        Keeps m g →
+        KeepsProduction m g →
         freeze_of m q ≡ Ok f →
-        Keeps (frozen_matter f m) g }
+        KeepsProduction (frozen_matter f m) g }
     ensures its_own { (m : Matter) (q : Request) (f : Production) →
         freeze_of m q ≡ Ok f →
-        Keeps (frozen_matter f m) f }
+        KeepsProduction (frozen_matter f m) f }
     ensures asked { (m : Matter) (q : Request) (f : Production) →
         freeze_of m q ≡ Ok f →
         kept_production (frozen_matter f m).productions q.id ≡ Some f }
@@ -78,5 +78,5 @@ pub fn a_freeze_keeps()
 pub fn found_is_kept()
     ensures { (m : Matter) (id : List ℕ) (f : Production) →
         kept_production m.productions id ≡ Some f →
-        Keeps m f }
+        KeepsProduction m f }
 {}

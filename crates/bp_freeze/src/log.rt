@@ -8,7 +8,7 @@ ghost use Rattle.bp_matter.specs.Treatments.{is_privileged, is_withheld};
 ghost use Rattle.csv.specs.Records.{fields_of, partial_of};
 ghost use Rattle.bp_freeze.specs.Csv.{csv_line};
 ghost use Rattle.bp_freeze.specs.Log.{CanBeLogged, claim_values, claims, entry_stands, entry_values, is_basis, is_withheld_for, label_in, log_columns, log_of, log_row, occurs, outcome, span_fits};
-ghost use Rattle.bp_freeze.specs.Writing.{AddsLine, IsBetween, IsRow, is_one_line, text_of};
+ghost use Rattle.bp_freeze.specs.Writing.{AddsLine, WriterIsBetween, WritesRow, is_one_line, written_text};
 
 use bp_bates::{Prefix, label_into};
 use bp_core::{Basis, Bytes, OutOfMemory, Text, Treatment};
@@ -43,8 +43,8 @@ pub fn log_text(alloc: Global, production: &Production) -> Result<Bytes, OutOfMe
 
 // The bytes that were written.
 fn bytes_of(writer: Writer<Vec<u8>>) -> Result<Bytes, OutOfMemory>
-    requires { IsBetween writer }
-    ensures { IfOk result (λ bytes. bytes ≡ text_of writer) }
+    requires { WriterIsBetween writer }
+    ensures { IfOk result (λ bytes. bytes ≡ written_text writer) }
 {
     match writer.into_inner() {
         Ok(bytes) => Ok(Bytes::from_vec(bytes)),
@@ -55,7 +55,7 @@ fn bytes_of(writer: Writer<Vec<u8>>) -> Result<Bytes, OutOfMemory>
 // A line of the values of this record. Bytes in memory are written without a fault, and each line
 // has as many values as the first, so that an error is want of memory.
 fn put_line(writer: &mut Writer<Vec<u8>>, row: &ByteRecord) -> Result<(), OutOfMemory>
-    requires between { IsBetween writer.old }
+    requires between { WriterIsBetween writer.old }
     requires many { 2 ≤ length (fields_of row.now) }
     requires lines { IsTrue (list_all is_one_line (fields_of row.now)) }
     ensures { OnOk result (AddsLine writer.old writer.new (csv_line (fields_of row.now))) }
@@ -68,7 +68,7 @@ fn put_line(writer: &mut Writer<Vec<u8>>, row: &ByteRecord) -> Result<(), OutOfM
 
 // The line with the names of the columns.
 fn put_columns(alloc: Global, writer: &mut Writer<Vec<u8>>) -> Result<(), OutOfMemory>
-    requires { IsBetween writer.old }
+    requires { WriterIsBetween writer.old }
     ensures { OnOk result (AddsLine writer.old writer.new (csv_line log_columns)) }
 {
     let columns: [&[u8]; 8] = [
@@ -92,7 +92,7 @@ fn put_item(
     prefix: &Prefix,
     item: &Item,
 ) -> Result<(), OutOfMemory>
-    requires between { IsBetween writer.old }
+    requires between { WriterIsBetween writer.old }
     requires prefix { IsTrue (is_good_prefix prefix.now.text prefix.now.width) }
     requires span { IsTrue (span_fits prefix.now.width item.now) }
     requires entry { IsTrue (entry_stands item.now) }
@@ -108,7 +108,7 @@ fn put_item(
 fn add_claim(row: &mut ByteRecord, prefix: &Prefix, item: &Item) -> Result<(), OutOfMemory>
     requires prefix { IsTrue (is_good_prefix prefix.now.text prefix.now.width) }
     requires span { IsTrue (span_fits prefix.now.width item.now) }
-    ensures { OnOk result (IsRow row.new (claim_values prefix.now item.now)) }
+    ensures { OnOk result (WritesRow row.new (claim_values prefix.now item.now)) }
 {
     row.clear();
     add_label(row, prefix, item.span.first)?;
@@ -124,7 +124,7 @@ fn add_label(row: &mut ByteRecord, prefix: &Prefix, number: u64) -> Result<(), O
     requires to { number ≤ largest_of prefix.now.width }
     requires whole { partial_of row.old ≡ [] }
     ensures { OnOk result
-        (IsRow row.new (fields_of row.old ++ label_in prefix.now number ∷ [])) }
+        (WritesRow row.new (fields_of row.old ++ label_in prefix.now number ∷ [])) }
 {
     let mut into = [0; LABEL];
     let length = label_into(prefix, number, &mut into);
@@ -134,7 +134,7 @@ fn add_label(row: &mut ByteRecord, prefix: &Prefix, number: u64) -> Result<(), O
 // The four texts of an entry, in UTF-8.
 fn add_entry(row: &mut ByteRecord, entry: &Option<Entry>) -> Result<(), OutOfMemory>
     requires { partial_of row.old ≡ [] }
-    ensures { OnOk result (IsRow row.new (fields_of row.old ++ entry_values entry.now)) }
+    ensures { OnOk result (WritesRow row.new (fields_of row.old ++ entry_values entry.now)) }
 {
     match entry {
         None => {
@@ -154,7 +154,7 @@ fn add_entry(row: &mut ByteRecord, entry: &Option<Entry>) -> Result<(), OutOfMem
 
 fn add_text(row: &mut ByteRecord, text: &Text) -> Result<(), OutOfMemory>
     requires { partial_of row.old ≡ [] }
-    ensures { OnOk result (IsRow row.new (fields_of row.old ++ encode_utf8_all text.now ∷ [])) }
+    ensures { OnOk result (WritesRow row.new (fields_of row.old ++ encode_utf8_all text.now ∷ [])) }
 {
     add(row, text.as_str().as_bytes())
 }
@@ -162,7 +162,7 @@ fn add_text(row: &mut ByteRecord, text: &Text) -> Result<(), OutOfMemory>
 // One value more.
 fn add(row: &mut ByteRecord, value: &[u8]) -> Result<(), OutOfMemory>
     requires { partial_of row.old ≡ [] }
-    ensures { OnOk result (IsRow row.new (fields_of row.old ++ value.now ∷ [])) }
+    ensures { OnOk result (WritesRow row.new (fields_of row.old ++ value.now ∷ [])) }
 {
     row.push_field(value)?;
     Ok(())

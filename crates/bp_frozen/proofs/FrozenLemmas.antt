@@ -14,7 +14,7 @@ use Rattle.bp_matter.specs.declared.rows.StaffRow.{StaffRow}
 use Rattle.bp_freeze.specs.Agree.{Agree}
 use Rattle.bp_freeze.specs.Alike.{Alike}
 use Rattle.bp_freeze.specs.Freezing.{freeze_of, kept_production}
-use Rattle.bp_freeze.specs.Keeping.{Keeps, frozen_matter}
+use Rattle.bp_freeze.specs.Keeping.{KeepsProduction, frozen_matter}
 use Rattle.bp_freeze.proofs.KeptLemmas.{asked-kept, kept-id, new-kept}
 use Rattle.bp_press.specs.Contents.{produced_page}
 use Rattle.bp_press.specs.Volume.{volume_of}
@@ -126,10 +126,10 @@ freezes-stand volumes frozen products m history first more made q f parts freeze
     let since : CallStays after end = subst (CallStays after) (sym whole) (calls-leave after more) in
     let there : CallStays before after =
     subst (CallStays before) (sym right) (calls-leave before (made ∷ [])) in
-    let kept : Keeps after f =
-    subst (λ (n : Matter). Keeps n f) (sym (right ∙ gives.matter)) (new-kept before q f gives.defined) in
+    let kept : KeepsProduction after f =
+    subst (λ (n : Matter). KeepsProduction n f) (sym (right ∙ gives.matter)) (new-kept before q f gives.defined) in
     let id = kept-id (frozen_matter f before).productions q.id f (asked-kept before q f gives.defined) in
-    let still : Keeps end f = since.productions f kept in
+    let still : KeepsProduction end f = since.productions f kept in
     let volume : volume_of f end ≡ volume_of f after = files-stay f after end since in
     record {
       defined = gives.defined;

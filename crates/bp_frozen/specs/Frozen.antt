@@ -9,7 +9,7 @@ use Rattle.bp_matter.specs.declared.rows.Request.{Request}
 use Rattle.bp_freeze.specs.Agree.{Agree}
 use Rattle.bp_freeze.specs.Alike.{Alike}
 use Rattle.bp_freeze.specs.Freezing.{freeze_of, kept_production}
-use Rattle.bp_freeze.specs.Keeping.{Keeps}
+use Rattle.bp_freeze.specs.Keeping.{KeepsProduction}
 use Rattle.bp_press.specs.Volume.{volume_of}
 use Rattle.bp_desk.specs.Calls.{answer_to, run_calls}
 use Rattle.bp_desk.specs.declared.history.Made.{Made}
@@ -27,8 +27,8 @@ pub record IsFrozenBy (m : Matter) (made : Made) (q : Request) (f : Production) 
 -- the freeze the same is frozen, with that volume.
 pub record FreezeStands (before after end : Matter) (q : Request) (f : Production) : Type 0 where
   pub defined : freeze_of before q ≡ Ok f
-  pub kept_then : Keeps after f
-  pub kept : Keeps end f
+  pub kept_then : KeepsProduction after f
+  pub kept : KeepsProduction end f
   pub found : kept_production end.productions q.id ≡ Some f
   pub volume : volume_of f end ≡ volume_of f after
   pub agreeing : (n : Matter) → Agree f end n → volume_of f n ≡ volume_of f end

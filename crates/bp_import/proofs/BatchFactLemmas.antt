@@ -24,7 +24,7 @@ use Rattle.bp_rows.specs.Limits.{sides_are_imported}
 use Rattle.bp_text.specs.declared.words.Word.{Word}
 use Rattle.bp_text.specs.declared.words.WordRow.{WordRow}
 use Rattle.bp_core.specs.Characters.{comma, newline}
-use Rattle.bp_import.specs.Batch.{docs_of, pages_of}
+use Rattle.bp_import.specs.Batch.{docs_of, pages_of_lines}
 use Rattle.bp_import.specs.Breaks.{cut, page_counts}
 use Rattle.bp_import.specs.Documents.{with_words, words_of_lines}
 use Rattle.bp_import.specs.Scans.{comes_in}

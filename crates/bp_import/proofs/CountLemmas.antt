@@ -4,7 +4,7 @@ use Rattle.csv.specs.Machine.{Read, next_record}
 use Rattle.csv.specs.Reading.{default_config, is_bom, records, records_from, records_next, strip_bom}
 use Rattle.csv.specs.declared.parser.State.{State}
 use Rattle.csv.specs.declared.parser.State.TheVariants as st
-use Rattle.bp_text.specs.WordFiles.{row_of as word_of, words_of}
+use Rattle.bp_text.specs.WordFiles.{word_row as word_of, words_of}
 use Rattle.bp_text.specs.declared.words.WordRow.{WordRow}
 use Rattle.bp_import.proofs.EachLemmas.{each_one, each_read}
 

@@ -15,9 +15,9 @@ use Rattle.csv.proofs.OnLiterals.{csv_on_literals}
 use Rattle.bp_matter.specs.declared.batches.BatchDoc.{BatchDoc}
 use Rattle.bp_matter.specs.declared.batches.BatchPage.{BatchPage}
 use Rattle.bp_outside.specs.Source.{FileMap}
-use Rattle.bp_import.specs.Batch.{Plan, batch_with, docs_of, pages_of, plan_by}
+use Rattle.bp_import.specs.Batch.{Plan, batch_of_images, docs_of, pages_of_lines, plan_by}
 use Rattle.bp_import.specs.Breaks.{breaks_of, cut, page_counts}
-use Rattle.bp_import.specs.Columns.{are_columns, is_column, table_of}
+use Rattle.bp_import.specs.Columns.{are_columns, is_column, tested_table}
 use Rattle.bp_import.specs.Digest.{framed}
 use Rattle.bp_import.specs.Documents.{with_words, words_of_lines}
 use Rattle.bp_import.specs.Families.{parents_of}
@@ -95,25 +95,25 @@ quoted text = 0xC3 ∷ 0xBE ∷ (text ++ 0xC3 ∷ 0xBE ∷ [])
 abbrev header : List ℕ
 header = quoted (codes "BEGDOC") ++ 0x14 ∷ quoted (codes "BEGATTACH") ++ 10 ∷ []
 
-no_records : table_of header ≡ Ok (record { columns = least; rows = [] })
+no_records : tested_table header ≡ Ok (record { columns = least; rows = [] })
 unfolding chars is_utf8 encode
 no_records = refl
 
-not_utf8 : table_of (0xFF ∷ 0xFE ∷ []) ≡ Err (rule_at_line kinds.DatEncoding 0)
+not_utf8 : tested_table (0xFF ∷ 0xFE ∷ []) ≡ Err (rule_at_line kinds.DatEncoding 0)
 unfolding chars is_utf8 encode
 not_utf8 = refl
 
 -- a header out of form comes before its names
-bad_header : table_of (codes "DOCID") ≡ Err (rule_at_line kinds.DatShape 1)
+bad_header : tested_table (codes "DOCID") ≡ Err (rule_at_line kinds.DatShape 1)
 unfolding chars is_utf8 encode
 bad_header = refl
 
 -- its names come before a bad line behind it
-bad_names : table_of (quoted (codes "DOCID") ++ 10 ∷ codes "x") ≡ Err (bare_rule kinds.DatColumns)
+bad_names : tested_table (quoted (codes "DOCID") ++ 10 ∷ codes "x") ≡ Err (bare_rule kinds.DatColumns)
 unfolding chars is_utf8 encode
 bad_names = refl
 
-bad_record : table_of (header ++ codes "x") ≡ Err (rule_at_line kinds.DatShape 2)
+bad_record : tested_table (header ++ codes "x") ≡ Err (rule_at_line kinds.DatShape 2)
 unfolding chars is_utf8 encode
 bad_record = refl
 
@@ -266,21 +266,21 @@ abbrev third_page : BatchPage
 third_page = record { page = page 1 2; words = [] }
 
 -- the words of a page keep their order
-three_pages : pages_of three_words three_lines three_scans ≡ first_page ∷ second_page ∷ third_page ∷ []
+three_pages : pages_of_lines three_words three_lines three_scans ≡ first_page ∷ second_page ∷ third_page ∷ []
 three_pages = refl
 
 abbrev batch_doc : List ℕ → List BatchPage → BatchDoc
 batch_doc id own = record { id = id; parent = 1; values = []; pages = own }
 
 -- the second document is of the first's family
-two_batch_docs : docs_of two_docs (1 ∷ 1 ∷ []) (cut (page_counts three_lines) (pages_of three_words three_lines three_scans)) ≡ batch_doc (codes "A1") (first_page ∷ second_page ∷ []) ∷ batch_doc (codes "A3") (third_page ∷ []) ∷ []
+two_batch_docs : docs_of two_docs (1 ∷ 1 ∷ []) (cut (page_counts three_lines) (pages_of_lines three_words three_lines three_scans)) ≡ batch_doc (codes "A1") (first_page ∷ second_page ∷ []) ∷ batch_doc (codes "A3") (third_page ∷ []) ∷ []
 two_batch_docs = refl
 
 -- the same as the import puts them together
 words_by_lines : words_of_lines three_lines three_words ≡ first_page.words ∷ second_page.words ∷ [] ∷ []
 words_by_lines = refl
 
-pages_put_together : with_words (page 4 2 ∷ page 9 2 ∷ page 1 2 ∷ []) (words_of_lines three_lines three_words) ≡ pages_of three_words three_lines three_scans
+pages_put_together : with_words (page 4 2 ∷ page 9 2 ∷ page 1 2 ∷ []) (words_of_lines three_lines three_words) ≡ pages_of_lines three_words three_lines three_scans
 pages_put_together = refl
 
 -- ---- files and images
@@ -357,7 +357,7 @@ unfolding csv_on_literals chars is_utf8 encode
 empty_folder = refl
 
 -- no document is in it, once its images are read
-empty_docs : (batch_with no_documents []).docs ≡ []
+empty_docs : (batch_of_images no_documents []).docs ≡ []
 empty_docs = refl
 
 -- with no image to read

@@ -19,12 +19,12 @@ use Rattle.bp_rows.specs.Image.{Image}
 use Rattle.bp_text.specs.declared.words.Word.{Word}
 use Rattle.bp_text.specs.declared.words.WordRow.{WordRow}
 use Rattle.std.specs.List.{list_all}
-use Rattle.bp_import.specs.Batch.{BatchAnswers, ImagesAnswer, Plan, PlanAnswers, batch_by, batch_with, docs_of, pages_of, plan_of}
+use Rattle.bp_import.specs.Batch.{BatchAnswers, ImagesAnswer, Plan, PlanAnswers, batch_by, batch_of_images, docs_of, pages_of_lines, plan_of}
 use Rattle.bp_import.specs.Breaks.{breaks_of, cut, page_counts, place_of}
 use Rattle.bp_import.specs.Digest.{digest_of}
 use Rattle.bp_import.specs.Documents.{with_words, words_of_lines}
 use Rattle.bp_import.specs.Importing.{Comes}
-use Rattle.bp_import.specs.Planned.{AreFiles, IsPlanned, Refuses}
+use Rattle.bp_import.specs.Planned.{AreFiles, IsPlanned, PlanRefuses}
 use Rattle.bp_import.specs.Records.{fields_of, record_of, records_of}
 use Rattle.bp_import.specs.Scans.{GivesImages, LinesAnswer, ReadsImages, Scan, comes_in}
 use Rattle.bp_core.specs.RuleSteps.{◌>>=◌}
@@ -120,7 +120,7 @@ batch_holds shown name digest planned pages words batch is long even comes insid
 
 -- ---- what is told
 
-pages_are : (words : List WordRow) (lines : List OptLine) (scans : List Scan) → with_words (map (λ scan. scan.page) scans) (words_of_lines lines words) ≡ pages_of words lines scans
+pages_are : (words : List WordRow) (lines : List OptLine) (scans : List Scan) → with_words (map (λ scan. scan.page) scans) (words_of_lines lines words) ≡ pages_of_lines words lines scans
 pages_are words [] [] = refl
 pages_are words [] (scan ∷ scans) = refl
 pages_are words (line ∷ lines) [] = refl
@@ -149,7 +149,7 @@ plan_is files shown name planned is are =
 answers_by : (files : FileMap) (name : List ℕ) (plan : Plan) (answer : Result BatchShown Rule) → plan_of files name ≡ Ok plan → ImagesAnswer files plan answer → BatchAnswers files name answer
 answers_by files name plan answer is images = subst (λ p. PlanAnswers files p answer) (sym is) images
 
-pub told_plan_refused : (shown : Option FileMap) (name : List ℕ) (given : ImportRefusal) → IfSome shown (λ files. Refuses given (plan_of files name))
+pub told_plan_refused : (shown : Option FileMap) (name : List ℕ) (given : ImportRefusal) → IfSome shown (λ files. PlanRefuses given (plan_of files name))
     → (X : Type 0) (view : X → BatchShown) → IfSome shown (λ files. Comes view (BatchAnswers files name) (Err given))
 told_plan_refused None name given bad X view = tt
 told_plan_refused (Some files) name (refusals.Rule rule) bad X view = subst (λ p. PlanAnswers files p (Err rule)) (sym bad) refl
@@ -176,7 +176,7 @@ told_word_outside (Some files) name planned images rule is read bad X view =
     (record {
       scans = Ok read.scans;
       read = read.read;
-      gives = sym (ap (λ r. r >>= (λ _. Ok (batch_with (plan_seen name planned is.dat is.opt is.csv) read.scans)))
+      gives = sym (ap (λ r. r >>= (λ _. Ok (batch_of_images (plan_seen name planned is.dat is.opt is.csv) read.scans)))
           (ap (λ pages. words_inside planned.lines pages planned.placed.words) (sym read.pages) ∙ bad));
     })
 
@@ -190,7 +190,7 @@ told_batch (Some files) name planned images words batch is read inside are =
     let plan = plan_seen name planned is.dat is.opt is.csv in
     let scans = read.scans in
     let counts = page_counts planned.lines in
-    let same : batch ≡ batch_with plan scans =
+    let same : batch ≡ batch_of_images plan scans =
     are
     ∙ ap (λ d. record { name = name; digest = d; fields = planned.fields; docs = docs_made planned images.pages }) (read.digest plan.files is.digest)
     ∙ ap (λ ps. record { name = name; digest = digest_of (plan.files ++ map (λ scan. scan.bytes) scans); fields = planned.fields; docs = docs_made planned ps }) read.pages
@@ -199,6 +199,6 @@ told_batch (Some files) name planned images words batch is read inside are =
     (record {
       scans = Ok scans;
       read = read.read;
-      gives = ap Ok same ∙ sym (ap (λ r. r >>= (λ _. Ok (batch_with plan scans)))
+      gives = ap Ok same ∙ sym (ap (λ r. r >>= (λ _. Ok (batch_of_images plan scans)))
           (ap (λ pages. words_inside planned.lines pages planned.placed.words) (sym read.pages) ∙ inside));
     })

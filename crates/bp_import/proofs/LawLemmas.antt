@@ -8,7 +8,7 @@ use Rattle.bp_outside.specs.Source.{FileMap}
 use Rattle.bp_rows.specs.Image.{Image}
 use Rattle.bp_tiff.specs.Read.{TiffAnswers}
 use Rattle.bp_import.specs.Batch.{BatchAnswers, Plan, PlanAnswers, batch_by, plan_of}
-use Rattle.bp_import.specs.Scans.{FileAnswers, LineAnswers, LinesAnswer, Scan, image_at, refused, scan_read, scanned}
+use Rattle.bp_import.specs.Scans.{FileAnswers, LineAnswers, LinesAnswer, Scan, scanned_image_at, refused, scan_read, scanned}
 use Rattle.bp_core.specs.RuleSteps.{◌>>=◌}
 
 -- each image file has an answer, and only one
@@ -36,7 +36,7 @@ some_lines : OneTiff → (files : FileMap) (name : List ℕ) (n : ℕ) (lines : 
     → (answer : Result (List Scan) Rule) × LinesAnswer files name n lines answer
 some_lines tiff files name n [] = (Ok [], refl)
 some_lines tiff files name n (line ∷ lines) =
-    let one = some_file tiff n (image_at files name n line) in
+    let one = some_file tiff n (scanned_image_at files name n line) in
     let rest = some_lines tiff files name (n + 1) lines in
     some_turn tiff files name n line lines one.0 one.1 rest.0 rest.1
 
@@ -61,13 +61,13 @@ same_lines : OneTiff → (files : FileMap) (name : List ℕ) (n : ℕ) (lines : 
     → LinesAnswer files name n lines first → LinesAnswer files name n lines second → first ≡ second
 same_lines tiff files name n [] first second one two = one ∙ sym two
 same_lines tiff files name n (line ∷ lines) first second (refused rule one is) (refused other two too) =
-    let e = same_file tiff n (image_at files name n line) (Err rule) (Err other) one two in cc
+    let e = same_file tiff n (scanned_image_at files name n line) (Err rule) (Err other) one two in cc
 same_lines tiff files name n (line ∷ lines) first second (refused rule one is) (scanned scan others two rest too) =
-    let e = same_file tiff n (image_at files name n line) (Err rule) (Ok scan) one two in cc
+    let e = same_file tiff n (scanned_image_at files name n line) (Err rule) (Ok scan) one two in cc
 same_lines tiff files name n (line ∷ lines) first second (scanned scan others one rest is) (refused rule two too) =
-    let e = same_file tiff n (image_at files name n line) (Ok scan) (Err rule) one two in cc
+    let e = same_file tiff n (scanned_image_at files name n line) (Ok scan) (Err rule) one two in cc
 same_lines tiff files name n (line ∷ lines) first second (scanned scan others one rest is) (scanned scan' others' two rest' too) =
-    let e = same_file tiff n (image_at files name n line) (Ok scan) (Ok scan') one two in
+    let e = same_file tiff n (scanned_image_at files name n line) (Ok scan) (Ok scan') one two in
     let same : scan ≡ scan' = cc in
     let tail : others ≡ others' = same_lines tiff files name (n + 1) lines others others' rest rest' in
     is ∙ ap (λ s. onto s others) same ∙ ap (onto scan') tail ∙ sym too

@@ -15,7 +15,7 @@ use Rattle.bp_load.specs.declared.opt.OptLine.{OptLine}
 use Rattle.bp_core.specs.Differing.{all_differ}
 use Rattle.bp_import.specs.Breaks.{begins, breaks_behind, breaks_of, broken_behind, is_broken, page_counts, place_of}
 use Rattle.bp_import.specs.Families.{family_of, is_family, parents_from, parents_of}
-use Rattle.bp_import.specs.Steps.{demand}
+use Rattle.bp_import.specs.Steps.{demanded}
 use Rattle.bp_import.specs.declared.records.Record.{Record}
 use Rattle.bp_import.proofs.DatFactLemmas.{demand_parts}
 use Rattle.bp_import.proofs.EachLemmas.{Each, each_weaker, onto_parts}

@@ -7,15 +7,15 @@ use Rattle.std.proofs.lemmas.Str.{IsUtf8-from_is_utf8, encodes-chars}
 use Rattle.bp_core.specs.Characters.{comma, newline, separator}
 use Rattle.bp_core.specs.Rules.{rule_at_line}
 use Rattle.bp_core.specs.declared.rules.RuleKind.TheVariants.{DatShape, OptShape}
-use Rattle.bp_load.specs.Dat.{row_of, values_of}
+use Rattle.bp_load.specs.Dat.{row_of_values, values_of_line}
 use Rattle.bp_load.specs.Lines.{filled_lines, without_mark}
-use Rattle.bp_load.specs.Opt.{are_of_form, field, has_count, is_opt_text, opt_line_of, opt_of, page_of}
+use Rattle.bp_load.specs.Opt.{are_of_form, opt_field, has_count, is_opt_text, opt_line_of, opt_of, page_of}
 use Rattle.bp_load.specs.Table.{Table}
 use Rattle.bp_load.specs.declared.opt.OptLine.{OptLine}
 use Rattle.bp_matter.specs.Texts.{is_field_name, is_name_character, is_value, is_value_character}
 use Rattle.bp_matter.specs.ValidProductions.{itself}
 use Rattle.bp_core.specs.Differing.{all_differ}
-use Rattle.bp_import.specs.Columns.{are_columns, is_begattach, is_column, is_field, table_of}
+use Rattle.bp_import.specs.Columns.{are_columns, is_begattach, is_column, is_field, tested_table}
 use Rattle.bp_import.specs.Records.{field_cells, fields_of, record_of, records_of}
 use Rattle.bp_import.specs.declared.columns.TheConstants.{MAX_COLUMN}
 use Rattle.bp_import.specs.declared.files.TheConstants.{FILE_LIMIT}
@@ -54,14 +54,14 @@ pub record GoodTable (table : Table) : Type 0 where
   pub few_rows : length table.rows ≤ FILE_LIMIT
   pub taken : are_columns table.columns ≡ true
 
-pub table_good : (bytes : List ℕ) (table : Table) → table_of bytes ≡ Ok table → length bytes ≤ FILE_LIMIT → GoodTable table
+pub table_good : (bytes : List ℕ) (table : Table) → tested_table bytes ≡ Ok table → length bytes ≤ FILE_LIMIT → GoodTable table
 table_good bytes table says short =
     let facts = table_facts bytes table says in
     let lines = subst (Each Line) facts.lines (lines_good bytes facts.text short) in
     let names = values_good facts.header table.columns lines.0.0 lines.0.1 facts.names in
     record {
       columns = names.0;
-      rows = (each_read Line (GoodRow (length table.columns)) (row_of (length table.columns)) (rule_at_line DatShape) 2 facts.rest table.rows
+      rows = (each_read Line (GoodRow (length table.columns)) (row_of_values (length table.columns)) (rule_at_line DatShape) 2 facts.rest table.rows
           (λ line row is read. row_good (length table.columns) line row is.0 is.1 read) facts.rows lines.1).0;
       few_columns = omega (arith, names.1, parts_few (λ c. c == separator) facts.header, lines.0.1);
       few_rows = omega (arith, table_few bytes table says, short);
@@ -198,9 +198,9 @@ line_parts line fields l true is e =
     (text.0, form.1, sym same)
 line_parts line fields l false is e = cc
 
-first_filled : (fields : List (List ℕ)) → are_of_form fields ≡ true → not (length (field fields 0) == 0) ≡ true
+first_filled : (fields : List (List ℕ)) → are_of_form fields ≡ true → not (length (opt_field fields 0) == 0) ≡ true
 first_filled fields form =
-    let some = not (length (field fields 0) == 0) in
+    let some = not (length (opt_field fields 0) == 0) in
     let one = and_parts _ _ form in
     let two = and_parts _ _ one.0 in
     let three = and_parts _ _ two.0 in
@@ -213,7 +213,7 @@ line_good line l single e =
     let fields = slice_split p line in
     let parts = line_parts line fields l (is_opt_text line fields) refl e in
     let texts = split_text comma (omega arith) refl line (IsUtf8-from_is_utf8 line parts.0) in
-    let first = field fields 0 in
+    let first = opt_field fields 0 in
     subst (λ x. GoodImage x.image) (sym parts.2)
     (image_good first (each_at IsUtf8 fields 0 [] ([], (refl, refl)) texts) (first_filled fields parts.1)
     (each_at Single fields 0 [] refl (split_all (λ c. not (c == newline)) p line single))

@@ -12,13 +12,13 @@ use Rattle.bp_rows.specs.Image.{Image}
 use Rattle.bp_rows.specs.Limits.{sides_are_imported}
 use Rattle.bp_tiff.specs.Read.{TiffFault, TiffReads}
 use Rattle.bp_import.specs.Importing.{Comes}
-use Rattle.bp_import.specs.Refusals.{refused_at}
+use Rattle.bp_import.specs.Refusals.{scan_refused_at}
 use Rattle.bp_import.specs.Scans.{BytesAnswer, Scan, at_line, comes_in, scan_with}
 use Rattle.bp_import.specs.declared.refusals.ImportRefusal.{ImportRefusal}
 
 -- the page is refused
 pub page_refused : (n : ℕ) (bytes : List ℕ) (refusal : Refusal) (given : ImportRefusal)
-    → given ≡ refused_at n refusal
+    → given ≡ scan_refused_at n refusal
     → IfRule (TiffFault bytes) refusal
     → Comes {X = Image} {V = Scan} (scan_with bytes) (BytesAnswer n bytes) (Err given)
 page_refused n bytes (calls.Rule rule) given is broken =
@@ -51,12 +51,12 @@ pub page_too_large : (n : ℕ) (bytes : List ℕ) (page : Image) (w h : ℕ) (fi
     → w ≡ page.width → h ≡ page.height
     → TiffReads bytes page
     → fits ≡ sides_are_imported w h → fits ≡ false
-    → given ≡ refused_at n (calls.Rule (page_limit_rule w h))
+    → given ≡ scan_refused_at n (calls.Rule (page_limit_rule w h))
     → Comes {X = Image} {V = Scan} (scan_with bytes) (BytesAnswer n bytes) (Err given)
 page_too_large n bytes page w h fits given wide high reads tests is said =
     let sides : sides_are_imported page.width page.height ≡ false = sym (ap (λ x. sides_are_imported x h) wide ∙ ap (λ y. sides_are_imported page.width y) high) ∙ sym tests ∙ is in
     let rule : page_limit_rule w h ≡ page_limit_rule page.width page.height = ap (λ x. page_limit_rule x h) wide ∙ ap (page_limit_rule page.width) high in
-    subst (λ g. Comes {X = Image} {V = Scan} (scan_with bytes) (BytesAnswer n bytes) (Err g)) (sym (said ∙ ap (λ r. refused_at n (calls.Rule r)) rule))
+    subst (λ g. Comes {X = Image} {V = Scan} (scan_with bytes) (BytesAnswer n bytes) (Err g)) (sym (said ∙ ap (λ r. scan_refused_at n (calls.Rule r)) rule))
     (record {
       read = Ok page;
       reads = reads;

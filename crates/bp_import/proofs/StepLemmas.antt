@@ -11,22 +11,22 @@ use Rattle.bp_core.specs.declared.refusals.Refusal.{Refusal}
 use Rattle.bp_core.specs.declared.refusals.Refusal.TheVariants as calls
 use Rattle.bp_core.specs.declared.rules.Rule.{Rule}
 use Rattle.bp_core.specs.declared.rules.RuleKind.TheVariants.{DatShape, DocBreaks, FamilyBroken, OptShape, WordOutside, WordShape, WordsPage}
-use Rattle.bp_load.specs.Dat.{after_header, columns_in, dat_columns, dat_of, row_of, values_of, with_rows, table_of as table_in}
+use Rattle.bp_load.specs.Dat.{after_header, columns_in, dat_columns, dat_of, row_of_values, values_of_line, table_with_rows, table_of as table_in}
 use Rattle.bp_load.specs.Lines.{each_line, filled_lines, without_mark}
 use Rattle.bp_load.specs.Opt.{opt_line_of, opt_of}
 use Rattle.bp_load.specs.declared.opt.OptLine.{OptLine}
 use Rattle.bp_outside.specs.Source.{FileMap, SourceView}
 use Rattle.bp_rows.specs.Image.{Image}
-use Rattle.bp_text.specs.WordFiles.{row_of as word_of, words_of}
+use Rattle.bp_text.specs.WordFiles.{word_row as word_of, words_of}
 use Rattle.bp_text.specs.declared.words.WordRow.{WordRow}
 use Rattle.bp_import.specs.Breaks.{breaks_behind, breaks_of, broken_behind, is_broken, place_of}
-use Rattle.bp_import.specs.Columns.{table_of}
+use Rattle.bp_import.specs.Columns.{tested_table}
 use Rattle.bp_import.specs.Families.{family_of, is_family, parents_from, parents_of}
 use Rattle.bp_import.specs.Importing.{IsCalm, after_kind, after_step}
-use Rattle.bp_import.specs.Planned.{Refuses}
+use Rattle.bp_import.specs.Planned.{PlanRefuses}
 use Rattle.bp_import.specs.Refusals.{BecomesRefusal}
 use Rattle.bp_core.specs.RuleSteps.{◌>>=◌}
-use Rattle.bp_import.specs.Steps.{demand}
+use Rattle.bp_import.specs.Steps.{demanded}
 use Rattle.bp_import.specs.WordPages.{places_of, row_inside, words_inside}
 use Rattle.bp_import.specs.declared.records.Record.{Record}
 use Rattle.bp_import.specs.declared.refusals.ImportRefusal.{ImportRefusal}
@@ -52,7 +52,7 @@ calm_cond : {V : Type 0} (b : Bool) (r s : Result V Rule) → AllCalm r → AllC
 calm_cond true r s one other = one
 calm_cond false r s one other = other
 
-calm_demand : (passes : Bool) (rule : Rule) → Calm rule → AllCalm (demand passes rule)
+calm_demand : (passes : Bool) (rule : Rule) → Calm rule → AllCalm (demanded passes rule)
 calm_demand true rule calm = calm_ok tt
 calm_demand false rule calm = calm_err rule calm
 
@@ -78,23 +78,23 @@ calm_each read rule calm n (piece ∷ pieces) = calm_first (read piece) (rule n)
 
 -- ---- each step
 
-calm_rows : (columns : List (List ℕ)) (r : Result (List (List (List ℕ))) Rule) → AllCalm r → AllCalm (with_rows columns r)
+calm_rows : (columns : List (List ℕ)) (r : Result (List (List (List ℕ))) Rule) → AllCalm r → AllCalm (table_with_rows columns r)
 calm_rows columns (Ok rows) calm = calm_ok _
 calm_rows columns (Err rule) calm = calm_err rule (calm rule refl)
 
 calm_header : (o : Option (List (List ℕ))) (records : List (List ℕ)) → AllCalm (after_header o records)
 calm_header None records = calm_err _ (λ source. refl)
-calm_header (Some columns) records = calm_rows columns _ (calm_each (row_of _) (rule_at_line DatShape) (λ n source. refl) 2 records)
+calm_header (Some columns) records = calm_rows columns _ (calm_each (row_of_values _) (rule_at_line DatShape) (λ n source. refl) 2 records)
 
 calm_lines : (lines : List (List ℕ)) → AllCalm (table_in lines)
 calm_lines [] = calm_err _ (λ source. refl)
-calm_lines (header ∷ records) = calm_header (values_of header) records
+calm_lines (header ∷ records) = calm_header (values_of_line header) records
 
 calm_first_line : (lines : List (List ℕ)) → AllCalm (columns_in lines)
 calm_first_line [] = calm_err _ (λ source. refl)
-calm_first_line (line ∷ lines) = calm_ok_or (values_of line) _ (λ source. refl)
+calm_first_line (line ∷ lines) = calm_ok_or (values_of_line line) _ (λ source. refl)
 
-pub table_calm : (bytes : List ℕ) → AllCalm (table_of bytes)
+pub table_calm : (bytes : List ℕ) → AllCalm (tested_table bytes)
 table_calm bytes =
     calm_next (dat_columns bytes) _
     (calm_cond _ _ _ (calm_first_line (filled_lines (without_mark bytes))) (calm_err _ (λ source. refl)))
@@ -147,23 +147,23 @@ bad_after {X} view (Err given) refusal answer source calm is said = after_bad vi
 
 -- a refusal of what a call says is the refusal that is handed on
 refuses_said : {Y V : Type 0} (view : Y → V) (refusal : Refusal) (given : ImportRefusal) (answer : Result V Rule)
-    → BecomesRefusal refusal given → Answers view (Err refusal) answer → Refuses given answer
-refuses_said view (calls.Rule rule) given answer is said = subst (λ g. Refuses g answer) (sym is) said
-refuses_said view calls.OutOfMemory given answer is said = subst (λ g. Refuses g answer) (sym is) tt
+    → BecomesRefusal refusal given → Answers view (Err refusal) answer → PlanRefuses given answer
+refuses_said view (calls.Rule rule) given answer is said = subst (λ g. PlanRefuses g answer) (sym is) said
+refuses_said view calls.OutOfMemory given answer is said = subst (λ g. PlanRefuses g answer) (sym is) tt
 
 -- what stops at its first step stops
-pub refuses_first : {A B : Type 0} (given : ImportRefusal) (r : Result A Rule) (next : A → Result B Rule) → Refuses given r → Refuses given (r >>= next)
+pub refuses_first : {A B : Type 0} (given : ImportRefusal) (r : Result A Rule) (next : A → Result B Rule) → PlanRefuses given r → PlanRefuses given (r >>= next)
 refuses_first (refusals.Rule rule) r next e = ap (λ s. s >>= next) e
 refuses_first refusals.SourceFault r next e = tt
 refuses_first refusals.OutOfMemory r next e = tt
 
-pub refuses_after : {A B : Type 0} (given : ImportRefusal) (r : Result A Rule) (a : A) (next : A → Result B Rule) → r ≡ Ok a → Refuses given (next a) → Refuses given (r >>= next)
-refuses_after given r a next is e = subst (λ s. Refuses given (s >>= next)) (sym is) e
+pub refuses_after : {A B : Type 0} (given : ImportRefusal) (r : Result A Rule) (a : A) (next : A → Result B Rule) → r ≡ Ok a → PlanRefuses given (next a) → PlanRefuses given (r >>= next)
+refuses_after given r a next is e = subst (λ s. PlanRefuses given (s >>= next)) (sym is) e
 
 pub bad_said : {X Y V W : Type 0} (view : Y → V) (r : Result X ImportRefusal) (refusal : Refusal) (answer : Result V Rule) (shown : Option FileMap) (whole : FileMap → Result W Rule)
     → IsErrAnd r (BecomesRefusal refusal) → Answers view (Err refusal) answer
-    → ((given : ImportRefusal) → Refuses given answer → IfSome shown (λ files. Refuses given (whole files)))
-    → IfErr r (λ given. IfSome shown (λ files. Refuses given (whole files)))
+    → ((given : ImportRefusal) → PlanRefuses given answer → IfSome shown (λ files. PlanRefuses given (whole files)))
+    → IfErr r (λ given. IfSome shown (λ files. PlanRefuses given (whole files)))
 bad_said view (Ok x) refusal answer shown whole is said then = absurd is
 bad_said view (Err given) refusal answer shown whole is said then = then given (refuses_said view refusal given answer is said)
 

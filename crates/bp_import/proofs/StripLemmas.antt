@@ -10,8 +10,8 @@ use Rattle.bp_rows.specs.Image.{Image}
 use Rattle.bp_rows.specs.Limits.{sides_are_imported}
 use Rattle.bp_t6.specs.Read.{StripReads}
 use Rattle.bp_tiff.specs.Layout.{layout_of}
-use Rattle.bp_tiff.specs.Pixels.{CodedHolds, PackedHolds, inked}
-use Rattle.bp_tiff.specs.Read.{Holds, StripsHold, TiffReads, strip_bytes, strip_rows}
+use Rattle.bp_tiff.specs.Pixels.{CodedHolds, PackedHolds, value_inked}
+use Rattle.bp_tiff.specs.Read.{StripHoldsRows, StripsHold, TiffReads, strip_bytes, strip_rows}
 use Rattle.bp_tiff.specs.declared.layout.Layout.{Layout}
 use Rattle.bp_import.specs.Scans.{comes_in}
 use Rattle.bp_import.specs.Strips.{IsOneStrip, frame_of}
@@ -24,7 +24,7 @@ all_rows l one = omega (arith, one.rows)
 -- the lines that are read from the bytes of the strip are held by it
 first_holds : (bytes : List ℕ) (l : Layout) (strip : List ℕ) (lines : List (List Bool)) → IsOneStrip l → strip ≡ strip_bytes bytes l 0
     → StripReads (bits_of High strip) l.sides.width l.sides.height lines
-    → Holds bytes l 0 lines
+    → StripHoldsRows bytes l 0 lines
 first_holds bytes l strip lines one same reads =
     let w = l.sides.width in let n = strip_rows l 0 in let own = strip_bytes bytes l 0 in
     let here : StripReads (bits_of l.coding.fill own) w n lines =
@@ -32,10 +32,10 @@ first_holds bytes l strip lines one same reads =
     (subst (λ (h : ℕ). StripReads (bits_of High own) w h lines) (sym (all_rows l one))
     (subst (λ (s : List ℕ). StripReads (bits_of High s) w l.sides.height lines) same reads)) in
     let P : Bool → Type 0 = λ b. elim b [ true ↦ CodedHolds l.coding w n own lines | false ↦ PackedHolds l.coding w n own lines ] in
-    subst P (sym one.coded) (record { values = lines; reads = here; means = sym (ap (λ b. inked b lines) one.white) })
+    subst P (sym one.coded) (record { values = lines; reads = here; means = sym (ap (λ b. value_inked b lines) one.white) })
 
 -- and by all strips
-strips_hold : (bytes : List ℕ) (l : Layout) (lines : List (List Bool)) → IsOneStrip l → Holds bytes l 0 lines → StripsHold bytes l l.strips.count 0 lines
+strips_hold : (bytes : List ℕ) (l : Layout) (lines : List (List Bool)) → IsOneStrip l → StripHoldsRows bytes l 0 lines → StripsHold bytes l l.strips.count 0 lines
 strips_hold bytes l lines one holds =
     subst (λ (n : ℕ). StripsHold bytes l n 0 lines) (sym one.one)
     (record { these = lines; rest = []; one = holds; others = refl; joined = sym (append-nil lines) })

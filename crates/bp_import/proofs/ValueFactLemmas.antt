@@ -7,7 +7,7 @@ use Rattle.std.proofs.lemmas.List.{length-append, length-drop, length-map, lengt
 use Rattle.std.proofs.lemmas.Str.{IsUtf8-from_is_utf8, encodes-chars, length-encode, length-le-encodes, len_utf8_bounds, scalars-chars}
 use Rattle.bp_core.specs.Characters.{carriage_return, newline, newline_sign, quote, separator}
 use Rattle.bp_load.proofs.TextLemmas.{passing_bytes}
-use Rattle.bp_load.specs.Dat.{each_value, inside, is_inner, of_number, is_quoted, quoted_value, read_character, row_of, together, values_of}
+use Rattle.bp_load.specs.Dat.{each_value, inside, is_inner, of_number, is_quoted, quoted_value, read_character, row_of_values, together, values_of_line}
 use Rattle.bp_matter.specs.Texts.{is_value, is_value_character}
 use Rattle.bp_matter.specs.Written.{is_short, is_word}
 use Rattle.bp_import.specs.declared.files.TheConstants.{FILE_LIMIT}
@@ -125,7 +125,7 @@ each_good (piece ∷ pieces) values each e =
     (subst (Each GoodValue) (sym parts.1.1.2) (value_good piece parts.0 each.0 parts.1.1.0, rest.0), ap length parts.1.1.2 ∙ ap suc rest.1)
 
 -- the values of a line
-pub values_good : (line : List ℕ) (values : List (List ℕ)) → IsUtf8 line → length line ≤ FILE_LIMIT → values_of line ≡ Some values
+pub values_good : (line : List ℕ) (values : List (List ℕ)) → IsUtf8 line → length line ≤ FILE_LIMIT → values_of_line line ≡ Some values
     → Each GoodValue values × (length values ≡ length (slice_split (λ c. c == separator) line))
 values_good line values text short e =
     let pieces = slice_split (λ c. c == separator) line in
@@ -144,7 +144,7 @@ number_parts n (Some values) row e =
     ]
 
 -- the values of a row
-pub row_good : (n : ℕ) (line : List ℕ) (row : List (List ℕ)) → IsUtf8 line → length line ≤ FILE_LIMIT → row_of n line ≡ Some row → Each GoodValue row × (length row ≡ n)
+pub row_good : (n : ℕ) (line : List ℕ) (row : List (List ℕ)) → IsUtf8 line → length line ≤ FILE_LIMIT → row_of_values n line ≡ Some row → Each GoodValue row × (length row ≡ n)
 row_good n line row text short e =
-    let parts = number_parts n (values_of line) row e in
+    let parts = number_parts n (values_of_line line) row e in
     ((values_good line row text short parts.0).0, parts.1)

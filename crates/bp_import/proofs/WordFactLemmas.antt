@@ -23,7 +23,7 @@ use Rattle.bp_core.specs.declared.rules.RuleKind.TheVariants.{WordShape}
 use Rattle.bp_matter.specs.Texts.{is_plain_character, is_word_text}
 use Rattle.bp_matter.specs.Written.{is_short, is_word, rect_written, word_written}
 use Rattle.bp_records.specs.Fields.{characters_of, field_of}
-use Rattle.bp_text.specs.WordFiles.{is_blank, is_number, nonzero, number_of, rect_of, row_of, side_of, word_row_of, word_text_of, words_of}
+use Rattle.bp_text.specs.WordFiles.{is_blank, is_number, nonzero, number_of_field, rect_of, word_row, side_of, word_row_of, word_text_of, words_of}
 use Rattle.bp_text.specs.declared.words.Word.{Word}
 use Rattle.bp_text.specs.declared.words.WordRow.{WordRow}
 use Rattle.bp_import.specs.declared.files.TheConstants.{FILE_LIMIT}
@@ -114,7 +114,7 @@ all_digits (c ∷ cs) all =
     (omega (arith, digit_value_digit c (low, high), high), all_digits cs parts.1)
 
 -- a number of at most nine digits
-number_small : (field : List ℕ) (n : ℕ) → number_of field ≡ Some n → n < 4294967296
+number_small : (field : List ℕ) (n : ℕ) → number_of_field field ≡ Some n → n < 4294967296
 number_small field n e =
     let parts = if_parts (is_number field) (digits_value 10 field) n e in
     let form = and_parts (nat_le 1 (length field) && nat_le (length field) 9) (list_all is_ascii_digit field) parts.0 in
@@ -132,13 +132,13 @@ nonzero_same m n e =
 
 side_small : (field : List ℕ) (n : ℕ) → side_of field ≡ Some n → n < 4294967296
 side_small field n e =
-    let parts = then_parts nonzero (number_of field) n e in
+    let parts = then_parts nonzero (number_of_field field) n e in
     omega (arith, number_small field parts.0 parts.1.0, nonzero_same parts.0 n parts.1.1)
 
 rect_good : (fields : List (List ℕ)) (rect : Rect) → rect_of fields ≡ Some rect → rect_written rect ≡ true
 rect_good fields rect e =
-    let left = then_parts _ (number_of (field_of fields 2)) rect e in
-    let top = then_parts _ (number_of (field_of fields 3)) rect left.1.1 in
+    let left = then_parts _ (number_of_field (field_of fields 2)) rect e in
+    let top = then_parts _ (number_of_field (field_of fields 3)) rect left.1.1 in
     let width = then_parts _ (side_of (field_of fields 4)) rect top.1.1 in
     let height = then_parts _ (side_of (field_of fields 5)) rect width.1.1 in
     let r : Rect = record { left = left.0; top = top.0; width = width.0; height = height.0 } in
@@ -228,11 +228,11 @@ fields_parts : (fits : Bool) (o : Option WordRow) (row : WordRow) → cond fits 
 fields_parts true o row e = e
 fields_parts false o row e = cc
 
-row_good : (fields : List (List ℕ)) (row : WordRow) → Short FILE_LIMIT fields → row_of fields ≡ Some row → GoodWord row.word
+row_good : (fields : List (List ℕ)) (row : WordRow) → Short FILE_LIMIT fields → word_row fields ≡ Some row → GoodWord row.word
 row_good fields row short e =
     let all = fields_parts (length fields == 7) (word_row_of fields) row e in
     let image = then_parts _ (characters_of (field_of fields 0)) row all in
-    let line = then_parts _ (number_of (field_of fields 1)) row image.1.1 in
+    let line = then_parts _ (number_of_field (field_of fields 1)) row image.1.1 in
     let rect = then_parts _ (rect_of fields) row line.1.1 in
     let text = then_parts _ (word_text_of (field_of fields 6)) row rect.1.1 in
     let r : WordRow = record { image = image.0; word = record { line = line.0; rect = rect.0; text = text.0 } } in
@@ -249,5 +249,5 @@ row_good fields row short e =
 pub words_good : (bytes : List ℕ) (rows : List WordRow) → words_of bytes ≡ Ok rows → length bytes ≤ FILE_LIMIT → Each (λ row. GoodWord row.word) rows
 words_good bytes rows says short =
     let text = strip_bom bytes in
-    (each_read (Short FILE_LIMIT) (λ row. GoodWord row.word) row_of (rule_at_line WordShape) 1 (records default_config text) rows row_good says
+    (each_read (Short FILE_LIMIT) (λ row. GoodWord row.word) word_row (rule_at_line WordShape) 1 (records default_config text) rows row_good says
     (records_short (length text + 1) st.StartRecord text FILE_LIMIT (omega (arith, bom_less bytes, short)))).0

@@ -13,14 +13,14 @@ use Rattle.bp_outside.specs.Source.{FileMap}
 use Rattle.bp_text.specs.WordFiles.{words_of}
 use Rattle.bp_text.specs.declared.words.WordRow.{WordRow}
 use Rattle.bp_import.specs.Breaks.{breaks_of, cut, page_counts}
-use Rattle.bp_import.specs.Columns.{table_of}
+use Rattle.bp_import.specs.Columns.{tested_table}
 use Rattle.bp_import.specs.Digest.{digest_of}
 use Rattle.bp_import.specs.Families.{parents_of}
-use Rattle.bp_import.specs.Files.{dat_path, file_at, opt_path, words_path}
+use Rattle.bp_import.specs.Files.{dat_path, batch_file_at, opt_path, words_path}
 use Rattle.bp_import.specs.Records.{fields_of, records_of}
 use Rattle.bp_import.specs.Scans.{LinesAnswer, Scan}
 use Rattle.bp_core.specs.RuleSteps.{◌>>=◌}
-use Rattle.bp_import.specs.Steps.{demand}
+use Rattle.bp_import.specs.Steps.{demanded}
 use Rattle.bp_import.specs.WordPages.{places_of, words_inside, words_on}
 use Rattle.bp_import.specs.declared.files.TheConstants.{DAT, OPT, WORDS}
 use Rattle.bp_import.specs.declared.records.Record.{Record}
@@ -39,9 +39,9 @@ pub record Plan : Type 0 where
 -- file of that number at a path
 abbrev pub plan_by : (ℕ → List ℕ → Result (List ℕ) Rule) → List ℕ → Result Plan Rule
 plan_by read name = do
-  _ ← demand (is_batch_name name) (bare_rule PathRefused)
+  _ ← demanded (is_batch_name name) (bare_rule PathRefused)
   dat ← read DAT (dat_path name)
-  table ← table_of dat
+  table ← tested_table dat
   opt ← read OPT (opt_path name)
   lines ← opt_of opt
   _ ← breaks_of (records_of table) lines
@@ -61,14 +61,15 @@ plan_by read name = do
 
 -- the same of these files
 abbrev pub plan_of : FileMap → List ℕ → Result Plan Rule
-plan_of files name = plan_by (λ which path. file_at files path which 0) name
+plan_of files name = plan_by (λ which path. batch_file_at files path which 0) name
 
 -- the page of each line, with its words
-abbrev pub pages_of : List WordRow → List OptLine → List Scan → List BatchPage
-pages_of words [] scans = []
-pages_of words (line ∷ lines) [] = []
-pages_of words (line ∷ lines) (scan ∷ scans) =
-    record { page = scan.page; words = words_on line.image words } ∷ pages_of words lines scans
+abbrev pub pages_of_lines : List WordRow → List OptLine → List Scan → List BatchPage
+pages_of_lines words [] scans = []
+pages_of_lines words (line ∷ lines) [] = []
+pages_of_lines words (line ∷ lines) (scan ∷ scans) =
+    record { page = scan.page; words = words_on line.image words }
+    ∷ pages_of_lines words lines scans
 
 -- each record with its parent and its pages
 abbrev pub docs_of : List Record → List ℕ → List (List BatchPage) → List BatchDoc
@@ -80,9 +81,9 @@ docs_of (doc ∷ docs) (parent ∷ parents) (own ∷ pages) =
     ∷ docs_of docs parents pages
 
 -- the batch of these images
-abbrev pub batch_with : Plan → List Scan → BatchShown
-batch_with plan scans =
-    let pages = pages_of plan.words plan.lines scans in
+abbrev pub batch_of_images : Plan → List Scan → BatchShown
+batch_of_images plan scans =
+    let pages = pages_of_lines plan.words plan.lines scans in
     record {
       name = plan.name;
       digest = digest_of (plan.files ++ map (λ scan. scan.bytes) scans);
@@ -94,7 +95,7 @@ batch_with plan scans =
 abbrev pub batch_by : Plan → List Scan → Result BatchShown Rule
 batch_by plan scans = do
   _ ← words_inside plan.lines (map (λ scan. scan.page) scans) plan.words
-  Ok (batch_with plan scans)
+  Ok (batch_of_images plan scans)
 
 -- the plan comes to this once its images are read
 pub record ImagesAnswer (files : FileMap) (plan : Plan) (answer : Result BatchShown Rule) :

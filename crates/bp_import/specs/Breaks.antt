@@ -7,7 +7,7 @@ use Rattle.bp_core.specs.declared.rules.Rule.{Rule}
 use Rattle.bp_core.specs.declared.rules.RuleKind.TheVariants.{DocBreaks}
 use Rattle.bp_load.specs.Documents.{docs_after, until_break}
 use Rattle.bp_load.specs.declared.opt.OptLine.{OptLine}
-use Rattle.bp_import.specs.Steps.{demand}
+use Rattle.bp_import.specs.Steps.{demanded}
 use Rattle.bp_import.specs.declared.records.Record.{Record}
 
 -- which of these lines has an image id, counted from 0
@@ -35,7 +35,7 @@ broken_behind before = rule_at_line DocBreaks (length before + 1)
 -- breaks and records go together in the lines behind others; or the first line that is broken,
 -- which is the one past the last where records are left
 abbrev pub breaks_behind : List OptLine → List Record → List OptLine → Result (Unit {0}) Rule
-breaks_behind before docs [] = demand (length docs == 0) (broken_behind before)
+breaks_behind before docs [] = demanded (length docs == 0) (broken_behind before)
 breaks_behind before docs (line ∷ lines) =
     if is_broken before docs line
     then Err (broken_behind before)

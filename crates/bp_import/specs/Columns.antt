@@ -12,7 +12,7 @@ use Rattle.bp_load.specs.Table.{Table}
 use Rattle.bp_matter.specs.ValidProductions.{itself}
 use Rattle.bp_core.specs.Differing.{all_differ}
 use Rattle.bp_core.specs.RuleSteps.{◌>>=◌}
-use Rattle.bp_import.specs.Steps.{demand}
+use Rattle.bp_import.specs.Steps.{demanded}
 use Rattle.bp_import.specs.declared.columns.TheConstants.{MAX_COLUMN}
 
 -- the first page of a document's family
@@ -42,8 +42,8 @@ are_columns columns =
     && list_all is_column columns && all_differ itself columns
 
 -- the table of a file: its columns are tested before its later lines are
-abbrev pub table_of : List ℕ → Result Table Rule
-table_of bytes = do
+abbrev pub tested_table : List ℕ → Result Table Rule
+tested_table bytes = do
   columns ← dat_columns bytes
-  _ ← demand (are_columns columns) (bare_rule DatColumns)
+  _ ← demanded (are_columns columns) (bare_rule DatColumns)
   dat_of bytes

@@ -36,5 +36,5 @@ file_read which line (Some bytes) =
     if nat_lt FILE_LIMIT (length bytes) then Err (file_rule FileTooLong which line) else Ok bytes
 
 -- what is read at a path
-abbrev pub file_at : FileMap → List ℕ → ℕ → ℕ → Result (List ℕ) Rule
-file_at files path which line = file_read which line (map.get files path)
+abbrev pub batch_file_at : FileMap → List ℕ → ℕ → ℕ → Result (List ℕ) Rule
+batch_file_at files path which line = file_read which line (map.get files path)

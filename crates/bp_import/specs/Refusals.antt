@@ -23,6 +23,6 @@ read_refused which line reads.Failed = refusals.SourceFault
 read_refused which line reads.OutOfMemory = refusals.OutOfMemory
 
 -- a refusal of a call at a line of the OPT file
-abbrev pub refused_at : ℕ → Refusal → ImportRefusal
-refused_at n (calls.Rule rule) = refusals.Rule (at_line n rule)
-refused_at n calls.OutOfMemory = refusals.OutOfMemory
+abbrev pub scan_refused_at : ℕ → Refusal → ImportRefusal
+scan_refused_at n (calls.Rule rule) = refusals.Rule (at_line n rule)
+scan_refused_at n calls.OutOfMemory = refusals.OutOfMemory

@@ -12,7 +12,7 @@ use Rattle.bp_outside.specs.Source.{FileMap}
 use Rattle.bp_rows.specs.Image.{Image}
 use Rattle.bp_rows.specs.Limits.{sides_are_imported}
 use Rattle.bp_tiff.specs.Read.{TiffAnswers}
-use Rattle.bp_import.specs.Files.{below, file_at}
+use Rattle.bp_import.specs.Files.{below, batch_file_at}
 use Rattle.bp_core.specs.RuleSteps.{◌>>=◌}
 use Rattle.bp_import.specs.declared.files.TheConstants.{IMAGE}
 use Rattle.bp_import.specs.Digest.{HasTaken, digest_of}
@@ -46,10 +46,10 @@ path_of_line name n line = do
   Ok (below name path)
 
 -- the file there
-abbrev pub image_at : FileMap → List ℕ → ℕ → OptLine → Result (List ℕ) Rule
-image_at files name n line = do
+abbrev pub scanned_image_at : FileMap → List ℕ → ℕ → OptLine → Result (List ℕ) Rule
+scanned_image_at files name n line = do
   path ← path_of_line name n line
-  file_at files path IMAGE n
+  batch_file_at files path IMAGE n
 
 -- the page of line n, whose sides are to be those of an import
 abbrev pub scan_of : ℕ → List ℕ → Image → Result Scan Rule
@@ -76,23 +76,23 @@ FileAnswers n (Err rule) answer = answer ≡ Err rule
 
 -- line n comes to this
 abbrev pub LineAnswers : FileMap → List ℕ → ℕ → OptLine → Result Scan Rule → Type 0
-LineAnswers files name n line answer = FileAnswers n (image_at files name n line) answer
+LineAnswers files name n line answer = FileAnswers n (scanned_image_at files name n line) answer
 
 -- one after the other: the first is refused, or its scan stands before what the others come to
-pub data InTurn (First : Result Scan Rule → Type 0) (Others : Result (List Scan) Rule → Type 0)
+pub data ScansInTurn (First : Result Scan Rule → Type 0) (Others : Result (List Scan) Rule → Type 0)
     (answer : Result (List Scan) Rule) : Type 0 where
-  refused : (rule : Rule) → First (Err rule) → answer ≡ Err rule → InTurn First Others answer
+  refused : (rule : Rule) → First (Err rule) → answer ≡ Err rule → ScansInTurn First Others answer
   scanned : (scan : Scan) (others : Result (List Scan) Rule)
       → First (Ok scan)
       → Others others
       → answer ≡ onto scan others
-      → InTurn First Others answer
+      → ScansInTurn First Others answer
 
 -- the lines from line n on come to this
 abbrev pub LinesAnswer : FileMap → List ℕ → ℕ → List OptLine → Result (List Scan) Rule → Type 0
 LinesAnswer files name n [] answer = answer ≡ Ok []
 LinesAnswer files name n (line ∷ lines) answer =
-    InTurn (LineAnswers files name n line) (LinesAnswer files name (n + 1) lines) answer
+    ScansInTurn (LineAnswers files name n line) (LinesAnswer files name (n + 1) lines) answer
 
 -- a page comes in: its sides are those of an import, and it has a writing
 abbrev pub comes_in : Image → Bool

@@ -1,7 +1,7 @@
 // The files of a batch.
 ghost use Rattle.std.specs.Prelude.{◌≡◌, ◌≤◌, length, IfOk, IfSome};
 ghost use Rattle.std.specs.Str.{chars};
-ghost use Rattle.bp_import.specs.Files.{below, file_at, file_rule};
+ghost use Rattle.bp_import.specs.Files.{below, batch_file_at, file_rule};
 ghost use Rattle.bp_import.specs.Importing.{Comes, after_step};
 ghost use Rattle.bp_import.specs.Refusals.{read_refused};
 
@@ -37,7 +37,8 @@ pub(crate) fn read_file<S: Source>(
 ) -> Result<Vec<u8>, ImportRefusal>
     // Over told files it is the file, or the rule.
     ensures told { IfSome (S.shows source.old).files (λ files.
-        Comes (λ bytes. bytes.items) (λ answer. file_at files path.now which line ≡ answer) result) }
+        Comes (λ bytes. bytes.items)
+        (λ answer. batch_file_at files path.now which line ≡ answer) result) }
 
     ensures limit { IfOk result (λ bytes. length bytes.items ≤ FILE_LIMIT) }
 

@@ -4,10 +4,10 @@ ghost use Rattle.std.specs.Str.{chars};
 ghost use Rattle.bp_load.specs.Opt.{opt_of};
 ghost use Rattle.bp_text.specs.WordFiles.{words_of};
 ghost use Rattle.bp_import.specs.Batch.{plan_of};
-ghost use Rattle.bp_import.specs.Columns.{table_of};
-ghost use Rattle.bp_import.specs.Files.{below, dat_path, file_at, opt_path, words_path};
+ghost use Rattle.bp_import.specs.Columns.{tested_table};
+ghost use Rattle.bp_import.specs.Files.{below, dat_path, batch_file_at, opt_path, words_path};
 ghost use Rattle.bp_import.specs.Importing.{after_step};
-ghost use Rattle.bp_import.specs.Planned.{IsPlaced, IsPlanned, Reads, Refuses, TakesFile, placing_of, said_at};
+ghost use Rattle.bp_import.specs.Planned.{IsPlaced, IsPlanned, PlanReads, PlanRefuses, TakesFile, placing_of, file_said_at};
 
 use crate::breaks::places_by_breaks;
 use crate::digest::FilesDigest;
@@ -52,7 +52,7 @@ pub(crate) fn read_plan<S: Source>(
 ) -> Result<Planned, ImportRefusal>
     ensures planned { IfOk result (IsPlanned (S.shows source.old).files name.now) }
     ensures refused { IfErr result (λ refusal. IfSome (S.shows source.old).files (λ files.
-        Refuses refusal (plan_of files name.now))) }
+        PlanRefuses refusal (plan_of files name.now))) }
     ensures after { S.shows source.new ≡ after_step (S.shows source.old) result }
 {
     if !is_batch_name(name) {
@@ -80,10 +80,10 @@ fn read_dat_file<S: Source>(
     name: &Text,
     digest: &mut FilesDigest,
 ) -> Result<Dat, ImportRefusal>
-    ensures read { IfOk result (λ dat. Reads table_of (S.shows source.old).files
+    ensures read { IfOk result (λ dat. PlanReads tested_table (S.shows source.old).files
         (dat_path name.now) DAT digest.old digest.new dat) }
     ensures refused { IfErr result (λ refusal. IfSome (S.shows source.old).files (λ files.
-        Refuses refusal (said_at table_of files (dat_path name.now) DAT))) }
+        PlanRefuses refusal (file_said_at tested_table files (dat_path name.now) DAT))) }
     ensures after { S.shows source.new ≡ after_step (S.shows source.old) result }
 {
     let bytes = take_file(alloc, source, name, "load.dat", DAT, digest)?;
@@ -97,10 +97,10 @@ fn read_opt_file<S: Source>(
     name: &Text,
     digest: &mut FilesDigest,
 ) -> Result<OptList, ImportRefusal>
-    ensures read { IfOk result (λ lines. Reads opt_of (S.shows source.old).files
+    ensures read { IfOk result (λ lines. PlanReads opt_of (S.shows source.old).files
         (opt_path name.now) OPT digest.old digest.new lines) }
     ensures refused { IfErr result (λ refusal. IfSome (S.shows source.old).files (λ files.
-        Refuses refusal (said_at opt_of files (opt_path name.now) OPT))) }
+        PlanRefuses refusal (file_said_at opt_of files (opt_path name.now) OPT))) }
     ensures after { S.shows source.new ≡ after_step (S.shows source.old) result }
 {
     let bytes = take_file(alloc, source, name, "load.opt", OPT, digest)?;
@@ -114,10 +114,10 @@ fn read_words_file<S: Source>(
     name: &Text,
     digest: &mut FilesDigest,
 ) -> Result<WordRows, ImportRefusal>
-    ensures read { IfOk result (λ words. Reads words_of (S.shows source.old).files
+    ensures read { IfOk result (λ words. PlanReads words_of (S.shows source.old).files
         (words_path name.now) WORDS digest.old digest.new words) }
     ensures refused { IfErr result (λ refusal. IfSome (S.shows source.old).files (λ files.
-        Refuses refusal (said_at words_of files (words_path name.now) WORDS))) }
+        PlanRefuses refusal (file_said_at words_of files (words_path name.now) WORDS))) }
     ensures after { S.shows source.new ≡ after_step (S.shows source.old) result }
 {
     let bytes = take_file(alloc, source, name, "words.csv", WORDS, digest)?;
@@ -138,7 +138,7 @@ fn read_placed<S: Source>(
     ensures placed { IfOk result (IsPlaced (S.shows source.old).files name.now docs.now lines.now
         digest.old digest.new) }
     ensures refused { IfErr result (λ refusal. IfSome (S.shows source.old).files (λ files.
-        Refuses refusal (placing_of files name.now docs.now lines.now))) }
+        PlanRefuses refusal (placing_of files name.now docs.now lines.now))) }
     ensures after { S.shows source.new ≡ after_step (S.shows source.old) result }
 {
     let found = places_by_breaks(alloc, docs, lines)?;
@@ -164,7 +164,7 @@ fn take_file<S: Source>(
     ensures taken { IfOk result (λ bytes. TakesFile (S.shows source.old).files
         (below name.now (chars file.now)) which digest.old digest.new bytes.items) }
     ensures refused { IfErr result (λ refusal. IfSome (S.shows source.old).files (λ files.
-        Refuses refusal (file_at files (below name.now (chars file.now)) which 0))) }
+        PlanRefuses refusal (batch_file_at files (below name.now (chars file.now)) which 0))) }
     ensures after { S.shows source.new ≡ after_step (S.shows source.old) result }
 {
     let path = path_below(alloc, name, file)?;

@@ -2,7 +2,7 @@
 ghost use Rattle.std.specs.Prelude.{◌≡◌, ◌<◌, ◌+◌, ◌^◌, length, IfErr, IfOk, IfSome, IsTrue};
 ghost use Rattle.std.specs.List.{list_all};
 ghost use Rattle.bp_import.specs.Importing.{Comes, IsCalm, after_step};
-ghost use Rattle.bp_import.specs.Refusals.{refused_at};
+ghost use Rattle.bp_import.specs.Refusals.{scan_refused_at};
 ghost use Rattle.bp_import.specs.Scans.{BytesAnswer, GivesImages, LineAnswers, comes_in, path_of_line, scan_seen, scan_with};
 
 use crate::digest::FilesDigest;
@@ -114,7 +114,7 @@ fn image_path(
 
 // The same refusal, with the line where it is by a rule.
 fn at_line(refusal: Refusal, number: u32) -> ImportRefusal
-    ensures { result ≡ refused_at number refusal }
+    ensures { result ≡ scan_refused_at number refusal }
 {
     match refusal {
         Refusal::Rule(rule) => ImportRefusal::Rule(Rule {

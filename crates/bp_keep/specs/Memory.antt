@@ -12,8 +12,8 @@ abbrev pub keeper_rows : MemKeeper → List Row
 keeper_rows keeper = keeper.given.items ++ held keeper.slots.entries
 
 -- what is known of it
-abbrev pub keeper_shown : MemKeeper → KeeperView
-keeper_shown keeper =
+abbrev pub memory_shown : MemKeeper → KeeperView
+memory_shown keeper =
     record {
       rows = Some (keeper_rows keeper);
       faults = keeper.faults;

@@ -31,13 +31,13 @@ pub struct MemKeeper {
 }
 
 impl MemKeeper {
-    ghost use Rattle.bp_keep.specs.Memory.{keeper_shown, keeper_calls};
+    ghost use Rattle.bp_keep.specs.Memory.{memory_shown, keeper_calls};
 
     /// A keeper of these rows, which stand in ascending order of key, none twice (`ascends` of
     /// bp_core is the test). Its calls whose numbers, from 0, are in `failing` are to fail.
     pub fn over(rows: RowList, failing: NumberList) -> MemKeeper
         requires { IsTrue (ascends row_key 0 rows) }
-        ensures shows { keeper_shown result
+        ensures shows { memory_shown result
             ≡ record {
               rows = Some rows;
               faults = 0;
@@ -62,10 +62,10 @@ impl MemKeeper {
 
 impl Keeper for MemKeeper {
     ghost use Rattle.bp_keep.specs.Keeper.{Loads, Commits};
-    ghost use Rattle.bp_keep.specs.Memory.{keeper_shown, keeper_calls};
+    ghost use Rattle.bp_keep.specs.Memory.{memory_shown, keeper_calls};
     ghost use Rattle.bp_core.specs.Calls.{never_failed};
 
-    ghost shows = { keeper_shown };
+    ghost shows = { memory_shown };
 
     ghost ascending = { λ keeper. keeper.ascending };
 
@@ -73,7 +73,7 @@ impl Keeper for MemKeeper {
 
     /// Fails exactly where the number of the call is one that was given to fail.
     fn load(&mut self, alloc: Global) -> Result<RowList, KeepRefusal>
-        ensures loads { Loads (keeper_shown self.old) result (keeper_shown self.new) }
+        ensures loads { Loads (memory_shown self.old) result (memory_shown self.new) }
         ensures fails { IsErrOf result KeepRefusal.Failed
             ↔ IsTrue (next_fails (keeper_calls self.old)) }
         ensures numbered { keeper_calls self.new ≡ after_call (keeper_calls self.old) }
@@ -89,7 +89,7 @@ impl Keeper for MemKeeper {
 
     /// Fails exactly where the number of the call is one that was given to fail.
     fn commit(&mut self, alloc: Global, puts: &PutList) -> Result<(), KeepRefusal>
-        ensures commits { Commits (keeper_shown self.old) puts.now result (keeper_shown self.new) }
+        ensures commits { Commits (memory_shown self.old) puts.now result (memory_shown self.new) }
         ensures fails { IsErrOf result KeepRefusal.Failed
             ↔ IsTrue (next_fails (keeper_calls self.old)) }
         ensures numbered { keeper_calls self.new ≡ after_call (keeper_calls self.old) }
@@ -107,7 +107,7 @@ impl Keeper for MemKeeper {
     }
 
     fn faults(&self) -> u64
-        ensures { result ≡ (keeper_shown self.now).faults }
+        ensures { result ≡ (memory_shown self.now).faults }
     {
         self.faults
     }

@@ -15,7 +15,7 @@ use Rattle.bp_keep_sql.specs.Table.{kept_table, kept_schema, no_schema}
 use Rattle.bp_keep_sql.specs.Lines.{kept_row, shown_row, kept_rows, is_row}
 use Rattle.bp_keep_sql.specs.Asked.{are_rows, told_as}
 use Rattle.bp_keep_sql.specs.Schemas.{same_schema}
-use Rattle.bp_keep_sql.specs.Told.{rows_of}
+use Rattle.bp_keep_sql.specs.Told.{rows_of_database}
 use Rattle.bp_keep_sql.specs.declared.files.TheConstants.{CACHE_PAGES}
 use Rattle.bp_keep_sql.proofs.SchemaLemmas.{same_schema-true, same_schema-itself}
 
@@ -148,14 +148,14 @@ a_view_beside_it =
 neither : same_schema with_view no_schema ≡ false
 neither = apart with_view no_schema (λ e. let n : 1 ≡ 0 = ap views_of e in omega (arith, n))
 
-no_table_no_rows : rows_of (record { schema = no_schema; trees = no_trees }) ≡ Some []
+no_table_no_rows : rows_of_database (record { schema = no_schema; trees = no_trees }) ≡ Some []
 no_table_no_rows = rw (same_schema-itself no_schema no_schema refl) refl
 
-rows_of_the_table : rows_of (record { schema = kept_schema; trees = trees })
+rows_of_the_table : rows_of_database (record { schema = kept_schema; trees = trees })
     ≡ Some (row 1 1 0 (1 ∷ 2 ∷ []) ∷ row 4 2 1 [] ∷ row 4 2 3 (9 ∷ []) ∷ [])
 rows_of_the_table = rw (an_empty_schema, the_same_schema) refl
 
-of_another_schema_nothing : rows_of (record { schema = with_view; trees = trees }) ≡ None
+of_another_schema_nothing : rows_of_database (record { schema = with_view; trees = trees }) ≡ None
 of_another_schema_nothing = rw (neither, a_view_beside_it) refl
 
 -- ---- the number

@@ -1,5 +1,5 @@
 -- What a keeper tells over files that were opened, and what files keep that were closed.
-use Rattle.std.proofs.Common.{◌≡◌, List, [], Option, Some, None, IfSome, Result, Ok, Err, IfOk, IsTrue, false, sym, ap, subst, ◌∙◌, inl, inr}
+use Rattle.std.proofs.Common.{◌≡◌, ◌⊎◌, List, [], Option, Some, None, IfSome, Result, Ok, Err, IfOk, IsTrue, false, sym, ap, subst, ◌∙◌, inl, inr}
 use Rattle.std.proofs.Math.Logic.{∥∥₁_map}
 use Rattle.sqlite_disk.specs.declared.Disk.{Ghosts}
 use Rattle.sqlite_disk.specs.declared.Files.{Files}
@@ -7,23 +7,27 @@ use Rattle.sqlite_wal.specs.Files.{outcomes}
 use Rattle.sqlite_wal.specs.Recovery.{Image}
 use Rattle.sqlite_wal.specs.Reads.{AreClean}
 use Rattle.sqlite_trees.specs.Tree.{Trees}
+use Rattle.sqlite_schema.specs.declared.schema.Schema.{Schema}
 use Rattle.sqlite_store.specs.declared.store.FileStore.{FileStore}
+use Rattle.sqlite_store.specs.FileStore.{recovers, view, state as store_state}
 use Rattle.sqlite_catalog.specs.Listing.{IsSound}
 use Rattle.sqlite.specs.Closing.{HoldsAlone, IsCopied}
 use Rattle.sqlite.specs.Effect.{Database}
 use Rattle.sqlite.specs.Files.{file_state, image_of}
-use Rattle.sqlite.specs.Held.{Held}
+use Rattle.sqlite.specs.Held.{AreDatabases, Held}
 use Rattle.sqlite.specs.Start.{FindsIn}
 use Rattle.sqlite.specs.State.{State, HasCleanDisk, IsLive, Opens}
+use Rattle.sqlite.proofs.Theorems.{opens_again}
 use Rattle.bp_core.specs.declared.kept.Row.{Row}
-use Rattle.bp_keep_sql.specs.Files.{AreOfRows, ClosedOver, Closes, FilesKeep, FilesKeepAlone, GoesOnFrom, TellsOf}
+use Rattle.bp_keep_sql.specs.Files.{AreOfRows, ClosedOver, Closes, FilesKeep, FilesKeepAlone, GoesOnFrom, TellsEither, TellsOf}
+use Rattle.bp_keep_sql.specs.Table.{kept_schema, no_schema}
 use Rattle.bp_keep_sql.specs.Lines.{kept_rows}
 use Rattle.bp_keep_sql.specs.Told.{rows_told}
 use Rattle.bp_keep_sql.proofs.ToldLemmas.{Tells, if_told, tells_so}
 use Rattle.bp_keep_sql.proofs.UniqueLemmas.{only_kept, only_none}
 
 -- what is told is what the last commit kept
-committed_rows : (s : State) (rows : List Row) → IsLive s
+pub committed_rows : (s : State) (rows : List Row) → IsLive s
     → (s.in_transaction ≡ false → IsTrue s.is_open → s.now ≡ s.committed) → Tells s rows
     → AreOfRows s.committed.trees rows
 committed_rows s rows live settled t =
@@ -133,3 +137,26 @@ pub ok_closed : {D : Type 0} {g : Ghosts D} {E : Type 0} (c : Held (FileStore D 
 ok_closed c (Err e) live settled copied = tt
 ok_closed c (Ok files) live settled copied =
     λ clean. closed_over c files live settled (copied clean)
+
+-- ---- a stop
+
+-- trees that keep rows are a database
+schema_of : (db : Trees) (rows : List Row) → AreOfRows db rows → (schema : Schema) × IsSound schema db
+schema_of db rows (inl none) = (no_schema, none.0)
+schema_of db rows (inr table) = (kept_schema, table.0)
+
+-- what each image that a crash may leave keeps is told by the next keeper
+pub next_either : {D : Type 0} {g : Ghosts D} (it : FileStore D g) (before after : List Row)
+    (image : Image) (told : Option (List Row)) → IsTrue (view it).is_numbered
+    → ((db : Trees) → recovers it db → AreOfRows db before ⊎ AreOfRows db after)
+    → (store_state it).may_leave image → TellsOf image told → TellsEither before after told
+next_either it before after image told numbered leaves may tells =
+    let sound : AreDatabases (recovers it) = λ db left. elim (leaves db left) [
+      | inl old ↦ schema_of db before old
+      | inr new ↦ schema_of db after new
+    ] in
+    ∥∥₁_map (opens_again it numbered sound image may) (λ found.
+    elim (leaves found.0 found.1) [
+      | inl old ↦ inl (tells.kept before (record { db = found.0; held = found.2; of_rows = old }))
+      | inr new ↦ inr (tells.kept after (record { db = found.0; held = found.2; of_rows = new }))
+    ])

@@ -11,6 +11,7 @@ pub mod QueryLemmas
 pub mod ReadLemmas
 pub mod SchemaLemmas
 pub mod StatementLemmas
+pub mod StopLemmas
 pub mod TextLemmas
 pub mod ToldLemmas
 pub mod UniqueLemmas

@@ -18,7 +18,7 @@ use Rattle.bp_keep_sql.specs.Rowids.{AreNumbered}
 use Rattle.bp_keep_sql.specs.Keeps.{Keeps}
 use Rattle.bp_keep_sql.specs.Effects.{Leaves, KeepsTable}
 use Rattle.bp_keep_sql.specs.Schemas.{same_schema}
-use Rattle.bp_keep_sql.specs.Told.{rows_of, rows_told, IsNumbered}
+use Rattle.bp_keep_sql.specs.Told.{rows_of_database, rows_told, IsNumbered}
 use Rattle.bp_keep_sql.proofs.SchemaLemmas.{same_schema-true, same_schema-itself}
 
 -- what told rows are
@@ -43,7 +43,7 @@ table_told db rows h = elim (cases_Bool (same_schema db.schema kept_schema)) [
   | inr off ↦ none_some (rw off at h)
 ]
 
-rows_told_of : (db : Database) (rows : List Row) → rows_of db ≡ Some rows
+rows_told_of : (db : Database) (rows : List Row) → rows_of_database db ≡ Some rows
     → ((db.schema ≡ no_schema) × (rows ≡ []))
     ⊎ ((db.schema ≡ kept_schema) × (rows ≡ kept_rows (db.trees 0)))
 rows_told_of db rows h = elim (cases_Bool (same_schema db.schema no_schema)) [

@@ -9,7 +9,7 @@ use Rattle.sqlite_trees.specs.Tree.{Trees}
 use Rattle.sqlite_store.specs.declared.store.FileStore.{FileStore}
 use Rattle.sqlite_catalog.specs.Listing.{IsSound}
 use Rattle.sqlite.specs.Held.{Held}
-use Rattle.sqlite.specs.State.{HasCleanDisk}
+use Rattle.sqlite.specs.State.{State, HasCleanDisk}
 use Rattle.sqlite.specs.Files.{AreFoundIn, HoldsDatabase, file_state, image_of}
 use Rattle.bp_core.specs.declared.kept.Row.{Row}
 use Rattle.bp_keep_sql.specs.Table.{kept_schema, no_schema}
@@ -21,6 +21,12 @@ use Rattle.bp_keep_sql.specs.Told.{rows_told}
 abbrev pub AreOfRows : Trees → List Row → Type 0
 AreOfRows db rows =
     (IsSound no_schema db × (rows ≡ [])) ⊎ (IsSound kept_schema db × (rows ≡ kept_rows (db 0)))
+
+-- whatever an open after a crash at this moment may find is a database that keeps the rows from before,
+-- or those from after
+abbrev pub LeavesRows : State → List Row → List Row → Type 0
+LeavesRows s before after =
+    (db : Trees) → s.may_leave db → AreOfRows db before ⊎ AreOfRows db after
 
 -- a database file and its log that held this recover to a database that keeps these rows
 pub record FilesKeep (image : Image) (rows : List Row) : Type 0 where
@@ -42,6 +48,10 @@ pub record TellsOf (image : Image) (told : Option (List Row)) : Type 0 where
 -- what a keeper tells that is opened later goes on from what one told before: the same rows
 abbrev pub GoesOnFrom : Option (List Row) → Option (List Row) → Type 0
 GoesOnFrom last told = IfSome last (λ rows. ∥ told ≡ Some rows ∥₁)
+
+-- what a keeper tells that is opened over what a stop left: the rows from before, or those from after
+abbrev pub TellsEither : List Row → List Row → Option (List Row) → Type 0
+TellsEither before after told = ∥ (told ≡ Some before) ⊎ (told ≡ Some after) ∥₁
 
 -- the disk of this connection was clean, it was open, and the files keep the rows that a keeper over
 -- it tells, as they read and after a crash

@@ -14,15 +14,15 @@ use Rattle.bp_keep_sql.specs.Schemas.{same_schema}
 
 -- the rows of a database: none where it has no table; those of its one table where that is defined
 -- as its text defines it. Of every other database none are told
-abbrev pub rows_of : Database → Option (List Row)
-rows_of db =
+abbrev pub rows_of_database : Database → Option (List Row)
+rows_of_database db =
     if same_schema db.schema no_schema then Some []
     else (if same_schema db.schema kept_schema then Some (kept_rows (db.trees 0)) else None)
 
 -- the rows that are told: where the disk is clean, the connection open and no transaction begun
 abbrev pub rows_told : State → Option (List Row)
 rows_told s =
-    if s.is_clean && (s.is_open && not s.in_transaction) then rows_of s.now else None
+    if s.is_clean && (s.is_open && not s.in_transaction) then rows_of_database s.now else None
 
 -- where the table was numbered, no two lines of it have one rowid
 abbrev pub IsNumbered : Bool → State → Type 0
@@ -50,6 +50,7 @@ told-ascend s =
     let table = Some (kept_rows (s.now.trees 0)) in
     let other : IfSome (if is_table then table else None) P =
     if_both P is_table table None (kept-ascend (s.now.trees 0)) tt in
-    let all : IfSome (rows_of s.now) P =
+    let all : IfSome (rows_of_database s.now) P =
     if_both P (same_schema s.now.schema no_schema) (Some []) _ refl other in
-    if_both P (s.is_clean && (s.is_open && not s.in_transaction)) (rows_of s.now) None all tt
+    if_both P (s.is_clean && (s.is_open && not s.in_transaction)) (rows_of_database s.now) None
+    all tt

@@ -8,9 +8,9 @@ ghost use Rattle.sqlite_trees.specs.Tree.{Trees};
 ghost use Rattle.bp_core.specs.declared.kept.Row.{Row as Kept};
 ghost use Rattle.bp_keep.specs.Puts.{put_all, put_one};
 ghost use Rattle.bp_keep_sql.specs.Table.{no_schema};
-ghost use Rattle.bp_keep_sql.specs.Lines.{kept_rows};
-ghost use Rattle.bp_keep_sql.specs.Keeps.{Keeps};
+ghost use Rattle.bp_keep_sql.specs.Keeps.{Keeps, KeepsTrees};
 ghost use Rattle.bp_keep_sql.specs.Effects.{Leaves};
+ghost use Rattle.bp_keep_sql.specs.Files.{LeavesRows};
 ghost use Rattle.bp_keep_sql.specs.Told.{IsNumbered, rows_told};
 ghost use Rattle.bp_keep_sql.specs.Asked.{FailsToCommitPuts, FailsToKeep, FailsToPut, PutsAll, PutsRow, SameLimit, StopsAt};
 
@@ -44,11 +44,16 @@ pub fn commit_numbered<S: Alter>(
     ensures stops { HasCleanDisk (state S.Store conn.new) → (rows : List Kept)
         → Keeps (state S.Store conn.old).now rows
         → (db : Trees) → (state S.Store conn.new).may_leave db
-        → (state S.Store conn.old).may_leave db ⊎ (kept_rows (db 0) ≡ put_all puts.now rows) }
+        → (state S.Store conn.old).may_leave db ⊎ KeepsTrees db (put_all puts.now rows) }
+    ensures stopped { HasCleanDisk (state S.Store conn.new)
+        → IfSome (rows_told (state S.Store conn.old)) (λ rows.
+        LeavesRows (state S.Store conn.new) rows (put_all puts.now rows)) }
     ensures refused { HasCleanDisk (state S.Store conn.new) → IfErr result (λ e.
         FailsToCommitPuts S.Store numbered.old puts.now conn.old conn.new e) }
     ensures limit { SameLimit S.Store conn.old conn.new }
 {
+    let _schema = conn.schema();
+    let _settled = conn.is_autocommit();
     number_once(conn, numbered)?;
     commit_puts(conn, puts)
 }
@@ -72,7 +77,10 @@ fn commit_puts<S: Alter>(conn: &mut Connection<S>, puts: &[Put]) -> Result<(), E
     ensures stops { HasCleanDisk (state S.Store conn.new) → (rows : List Kept)
         → Keeps (state S.Store conn.old).now rows
         → (db : Trees) → (state S.Store conn.new).may_leave db
-        → (state S.Store conn.old).may_leave db ⊎ (kept_rows (db 0) ≡ put_all puts.now rows) }
+        → (state S.Store conn.old).may_leave db ⊎ KeepsTrees db (put_all puts.now rows) }
+    ensures without { HasCleanDisk (state S.Store conn.new)
+        → (state S.Store conn.old).now.schema ≡ no_schema → (db : Trees)
+        → (state S.Store conn.new).may_leave db → (state S.Store conn.old).may_leave db }
     ensures live { IsLive (state S.Store conn.old) }
     ensures outside { OnOk result (conn.old.in_transaction ≡ false) }
     ensures limit { SameLimit S.Store conn.old conn.new }
@@ -101,7 +109,7 @@ fn put_inside<S: Alter>(conn: &mut Connection<S>, puts: &[Put]) -> Result<(), Er
     ensures stops { HasCleanDisk (state S.Store conn.new) → (rows : List Kept)
         → Keeps (state S.Store conn.old).now rows
         → (db : Trees) → (state S.Store conn.new).may_leave db
-        → (state S.Store conn.old).may_leave db ⊎ (kept_rows (db 0) ≡ put_all puts.now rows) }
+        → (state S.Store conn.old).may_leave db ⊎ KeepsTrees db (put_all puts.now rows) }
     ensures limit { SameLimit S.Store conn.old conn.new }
     ensures refused { HasCleanDisk (state S.Store conn.new)
         → IfErr result (FailsToPut S.Store puts.now conn.old conn.new) }

@@ -68,7 +68,7 @@ impl<S: Alter> SqlKeeper<S> {
 }
 
 impl<S: Alter> Keeper for SqlKeeper<S> {
-    ghost use Rattle.std.specs.Prelude.{◌≡◌, ◌⊎◌, List, [], IfOk, IsErr, IsTrue, OnOk, OnErr};
+    ghost use Rattle.std.specs.Prelude.{◌≡◌, ◌⊎◌, List, [], IfOk, IfSome, IsErr, IsTrue, OnOk, OnErr};
     ghost use Rattle.sqlite.specs.Held.{state};
     ghost use Rattle.sqlite.specs.State.{HasCleanDisk};
     ghost use Rattle.sqlite_trees.specs.Tree.{Trees};
@@ -77,8 +77,9 @@ impl<S: Alter> Keeper for SqlKeeper<S> {
     ghost use Rattle.bp_keep.specs.Puts.{put_all};
     ghost use Rattle.bp_keep.specs.Keeper.{Loads, Commits};
     ghost use Rattle.bp_keep_sql.specs.Table.{no_schema};
-    ghost use Rattle.bp_keep_sql.specs.Lines.{kept_rows};
-    ghost use Rattle.bp_keep_sql.specs.Keeps.{Keeps};
+    ghost use Rattle.bp_keep_sql.specs.Keeps.{Keeps, KeepsTrees};
+    ghost use Rattle.bp_keep_sql.specs.Files.{LeavesRows};
+    ghost use Rattle.bp_keep_sql.specs.Told.{rows_told};
     ghost use Rattle.bp_keep_sql.specs.Effects.{Leaves, KeepsTable};
     ghost use Rattle.bp_keep_sql.specs.Asked.{AnswersCommit, AnswersLoad};
     ghost use Rattle.bp_keep_sql.specs.Keeper.{keeper_shown, GoesOn, shown-ascend, shown-unfailing};
@@ -91,7 +92,8 @@ impl<S: Alter> Keeper for SqlKeeper<S> {
 
     /// Makes the table where there is none; a table that is there keeps its rows. After it rows are
     /// told, where the disk is clean and the connection open. `Failed` also where the table is of
-    /// another definition and has a row that is no such key with a body.
+    /// another definition and has a row that is no such key with a body. Where the process stops,
+    /// another open finds the rows that were told before it.
     fn load(&mut self, alloc: Global) -> Result<RowList, KeepRefusal>
         ensures loads { Loads (keeper_shown S.Store self.old) result
             (keeper_shown S.Store self.new) }
@@ -102,6 +104,9 @@ impl<S: Alter> Keeper for SqlKeeper<S> {
             → OnOk result (Keeps (state S.Store self.new.conn).now []) }
         ensures keeps { KeepsTable (state S.Store self.old.conn) (state S.Store self.new.conn) }
         ensures opened { OnOk result (IsTrue self.new.numbered) }
+        ensures stopped { HasCleanDisk (state S.Store self.new.conn)
+            → IfSome (rows_told (state S.Store self.old.conn)) (λ rows.
+            LeavesRows (state S.Store self.new.conn) rows rows) }
         ensures asked { HasCleanDisk (state S.Store self.new.conn)
             → AnswersLoad S.Store self.old.numbered self.old.conn self.new.conn result }
         ensures goes_on { GoesOn S.Store self.old self.new }
@@ -132,7 +137,10 @@ impl<S: Alter> Keeper for SqlKeeper<S> {
             → Keeps (state S.Store self.old.conn).now rows
             → (db : Trees) → (state S.Store self.new.conn).may_leave db
             → (state S.Store self.old.conn).may_leave db
-            ⊎ (kept_rows (db 0) ≡ put_all puts.now rows) }
+            ⊎ KeepsTrees db (put_all puts.now rows) }
+        ensures stopped { HasCleanDisk (state S.Store self.new.conn)
+            → IfSome (rows_told (state S.Store self.old.conn)) (λ rows.
+            LeavesRows (state S.Store self.new.conn) rows (put_all puts.now rows)) }
         ensures asked { HasCleanDisk (state S.Store self.new.conn)
             → AnswersCommit S.Store self.old.numbered puts.now self.old.conn self.new.conn
             result }

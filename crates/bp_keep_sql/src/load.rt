@@ -1,15 +1,17 @@
 // All rows, read at once.
-ghost use Rattle.std.specs.Prelude.{◌≡◌, [], false, Ok, Err, OnOk, IfOk, IfErr, IfSome, IsErr, IsTrue};
+ghost use Rattle.std.specs.Prelude.{◌≡◌, ◌⊎◌, [], false, Ok, Err, OnOk, IfOk, IfErr, IfSome, IsErr, IsTrue};
 ghost use Rattle.sqlite.specs.Held.{state};
 ghost use Rattle.sqlite.specs.State.{HasCleanDisk};
+ghost use Rattle.sqlite_trees.specs.Tree.{Trees};
 ghost use Rattle.bp_core.specs.declared.kept.Row.{Row as Kept};
 ghost use Rattle.bp_core.specs.Sorted.{ascends, row_key};
 ghost use Rattle.bp_keep.specs.Keeper.{SameRows};
 ghost use Rattle.bp_keep_sql.specs.Table.{kept_schema, no_schema};
 ghost use Rattle.bp_keep_sql.specs.Lines.{kept_rows};
 ghost use Rattle.bp_keep_sql.specs.Rowids.{AreNumbered};
-ghost use Rattle.bp_keep_sql.specs.Keeps.{Keeps};
+ghost use Rattle.bp_keep_sql.specs.Keeps.{Keeps, MayMake};
 ghost use Rattle.bp_keep_sql.specs.Effects.{Leaves, KeepsTable};
+ghost use Rattle.bp_keep_sql.specs.Files.{LeavesRows};
 ghost use Rattle.bp_keep_sql.specs.Asked.{LoadsTable, OpensTable, ReadsTable, SameLimit};
 ghost use Rattle.bp_keep_sql.specs.Told.{IsNumbered, rows_told};
 
@@ -39,12 +41,17 @@ pub fn load_rows<S: Alter>(
     ensures keeps { KeepsTable (state S.Store conn.old) (state S.Store conn.new) }
     ensures opened { OnOk result (IsTrue numbered.new) }
     ensures stays { IsTrue numbered.old → IsTrue numbered.new }
+    ensures stopped { HasCleanDisk (state S.Store conn.new)
+        → IfSome (rows_told (state S.Store conn.old)) (λ rows.
+        LeavesRows (state S.Store conn.new) rows rows) }
     ensures loaded { HasCleanDisk (state S.Store conn.new) → IfOk result (λ rows.
         LoadsTable S.Store numbered.old conn.old conn.new (Ok rows.items)) }
     ensures refused { HasCleanDisk (state S.Store conn.new) → IfErr result (λ e.
         LoadsTable S.Store numbered.old conn.old conn.new (Err e)) }
     ensures limit { SameLimit S.Store conn.old conn.new }
 {
+    let _schema = conn.schema();
+    let _settled = conn.is_autocommit();
     open_once(conn, numbered)?;
     read_table(alloc, conn)
 }
@@ -61,6 +68,9 @@ fn open_once<S: Alter>(conn: &mut Connection<S>, numbered: &mut bool) -> Result<
         → OnOk result (Keeps (state S.Store conn.new).now []) }
     ensures keeps { KeepsTable (state S.Store conn.old) (state S.Store conn.new) }
     ensures stays { IsTrue numbered.old → IsTrue numbered.new }
+    ensures stops { HasCleanDisk (state S.Store conn.new) → (db : Trees)
+        → (state S.Store conn.new).may_leave db → (state S.Store conn.old).may_leave db
+        ⊎ MayMake (state S.Store conn.old).now.schema db }
     ensures asked { HasCleanDisk (state S.Store conn.new)
         → OpensTable S.Store numbered.old conn.old conn.new result }
     ensures limit { SameLimit S.Store conn.old conn.new }
@@ -85,6 +95,9 @@ fn open_table<S: Alter>(conn: &mut Connection<S>) -> Result<(), Error>
     ensures same { SameRows (rows_told (state S.Store conn.old))
         (rows_told (state S.Store conn.new)) }
     ensures keeps { KeepsTable (state S.Store conn.old) (state S.Store conn.new) }
+    ensures stops { HasCleanDisk (state S.Store conn.new) → (db : Trees)
+        → (state S.Store conn.new).may_leave db → (state S.Store conn.old).may_leave db
+        ⊎ MayMake (state S.Store conn.old).now.schema db }
     ensures asked { HasCleanDisk (state S.Store conn.new)
         → OpensTable S.Store false conn.old conn.new result }
     ensures limit { SameLimit S.Store conn.old conn.new }
@@ -102,6 +115,8 @@ fn read_table<S: Alter>(alloc: Global, conn: &mut Connection<S>) -> Result<Vec<R
         → (state S.Store conn.old).now.schema ≡ no_schema → IsErr result }
     ensures ascends { IfOk result (λ loaded. IsTrue (ascends row_key 0 loaded.items)) }
     ensures leaves { Leaves (state S.Store conn.old) (state S.Store conn.new) }
+    ensures stops { HasCleanDisk (state S.Store conn.new) → (db : Trees)
+        → (state S.Store conn.new).may_leave db → (state S.Store conn.old).may_leave db }
     ensures read { HasCleanDisk (state S.Store conn.new) → IfOk result (λ rows.
         ReadsTable (state S.Store conn.old) (state S.Store conn.new) (Ok rows.items)) }
     ensures refused { HasCleanDisk (state S.Store conn.new) → IfErr result (λ e.

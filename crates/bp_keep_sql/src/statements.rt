@@ -1,5 +1,5 @@
 // The statements, each run by a function of its own.
-ghost use Rattle.std.specs.Prelude.{◌≡◌, List, [], OnOk, OnErr, IfOk, IfErr, IsErr, IsTrue, true, false, map, Some, None, Ok, Err};
+ghost use Rattle.std.specs.Prelude.{◌≡◌, ◌⊎◌, List, [], OnOk, OnErr, IfOk, IfErr, IsErr, IsTrue, true, false, map, Some, None, Ok, Err};
 ghost use Rattle.sqlite.specs.Held.{state};
 ghost use Rattle.sqlite.specs.State.{HasCleanDisk, IsLive, KeepsCommit, Survives};
 ghost use Rattle.sqlite_trees.specs.Tree.{Trees};
@@ -8,7 +8,7 @@ ghost use Rattle.bp_core.specs.declared.kept.Row.{Row as Kept};
 ghost use Rattle.bp_keep_sql.specs.Table.{kept_schema, no_schema};
 ghost use Rattle.bp_keep_sql.specs.Lines.{shown_row, kept_rows};
 ghost use Rattle.bp_keep_sql.specs.Rowids.{AreNumbered, Rise};
-ghost use Rattle.bp_keep_sql.specs.Keeps.{Keeps};
+ghost use Rattle.bp_keep_sql.specs.Keeps.{Keeps, MayMake};
 ghost use Rattle.bp_keep_sql.specs.Effects.{Leaves, KeepsTable};
 ghost use Rattle.bp_keep_sql.specs.Texts.{rowids_text, select_text};
 ghost use Rattle.bp_keep_sql.specs.Asked.{FindsTable, MakesTable, PutsBody, Queries, SameLimit};
@@ -22,6 +22,9 @@ pub fn create_table<S: Alter>(conn: &mut Connection<S>) -> Result<usize, Error>
         → OnOk result (Keeps (state S.Store conn.new).now []) }
     ensures keeps { KeepsTable (state S.Store conn.old) (state S.Store conn.new) }
     ensures left { OnErr result (Leaves (state S.Store conn.old) (state S.Store conn.new)) }
+    ensures stops { HasCleanDisk (state S.Store conn.new) → (db : Trees)
+        → (state S.Store conn.new).may_leave db → (state S.Store conn.old).may_leave db
+        ⊎ MayMake (state S.Store conn.old).now.schema db }
     ensures asked { HasCleanDisk (state S.Store conn.new)
         → MakesTable (state S.Store conn.old) (state S.Store conn.new) result }
     ensures limit { SameLimit S.Store conn.old conn.new }
@@ -138,6 +141,8 @@ pub fn select_rows<S: Alter>(conn: &mut Connection<S>) -> Result<Vec<Line>, Erro
     ensures lacking { HasCleanDisk (state S.Store conn.new)
         → (state S.Store conn.old).now.schema ≡ no_schema → IsErr result }
     ensures leaves { Leaves (state S.Store conn.old) (state S.Store conn.new) }
+    ensures stops { HasCleanDisk (state S.Store conn.new) → (db : Trees)
+        → (state S.Store conn.new).may_leave db → (state S.Store conn.old).may_leave db }
     ensures shown { HasCleanDisk (state S.Store conn.new) → IfOk result (λ lines.
         Queries select_text (state S.Store conn.old) (state S.Store conn.new) (Ok lines.items)) }
     ensures refused { HasCleanDisk (state S.Store conn.new) → IfErr result (λ e.

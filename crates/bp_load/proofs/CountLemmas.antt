@@ -10,7 +10,7 @@ use Rattle.bp_core.specs.InTurn.{first_then, read_each}
 use Rattle.bp_core.specs.Rules.{rule_at_line}
 use Rattle.bp_core.specs.declared.rules.Rule.{Rule}
 use Rattle.bp_core.specs.declared.rules.RuleKind.TheVariants.{DatEncoding, DatShape, OptShape}
-use Rattle.bp_load.specs.Dat.{after_header, dat_of, row_of, values_of, with_rows, table_of}
+use Rattle.bp_load.specs.Dat.{after_header, dat_of, row_of_values, values_of_line, table_with_rows, table_of}
 use Rattle.bp_load.specs.Lines.{byte_order_mark, filled_lines, without_mark}
 use Rattle.bp_load.specs.Opt.{opt_line_of, opt_of}
 use Rattle.bp_load.specs.Table.{Table}
@@ -82,7 +82,7 @@ opt_few bytes found is = omega (arith, filled_few bytes, each_few opt_line_of (r
 
 rows_few : (columns : List (List ℕ)) (rows : Result (List (List (List ℕ))) Rule) (table : Table) (n : ℕ)
     → ((found : List (List (List ℕ))) → rows ≡ Ok found → length found ≤ n)
-    → with_rows columns rows ≡ Ok table
+    → table_with_rows columns rows ≡ Ok table
     → length table.rows ≤ n
 rows_few columns (Ok found) table n few e = let same : record { columns = columns; rows = found } ≡ table = cc in omega (arith, ap (λ t. length t.rows) (sym same), few found refl)
 rows_few columns (Err rule) table n few e = absurd cc
@@ -90,12 +90,12 @@ rows_few columns (Err rule) table n few e = absurd cc
 header_few : (header : Option (List (List ℕ))) (records : List (List ℕ)) (table : Table) → after_header header records ≡ Ok table → length table.rows ≤ length records
 header_few None records table e = absurd cc
 header_few (Some columns) records table e =
-    rows_few columns (read_each (row_of (length columns)) (rule_at_line DatShape) 2 records) table (length records)
-    (λ found is. each_few (row_of (length columns)) (rule_at_line DatShape) 2 records found is) e
+    rows_few columns (read_each (row_of_values (length columns)) (rule_at_line DatShape) 2 records) table (length records)
+    (λ found is. each_few (row_of_values (length columns)) (rule_at_line DatShape) 2 records found is) e
 
 table_few : (found : List (List ℕ)) (table : Table) → table_of found ≡ Ok table → length table.rows ≤ length found
 table_few [] table e = absurd cc
-table_few (header ∷ records) table e = omega (arith, header_few (values_of header) records table e)
+table_few (header ∷ records) table e = omega (arith, header_few (values_of_line header) records table e)
 
 text_few : (text : Bool) (bytes : List ℕ) (table : Table)
     → cond text (table_of (filled_lines (without_mark bytes))) (Err (rule_at_line DatEncoding 0)) ≡ Ok table

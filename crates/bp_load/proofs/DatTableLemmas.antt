@@ -8,7 +8,7 @@ use Rattle.bp_core.specs.declared.rules.RuleKind.TheVariants.{DatShape, DatEncod
 use Rattle.bp_core.specs.Rules.{rule_at_line}
 use Rattle.bp_core.specs.InTurn.{first_then}
 use Rattle.bp_load.specs.Lines.{without_mark, filled_lines, each_line}
-use Rattle.bp_load.specs.Dat.{columns_in, dat_columns, dat_of, table_of, row_of, of_number, values_of}
+use Rattle.bp_load.specs.Dat.{columns_in, dat_columns, dat_of, table_of, row_of_values, of_number, values_of_line}
 
 of_number_is : (n : ℕ) (o : Option (List (List ℕ))) (v : List (List ℕ)) → of_number n o ≡ Some v → (length v == n) ≡ true
 of_number_is n None v e = cc
@@ -32,11 +32,11 @@ taken (Some v) rule (Err other) vs e = cc
 taken (Some v) rule (Ok ws) vs e = let f : v ∷ ws ≡ vs = cc in record { head = v; tail = ws; head_is = refl; tail_is = refl; whole = sym f }
 
 -- each row that was read is of that number
-pub each_even : (n k : ℕ) (ls : List (List ℕ)) (rows : List (List (List ℕ))) → each_line (row_of n) DatShape k ls ≡ Ok rows → list_all (λ row. length row == n) rows ≡ true
+pub each_even : (n k : ℕ) (ls : List (List ℕ)) (rows : List (List (List ℕ))) → each_line (row_of_values n) DatShape k ls ≡ Ok rows → list_all (λ row. length row == n) rows ≡ true
 each_even n k [] rows e = let f : [] ≡ rows = cc in ap (list_all (λ row. length row == n)) (sym f)
 each_even n k (l ∷ ls) rows e =
-    let t = taken (row_of n l) (rule_at_line DatShape k) (each_line (row_of n) DatShape (k + 1) ls) rows e in
-    ap (list_all (λ row. length row == n)) t.whole ∙ and_from _ _ (of_number_is n (values_of l) t.head t.head_is) (each_even n (k + 1) ls t.tail t.tail_is)
+    let t = taken (row_of_values n l) (rule_at_line DatShape k) (each_line (row_of_values n) DatShape (k + 1) ls) rows e in
+    ap (list_all (λ row. length row == n)) t.whole ∙ and_from _ _ (of_number_is n (values_of_line l) t.head t.head_is) (each_even n (k + 1) ls t.tail t.tail_is)
 
 pub dat_text : (bytes text rest : List ℕ) → is_utf8 bytes ≡ true → text ≡ bytes → rest ≡ without_mark text → table_of (filled_lines rest) ≡ dat_of bytes
 dat_text bytes text rest utf8 e f =

@@ -12,7 +12,7 @@ use Rattle.bp_load.specs.Table.{Table, is_even}
 use Rattle.bp_core.specs.Rules.{rule_at_line}
 use Rattle.bp_core.specs.InTurn.{first_then, onto}
 use Rattle.bp_load.specs.Lines.{without_mark, filled_lines, each_line}
-use Rattle.bp_load.specs.Dat.{dat_of, table_of, after_header, with_rows, row_of, of_number, values_of, each_value, together, quoted_value, is_quoted, inside, is_inner, read_character, write_character, quoted, dat_values_text, dat_line_text, dat_text, is_cell_character, is_cell, is_name, is_writable}
+use Rattle.bp_load.specs.Dat.{dat_of, table_of, after_header, table_with_rows, row_of_values, of_number, values_of_line, each_value, together, quoted_value, is_quoted, inside, is_inner, read_character, write_character, quoted, dat_values_text, dat_line_text, dat_text, is_cell_character, is_cell, is_name, is_writable}
 use Rattle.bp_load.proofs.TextLemmas.{passing_bytes, weaker}
 use Rattle.bp_load.proofs.LineLemmas.{filled_keep}
 use Rattle.bp_load.proofs.JoinLemmas.{not_at, joined, split_joined, utf8_joined}
@@ -143,7 +143,7 @@ some_mapped [] some = absurd (omega arith)
 some_mapped (v ∷ vs) some = omega arith
 
 -- the written values of a line are read as the values
-values_read : (values : List (List ℕ)) → 0 < length values → list_all is_cell values ≡ true → list_all all_scalars values ≡ true → values_of (dat_values_text values) ≡ Some values
+values_read : (values : List (List ℕ)) → 0 < length values → list_all is_cell values ≡ true → list_all all_scalars values ≡ true → values_of_line (dat_values_text values) ≡ Some values
 values_read values some cells scalars =
     ap each_value (split_joined 0x14 (map value_bytes values) (some_mapped values some)
     (weaker (list_all is_fine) (list_all (not_at 0x14)) (λ xs. weaker is_fine (not_at 0x14) fine_separator xs) (map value_bytes values) (fine_values values cells)) refl)
@@ -167,21 +167,21 @@ line_lines : (values : List (List ℕ)) (rest : List ℕ) → 0 < length values 
 line_lines values rest some cells =
     filled_keep (dat_values_text values) (dat_line_text values ++ rest) rest (ended_line (dat_values_text values) rest (no_breaks values cells)) (some_text values some)
 
-row_read : (n : ℕ) (row : List (List ℕ)) → 0 < n → (length row == n) ≡ true → list_all is_cell row ≡ true → list_all all_scalars row ≡ true → row_of n (dat_values_text row) ≡ Some row
+row_read : (n : ℕ) (row : List (List ℕ)) → 0 < n → (length row == n) ≡ true → list_all is_cell row ≡ true → list_all all_scalars row ≡ true → row_of_values n (dat_values_text row) ≡ Some row
 row_read n row some even cells scalars =
     let size = eqb-true (length row) n even in
     ap (of_number n) (values_read row (omega arith) cells scalars) ∙ ap (λ b. cond b (Some row) None) even
 
 rows_read : (n k : ℕ) (rows : List (List (List ℕ))) → 0 < n → list_all (λ row. length row == n) rows ≡ true → list_all (list_all is_cell) rows ≡ true → list_all (list_all all_scalars) rows ≡ true
-    → each_line (row_of n) DatShape k (filled_lines (flat_map dat_line_text rows)) ≡ Ok rows
+    → each_line (row_of_values n) DatShape k (filled_lines (flat_map dat_line_text rows)) ≡ Ok rows
 rows_read n k [] some even cells scalars = refl
 rows_read n k (row ∷ rows) some even cells scalars =
     let e = and_parts (length row == n) (list_all (λ r. length r == n) rows) even in
     let c = and_parts _ _ cells in
     let s = and_parts _ _ scalars in
     let size = eqb-true (length row) n e.0 in
-    ap (each_line (row_of n) DatShape k) (line_lines row (flat_map dat_line_text rows) (omega arith) c.0)
-    ∙ ap (λ o. first_then o (rule_at_line DatShape k) (each_line (row_of n) DatShape (k + 1) (filled_lines (flat_map dat_line_text rows)))) (row_read n row some e.0 c.0 s.0)
+    ap (each_line (row_of_values n) DatShape k) (line_lines row (flat_map dat_line_text rows) (omega arith) c.0)
+    ∙ ap (λ o. first_then o (rule_at_line DatShape k) (each_line (row_of_values n) DatShape (k + 1) (filled_lines (flat_map dat_line_text rows)))) (row_read n row some e.0 c.0 s.0)
     ∙ ap (onto row) (rows_read n (k + 1) rows some e.1 c.1 s.1)
 
 utf8_ends : IsUtf8 (13 ∷ 10 ∷ [])
@@ -230,4 +230,4 @@ reads_back t writable even names rows =
     ∙ ap (λ bytes. table_of (filled_lines bytes)) (no_mark t.columns text some)
     ∙ ap table_of (line_lines t.columns text some cells)
     ∙ ap (λ o. after_header o (filled_lines text)) (values_read t.columns some cells names)
-    ∙ ap (with_rows t.columns) (rows_read (length t.columns) 2 t.rows some even w.1 rows)
+    ∙ ap (table_with_rows t.columns) (rows_read (length t.columns) 2 t.rows some even w.1 rows)

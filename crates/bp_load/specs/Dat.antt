@@ -52,8 +52,8 @@ each_value [] = Some []
 each_value (piece ∷ pieces) = together (quoted_value (chars piece)) (each_value pieces)
 
 -- the values of a line: what stands between its separators is a value between two quotes each time
-abbrev pub values_of : List ℕ → Option (List (List ℕ))
-values_of line = each_value (slice_split (λ c. c == separator) line)
+abbrev pub values_of_line : List ℕ → Option (List (List ℕ))
+values_of_line line = each_value (slice_split (λ c. c == separator) line)
 
 -- values of that number
 abbrev pub of_number : ℕ → Option (List (List ℕ)) → Option (List (List ℕ))
@@ -61,24 +61,24 @@ of_number n None = None
 of_number n (Some values) = if length values == n then Some values else None
 
 -- a line of as many values as there are columns
-abbrev pub row_of : ℕ → List ℕ → Option (List (List ℕ))
-row_of n line = of_number n (values_of line)
+abbrev pub row_of_values : ℕ → List ℕ → Option (List (List ℕ))
+row_of_values n line = of_number n (values_of_line line)
 
 -- the columns and the rows after them
-abbrev pub with_rows : List (List ℕ) → Result (List (List (List ℕ))) Rule → Result Table Rule
-with_rows columns (Ok rows) = Ok (record { columns = columns; rows = rows })
-with_rows columns (Err rule) = Err rule
+abbrev pub table_with_rows : List (List ℕ) → Result (List (List (List ℕ))) Rule → Result Table Rule
+table_with_rows columns (Ok rows) = Ok (record { columns = columns; rows = rows })
+table_with_rows columns (Err rule) = Err rule
 
 -- the first line has the column names, and each later line a row
 abbrev pub after_header : Option (List (List ℕ)) → List (List ℕ) → Result Table Rule
 after_header None records = Err (rule_at_line DatShape 1)
 after_header (Some columns) records =
-    with_rows columns (each_line (row_of (length columns)) DatShape 2 records)
+    table_with_rows columns (each_line (row_of_values (length columns)) DatShape 2 records)
 
 -- the table of lines, or the first rule
 abbrev pub table_of : List (List ℕ) → Result Table Rule
 table_of [] = Err (rule_at_line DatShape 1)
-table_of (header ∷ records) = after_header (values_of header) records
+table_of (header ∷ records) = after_header (values_of_line header) records
 
 -- what a file says, or DatEncoding where it isn't UTF-8, or DatShape with the number of its first
 -- bad line
@@ -91,7 +91,7 @@ dat_of bytes =
 -- the columns that the first line names
 abbrev pub columns_in : List (List ℕ) → Result (List (List ℕ)) Rule
 columns_in [] = Err (rule_at_line DatShape 1)
-columns_in (header ∷ records) = ok_or (values_of header) (rule_at_line DatShape 1)
+columns_in (header ∷ records) = ok_or (values_of_line header) (rule_at_line DatShape 1)
 
 -- the columns of a file, whatever stands behind its first line; or what is wrong up to there
 abbrev pub dat_columns : List ℕ → Result (List (List ℕ)) Rule

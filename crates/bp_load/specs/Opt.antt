@@ -22,15 +22,15 @@ abbrev pub is_flag : List ℕ → Bool
 is_flag text = (length text == 0) || is_yes text
 
 -- the field of that number from 0; a missing one is empty
-abbrev pub field : List (List ℕ) → ℕ → List ℕ
-field fields n = slice_index_or fields n []
+abbrev pub opt_field : List (List ℕ) → ℕ → List ℕ
+opt_field fields n = slice_index_or fields n []
 
 -- the first and the third field aren't empty, the next three are flags and the last a count
 abbrev pub are_of_form : List (List ℕ) → Bool
 are_of_form fields =
-    not (length (field fields 0) == 0) && not (length (field fields 2) == 0)
-    && is_flag (field fields 3) && is_flag (field fields 4) && is_flag (field fields 5)
-    && is_page_count (field fields 6)
+    not (length (opt_field fields 0) == 0) && not (length (opt_field fields 2) == 0)
+    && is_flag (opt_field fields 3) && is_flag (opt_field fields 4) && is_flag (opt_field fields 5)
+    && is_page_count (opt_field fields 6)
 
 -- three to seven
 abbrev pub has_count : List (List ℕ) → Bool
@@ -39,13 +39,13 @@ has_count fields = nat_le 3 (length fields) && nat_le (length fields) 7
 -- what such fields say
 abbrev pub page_of : List (List ℕ) → OptLine
 page_of fields = record {
-  image = chars (field fields 0);
-  volume = chars (field fields 1);
-  path = chars (field fields 2);
-  doc_break = is_yes (field fields 3);
-  folder_break = is_yes (field fields 4);
-  box_break = is_yes (field fields 5);
-  pages = chars (field fields 6);
+  image = chars (opt_field fields 0);
+  volume = chars (opt_field fields 1);
+  path = chars (opt_field fields 2);
+  doc_break = is_yes (opt_field fields 3);
+  folder_break = is_yes (opt_field fields 4);
+  box_break = is_yes (opt_field fields 5);
+  pages = chars (opt_field fields 6);
 }
 
 -- a line is UTF-8 without CR, and between its commas has three to seven fields of that form

@@ -8,7 +8,7 @@ ghost use Rattle.bp_core.specs.Answers.{Answers};
 ghost use Rattle.bp_core.specs.declared.rules.RuleKind.TheVariants.{DatShape};
 ghost use Rattle.bp_core.specs.Rules.{rule_at_line};
 ghost use Rattle.bp_load.specs.Lines.{each_line, filled_lines};
-ghost use Rattle.bp_load.specs.Dat.{dat_others_text, columns_in, dat_columns, dat_of, table_of, row_of, values_of, quoted_value, is_quoted, inside, is_inner, stands_for_itself, read_character, write_character, quoted, dat_values_text, dat_line_text, dat_text, is_cell_character, is_cell, is_name, is_writable};
+ghost use Rattle.bp_load.specs.Dat.{dat_others_text, columns_in, dat_columns, dat_of, table_of, row_of_values, values_of_line, quoted_value, is_quoted, inside, is_inner, stands_for_itself, read_character, write_character, quoted, dat_values_text, dat_line_text, dat_text, is_cell_character, is_cell, is_name, is_writable};
 ghost use Rattle.bp_load.specs.Table.{is_even};
 
 use crate::fields::next_field;
@@ -152,7 +152,7 @@ fn read_table(alloc: Global, text: &str) -> Result<Dat, Refusal>
 fn read_rows(alloc: Global, text: &str, width: usize) -> Result<TextTable, Refusal>
     requires { length text.now + 1 < 2 ^ 32 }
     ensures { Answers (λ rows. rows) result
-        (each_line (row_of width) DatShape 2 (filled_lines text.now)) }
+        (each_line (row_of_values width) DatShape 2 (filled_lines text.now)) }
 {
     let mut rest = text;
     let mut rows = Vec::new(alloc);
@@ -168,7 +168,7 @@ fn read_rows(alloc: Global, text: &str, width: usize) -> Result<TextTable, Refus
 // The row of a line of that number.
 fn read_row(alloc: Global, line: &str, width: usize, number: u32) -> Result<TextList, Refusal>
     ensures { Answers (λ row. row) result
-        (ok_or (row_of width line.now) (rule_at_line DatShape number)) }
+        (ok_or (row_of_values width line.now) (rule_at_line DatShape number)) }
 {
     match read_values(alloc, line, width)? {
         Some(values) if values.len() == width => Ok(values),
@@ -178,7 +178,7 @@ fn read_row(alloc: Global, line: &str, width: usize, number: u32) -> Result<Text
 
 // The values of a line, with room for so many from the start.
 fn read_values(alloc: Global, line: &str, room: usize) -> Result<Option<TextList>, OutOfMemory>
-    ensures { IfOk result (λ found. found ≡ values_of line.now) }
+    ensures { IfOk result (λ found. found ≡ values_of_line line.now) }
 {
     let mut values = Vec::with_capacity(alloc, room)?;
     let mut rest = Some(line);

@@ -7,7 +7,7 @@ ghost use Rattle.bp_core.specs.Answers.{Answers};
 ghost use Rattle.bp_core.specs.Characters.{comma};
 ghost use Rattle.bp_core.specs.Rules.{rule_at_line};
 ghost use Rattle.bp_load.specs.Opt.{opt_of, opt_line_of, is_flag, is_page_count, are_of_form, page_of, has_count, is_field, is_field_character, is_opt_line, are_opt_lines, opt_line_text, opt_text, flag_text, has_texts};
-ghost use Rattle.bp_load.specs.OptFields.{fields_of, seven};
+ghost use Rattle.bp_load.specs.OptFields.{opt_fields, seven};
 
 use crate::fields::next_field;
 use crate::lines::{first_line, without_mark};
@@ -77,7 +77,7 @@ struct Fields<'a> {
 fn form_of(line: &[u8]) -> Option<Fields<'_>>
     ensures { MatchOption result
         (opt_line_of line.now ≡ None)
-        (λ fields. opt_line_of line.now ≡ Some (page_of (fields_of fields))) }
+        (λ fields. opt_line_of line.now ≡ Some (page_of (opt_fields fields))) }
 {
     let Ok(text) = str::from_utf8(line) else {
         return None;
@@ -100,7 +100,7 @@ fn split_fields(text: &str) -> Option<Fields<'_>>
     ensures { let fields = slice_split (λ c. c == comma) text.now in
         MatchOption result
         (has_count fields ≡ false)
-        (λ found. (has_count fields ≡ true) × (fields_of found ≡ seven fields)) }
+        (λ found. (has_count fields ≡ true) × (opt_fields found ≡ seven fields)) }
 {
     let (image, rest) = next_field(Some(text), ',');
     let (volume, rest) = next_field(rest, ',');
@@ -127,7 +127,7 @@ fn split_fields(text: &str) -> Option<Fields<'_>>
 }
 
 fn is_of_form(fields: &Fields) -> bool
-    ensures { result ≡ are_of_form (fields_of fields.now) }
+    ensures { result ≡ are_of_form (opt_fields fields.now) }
 {
     !fields.image.is_empty()
         && !fields.path.is_empty()
@@ -151,7 +151,7 @@ fn is_page_count(text: &[u8]) -> bool
 
 // The fields in memory of their own.
 fn page_of(alloc: Global, fields: &Fields) -> Result<OptLine, OutOfMemory>
-    ensures { IfOk result (λ page. page ≡ page_of (fields_of fields.now)) }
+    ensures { IfOk result (λ page. page ≡ page_of (opt_fields fields.now)) }
 {
     Ok(OptLine {
         image: text_of(alloc, fields.image)?,

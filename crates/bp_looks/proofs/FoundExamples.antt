@@ -12,8 +12,8 @@ use Rattle.bp_looks.specs.Covered.{is_covered}
 use Rattle.bp_looks.specs.Finding.{find}
 use Rattle.bp_core.specs.Rules.{bare_rule}
 use Rattle.bp_core.specs.declared.rules.RuleKind.TheVariants.{TermRefused}
-use Rattle.bp_looks.specs.Found.{Walk, doc_no, next_of, next_page_of, walk_within}
-use Rattle.bp_looks.specs.Parts.{Rows, parts_from}
+use Rattle.bp_looks.specs.Found.{Walk, as_doc_no, next_doc_of, next_page_of, walk_within}
+use Rattle.bp_looks.specs.Parts.{PartRows, parts_from}
 use Rattle.bp_looks.specs.Refusing.{no_document, no_page}
 use Rattle.bp_looks.specs.Terms.{are_terms, is_term}
 use Rattle.bp_looks.specs.declared.found.TheConstants.{ENOUGH_HITS, MAX_PARTS}
@@ -69,10 +69,10 @@ word_at left text =
 -- a matter of two documents of one page; the first has the values `For Counsel` and none
 abbrev doc_row : ℕ → List (List ℕ) → DocRow
 doc_row n values =
-    record { doc = doc_no n; parent = doc_no n; pages = 1; batch = 1; id = codes "A"; values = values }
+    record { doc = as_doc_no n; parent = as_doc_no n; pages = 1; batch = 1; id = codes "A"; values = values }
 
 abbrev words_row : ℕ → List Word → PageWords
-words_row n words = record { doc = doc_no n; page = record { 0 = 1 }; words = words }
+words_row n words = record { doc = as_doc_no n; page = record { 0 = 1 }; words = words }
 
 abbrev matter : Matter
 matter = record {
@@ -96,9 +96,9 @@ counsel = codes "counsel" ∷ []
 
 -- a field's second piece, a page's second word, and the first word of the next document
 in_matter : find matter counsel 1 0 ≡ Ok (record {
-  hits = record { doc = doc_no 1; page = 0; field = 1; place = 2; count = 1 }
-      ∷ record { doc = doc_no 1; page = 1; field = 0; place = 2; count = 1 }
-      ∷ record { doc = doc_no 2; page = 1; field = 0; place = 1; count = 1 } ∷ [];
+  hits = record { doc = as_doc_no 1; page = 0; field = 1; place = 2; count = 1 }
+      ∷ record { doc = as_doc_no 1; page = 1; field = 0; place = 2; count = 1 }
+      ∷ record { doc = as_doc_no 2; page = 1; field = 0; place = 1; count = 1 } ∷ [];
   next = 0;
   next_page = 0;
 })
@@ -107,7 +107,7 @@ in_matter = refl
 
 -- from the page of the last document on
 from_there : find matter counsel 2 1 ≡ Ok (record {
-  hits = record { doc = doc_no 2; page = 1; field = 0; place = 1; count = 1 } ∷ [];
+  hits = record { doc = as_doc_no 2; page = 1; field = 0; place = 1; count = 1 } ∷ [];
   next = 0;
   next_page = 0;
 })
@@ -134,7 +134,7 @@ abbrev any : List (List ℕ)
 any = (42 ∷ []) ∷ []
 
 -- a page of one word
-abbrev page : Rows
+abbrev page : PartRows
 page = ([] ∷ []) ∷ []
 
 -- 12 documents of no values and one page, of which 10 parts are taken: 5 documents
@@ -144,7 +144,7 @@ many = walk_within 10 10 any [] 0 (parts_from (replicate 12 ([] ∷ page ∷ [])
 many_hits : length many.hits ≡ 5
 many_hits = refl
 
-many_next : next_of many.rest ≡ 6
+many_next : next_doc_of many.rest ≡ 6
 many_next = refl
 
 many_next_page : next_page_of many.rest ≡ 0
@@ -157,7 +157,7 @@ long = walk_within 10 10 any [] 0 (parts_from (([] ∷ replicate 15 page) ∷ []
 long_hits : length long.hits ≡ 9
 long_hits = refl
 
-long_next : next_of long.rest ≡ 1
+long_next : next_doc_of long.rest ≡ 1
 long_next = refl
 
 long_next_page : next_page_of long.rest ≡ 10

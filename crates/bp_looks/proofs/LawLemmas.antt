@@ -5,9 +5,9 @@ use Rattle.std.proofs.Math.Dec.{eqb-suc-zero}
 use Rattle.std.proofs.lemmas.List.{drop-drop, nil_from_length}
 use Rattle.bp_matter.specs.declared.looks.Hit.{Hit}
 use Rattle.bp_looks.specs.declared.found.TheConstants.{MAX_PARTS, ENOUGH_HITS}
-use Rattle.bp_looks.specs.Found.{hits_in, walk, next_of, next_page_of}
+use Rattle.bp_looks.specs.Found.{hits_in, walk, next_doc_of, next_page_of}
 use Rattle.bp_looks.specs.Going.{all_hits, going_on}
-use Rattle.bp_looks.specs.Parts.{Part, Rows, parts_of, parts_in, parts_from}
+use Rattle.bp_looks.specs.Parts.{Part, PartRows, parts_of, parts_in, parts_from}
 
 abbrev Words : Type 0
 Words = List (List ℕ)
@@ -41,12 +41,12 @@ walk-left terms hits taken (part ∷ more) =
     ]
 
 -- no parts, or the parts from where the first of them says, in documents numbered from `doc` on
-abbrev pub IsPlaced : ℕ → List (List Rows) → List Part → Type 0
+abbrev pub IsPlaced : ℕ → List (List PartRows) → List Part → Type 0
 IsPlaced doc docs rest =
     (rest ≡ [])
-    ⊎ ((k : ℕ) × (next_of rest ≡ doc + k) × (rest ≡ parts_in (doc + k) (next_page_of rest) (drop k docs)))
+    ⊎ ((k : ℕ) × (next_doc_of rest ≡ doc + k) × (rest ≡ parts_in (doc + k) (next_page_of rest) (drop k docs)))
 
-later : (doc : ℕ) (parts : List Rows) (docs : List (List Rows)) (rest : List Part)
+later : (doc : ℕ) (parts : List PartRows) (docs : List (List PartRows)) (rest : List Part)
     → IsPlaced (doc + 1) docs rest
     → IsPlaced doc (parts ∷ docs) rest
 later doc parts docs rest (inl none) = inl none
@@ -54,7 +54,7 @@ later doc parts docs rest (inr w) =
     let n : doc + 1 + w.0 ≡ doc + suc w.0 = omega arith in
     inr (suc w.0, w.1 ∙ n, w.2 ∙ ap (λ (m : ℕ). parts_in m (next_page_of rest) (drop w.0 docs)) n)
 
-beyond : (doc k : ℕ) (docs : List (List Rows)) (rest : List Part)
+beyond : (doc k : ℕ) (docs : List (List PartRows)) (rest : List Part)
     → IsPlaced (doc + k) (drop k docs) rest
     → IsPlaced doc docs rest
 beyond doc k docs rest (inl none) = inl none
@@ -65,11 +65,11 @@ beyond doc k docs rest (inr w) =
       w.1 ∙ n,
       w.2
           ∙ (ap (λ (m : ℕ). parts_in m (next_page_of rest) (drop w.0 (drop k docs))) n
-          ∙ ap (λ (l : List (List Rows)). parts_in (doc + (k + w.0)) (next_page_of rest) l) (drop-drop w.0 k docs)),
+          ∙ ap (λ (l : List (List PartRows)). parts_in (doc + (k + w.0)) (next_page_of rest) l) (drop-drop w.0 k docs)),
     )
 
 -- all parts of these documents
-placed-first : (docs : List (List Rows)) (doc : ℕ) → IsPlaced doc docs (parts_in doc 0 docs)
+placed-first : (docs : List (List PartRows)) (doc : ℕ) → IsPlaced doc docs (parts_in doc 0 docs)
 placed-first [] doc = inl refl
 placed-first ([] ∷ docs) doc = later doc [] docs (parts_in (doc + 1) 0 docs) (placed-first docs (doc + 1))
 placed-first ((words ∷ parts) ∷ docs) doc =
@@ -77,7 +77,7 @@ placed-first ((words ∷ parts) ∷ docs) doc =
     inr (0, n, ap (λ (m : ℕ). parts_in m 0 ((words ∷ parts) ∷ docs)) n)
 
 -- what follows the first part, of which `left` are in its document
-placed_next : (parts : List Rows) (docs : List (List Rows)) (doc page : ℕ) (words : Rows) (left : List Rows)
+placed_next : (parts : List PartRows) (docs : List (List PartRows)) (doc page : ℕ) (words : PartRows) (left : List PartRows)
     → drop page parts ≡ words ∷ left
     → IsPlaced doc (parts ∷ docs) (parts_of doc (page + 1) left ++ parts_in (doc + 1) 0 docs)
 placed_next parts docs doc page words [] at =
@@ -85,15 +85,15 @@ placed_next parts docs doc page words [] at =
 placed_next parts docs doc page words (next ∷ left) at =
     let n : doc ≡ doc + 0 = omega arith in
     let here : next ∷ left ≡ drop (page + 1) parts =
-    sym (ap (λ (l : List Rows). drop 1 l) at) ∙ drop-drop 1 page parts in
+    sym (ap (λ (l : List PartRows). drop 1 l) at) ∙ drop-drop 1 page parts in
     inr (
       0,
       n,
-      ap (λ (l : List Rows). parts_of doc (page + 1) l ++ parts_in (doc + 1) 0 docs) here
+      ap (λ (l : List PartRows). parts_of doc (page + 1) l ++ parts_in (doc + 1) 0 docs) here
           ∙ ap (λ (m : ℕ). parts_in m (page + 1) (parts ∷ docs)) n,
     )
 
-tail_in : (parts : List Rows) (docs : List (List Rows)) (doc page : ℕ) (part : Part) (rest : List Part) (left : List Rows)
+tail_in : (parts : List PartRows) (docs : List (List PartRows)) (doc page : ℕ) (part : Part) (rest : List Part) (left : List PartRows)
     → drop page parts ≡ left
     → parts_of doc page left ++ parts_in (doc + 1) 0 docs ≡ part ∷ rest
     → (parts_in (doc + 1) 0 docs ≡ part ∷ rest → IsPlaced (doc + 1) docs rest)
@@ -104,14 +104,14 @@ tail_in parts docs doc page part rest (words ∷ left) at e go =
     subst (λ (l : List Part). IsPlaced doc (parts ∷ docs) l) same (placed_next parts docs doc page words left at)
 
 -- what follows the first part
-placed-tail : (docs : List (List Rows)) (doc page : ℕ) (part : Part) (rest : List Part)
+placed-tail : (docs : List (List PartRows)) (doc page : ℕ) (part : Part) (rest : List Part)
     → parts_in doc page docs ≡ part ∷ rest
     → IsPlaced doc docs rest
 placed-tail [] doc page part rest e = absurd (cc)
 placed-tail (parts ∷ docs) doc page part rest e =
     tail_in parts docs doc page part rest (drop page parts) refl e (λ f. placed-tail docs (doc + 1) 0 part rest f)
 
-placed-more : (docs : List (List Rows)) (doc : ℕ) (part : Part) (rest : List Part)
+placed-more : (docs : List (List PartRows)) (doc : ℕ) (part : Part) (rest : List Part)
     → IsPlaced doc docs (part ∷ rest)
     → IsPlaced doc docs rest
 placed-more docs doc part rest (inl none) = absurd (cc)
@@ -119,7 +119,7 @@ placed-more docs doc part rest (inr w) =
     beyond doc w.0 docs rest (placed-tail (drop w.0 docs) (doc + w.0) part.page part rest (sym w.2))
 
 -- what a walk leaves
-pub placed-walk : (docs : List (List Rows)) (doc : ℕ) (terms : Words) (hits : List Hit) (taken : ℕ) (parts : List Part)
+pub placed-walk : (docs : List (List PartRows)) (doc : ℕ) (terms : Words) (hits : List Hit) (taken : ℕ) (parts : List Part)
     → IsPlaced doc docs parts
     → IsPlaced doc docs (walk terms hits taken parts).rest
 placed-walk docs doc terms hits taken [] h = inl refl
@@ -131,7 +131,7 @@ placed-walk docs doc terms hits taken (part ∷ more) h =
       | false ↦ h
     ]
 
-start_in : (parts : List Rows) (docs : List (List Rows)) (doc page : ℕ) (left : List Rows)
+start_in : (parts : List PartRows) (docs : List (List PartRows)) (doc page : ℕ) (left : List PartRows)
     → drop page parts ≡ left
     → IsPlaced doc (parts ∷ docs) (parts_of doc page left ++ parts_in (doc + 1) 0 docs)
 start_in parts docs doc page [] at =
@@ -141,11 +141,11 @@ start_in parts docs doc page (words ∷ left) at =
     inr (
       0,
       n,
-      ap (λ (l : List Rows). parts_of doc page l ++ parts_in (doc + 1) 0 docs) (sym at)
+      ap (λ (l : List PartRows). parts_of doc page l ++ parts_in (doc + 1) 0 docs) (sym at)
           ∙ ap (λ (m : ℕ). parts_in m page (parts ∷ docs)) n,
     )
 
-pub placed-start : (docs : List (List Rows)) (doc page : ℕ) → IsPlaced doc docs (parts_in doc page docs)
+pub placed-start : (docs : List (List PartRows)) (doc page : ℕ) → IsPlaced doc docs (parts_in doc page docs)
 placed-start [] doc page = inl refl
 placed-start (parts ∷ docs) doc page = start_in parts docs doc page (drop page parts) refl
 
@@ -172,13 +172,13 @@ fewer terms (part ∷ more) n h =
     omega (arith, taken)
 
 -- the hits of what is left, where going on gives them
-rest_of : (n : ℕ) (docs : List (List Rows)) (terms : Words) (doc : ℕ) (rest : List Part)
+rest_of : (n : ℕ) (docs : List (List PartRows)) (terms : Words) (doc : ℕ) (rest : List Part)
     → 0 < doc
     → IsPlaced doc (drop (doc - 1) docs) rest
-    → (0 < next_of rest
-    → rest ≡ parts_from docs (next_of rest) (next_page_of rest)
-    → going_on n docs terms (next_of rest) (next_page_of rest) ≡ all_hits terms rest)
-    → (if next_of rest == 0 then [] else going_on n docs terms (next_of rest) (next_page_of rest))
+    → (0 < next_doc_of rest
+    → rest ≡ parts_from docs (next_doc_of rest) (next_page_of rest)
+    → going_on n docs terms (next_doc_of rest) (next_page_of rest) ≡ all_hits terms rest)
+    → (if next_doc_of rest == 0 then [] else going_on n docs terms (next_doc_of rest) (next_page_of rest))
     ≡ all_hits terms rest
 rest_of n docs terms doc [] pos placed go = refl
 rest_of n docs terms doc (part ∷ rest) pos (inl none) go = absurd (cc)
@@ -189,12 +189,12 @@ rest_of n docs terms doc (part ∷ rest) pos (inr w) go =
     let place : doc - 1 + w.0 ≡ part.doc - 1 = omega arith in
     let same : part ∷ rest ≡ parts_from docs part.doc part.page =
     w.2
-    ∙ (ap (λ (l : List (List Rows)). parts_in (doc + w.0) part.page l)
+    ∙ (ap (λ (l : List (List PartRows)). parts_in (doc + w.0) part.page l)
     (drop-drop w.0 (doc - 1) docs ∙ ap (λ (m : ℕ). drop m docs) place)
     ∙ ap (λ (m : ℕ). parts_in m part.page (drop (part.doc - 1) docs)) (sym at)) in
     ap (λ (b : Bool). if b then [] else going_on n docs terms part.doc part.page) test ∙ go above same
 
-pub going_on-hits : (n : ℕ) (docs : List (List Rows)) (terms : Words) (doc page : ℕ)
+pub going_on-hits : (n : ℕ) (docs : List (List PartRows)) (terms : Words) (doc page : ℕ)
     → 0 < doc
     → length (parts_from docs doc page) ≤ n
     → going_on n docs terms doc page ≡ all_hits terms (parts_from docs doc page)
@@ -208,7 +208,7 @@ going_on-hits (suc n) docs terms doc page pos h =
     let left : length rest ≤ n = fewer terms parts n h in
     ap (λ (l : List Hit). (walk terms [] 0 parts).hits ++ l)
     (rest_of n docs terms doc rest pos placed (λ above same.
-    going_on-hits n docs terms (next_of rest) (next_page_of rest) above
+    going_on-hits n docs terms (next_doc_of rest) (next_page_of rest) above
     (subst (λ (l : List Part). length l ≤ n) same left)
     ∙ ap (λ (l : List Part). all_hits terms l) (sym same)))
     ∙ walk-hits terms [] 0 parts

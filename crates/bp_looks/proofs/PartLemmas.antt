@@ -15,23 +15,23 @@ use Rattle.bp_matter.specs.Written.{are_few, doc_written, is_short, is_word, wor
 use Rattle.bp_matter.specs.declared.rows.DocRow.{DocRow}
 use Rattle.bp_matter.specs.declared.rows.PageWords.{PageWords}
 use Rattle.bp_matter.proofs.NumberedLemmas.{numbered-before}
-use Rattle.bp_looks.specs.Finding.{pages_of}
+use Rattle.bp_looks.specs.Finding.{page_count_of}
 use Rattle.bp_looks.specs.Terms.{are_terms, is_term}
 use Rattle.bp_looks.specs.declared.terms.TheConstants.{MAX_TERMS}
-use Rattle.bp_looks.specs.Parts.{Rows, document_rows, documents_of, page_rows, rows_in}
+use Rattle.bp_looks.specs.Parts.{PartRows, document_rows, documents_of, page_rows, rows_of_parts}
 
 -- a page of a document is a part of it
 pub rows-page : (m : Matter) (row : DocRow) (doc page : ℕ)
     → 0 < page
     → page ≤ row.pages
-    → get_or (rows_in m doc (Some row)) page [] ≡ page_rows m doc page
+    → get_or (rows_of_parts m doc (Some row)) page [] ≡ page_rows m doc page
 rows-page m row doc zero above few = absurd (omega arith)
 rows-page m row doc (suc k) above few =
     get_or-map-range_with_len (page_rows m doc) 1 row.pages k (suc k) [] (omega arith) (omega arith)
 
 -- a part for each page, and one for the values
 pub length-rows : (m : Matter) (row : DocRow) (doc : ℕ)
-    → length (rows_in m doc (Some row)) ≡ row.pages + 1
+    → length (rows_of_parts m doc (Some row)) ≡ row.pages + 1
 length-rows m row doc =
     let pages = length-map-range_with_len (page_rows m doc) 1 row.pages in omega (arith, pages)
 
@@ -43,7 +43,7 @@ pub documents-more : (m : Matter) (before : ℕ)
 documents-more m before lt =
     let many = length-map-range_with_len (document_rows m) 1 (length m.docs) in
     drop_more (documents_of m) before [] (omega (arith, many))
-    ∙ ap (λ (rows : List Rows). rows ∷ drop (before + 1) (documents_of m))
+    ∙ ap (λ (rows : List PartRows). rows ∷ drop (before + 1) (documents_of m))
     (get_or-map-range_with_len (document_rows m) 1 (length m.docs) before (before + 1) [] lt (omega arith))
 
 -- what is found passes any test of all rows
@@ -104,7 +104,7 @@ value-few values i value all lt is =
 -- no document has the number 0
 pub doc-first : (m : Matter) (doc pages : ℕ)
     → IsValid m
-    → pages_of m doc ≡ Some pages
+    → page_count_of m doc ≡ Some pages
     → 1 ≤ doc
 doc-first m zero pages valid is =
     let none = numbered-before doc_key 0 m.docs valid.docs.numbered refl in

@@ -6,7 +6,7 @@ use Rattle.std.specs.Str.{chars}
 use Rattle.std.proofs.lemmas.List.{drop_more, drop-map, drop_all}
 use denote.Ref.{Bor}
 use Rattle.bp_looks.specs.declared.hits.Spot.{Spot}
-use Rattle.bp_looks.specs.Hits.{text_of, texts_of, term_of, terms_of, has_hit, hit_at, hits_after}
+use Rattle.bp_looks.specs.Hits.{lent_text, lent_texts, term_of, terms_of, has_hit, hit_at, hits_after}
 use Rattle.bp_looks.specs.Matching.{matches}
 
 -- what is left of a list of views begins with the view of the next element
@@ -44,14 +44,14 @@ pub has_hit-next : (terms : List (Vec ℕ)) (texts : List (Bor (List ℕ))) (i :
     → term ≡ get_or terms i term
     → i < length texts
     → text ≡ get_or texts i text
-    → has_hit (drop i (terms_of terms)) (drop i (texts_of texts))
-    ≡ matches (term_of term) (text_of text)
-    && has_hit (drop (i + 1) (terms_of terms)) (drop (i + 1) (texts_of texts))
+    → has_hit (drop i (terms_of terms)) (drop i (lent_texts texts))
+    ≡ matches (term_of term) (lent_text text)
+    && has_hit (drop (i + 1) (terms_of terms)) (drop (i + 1) (lent_texts texts))
 has_hit-next terms texts i term text few is within is' =
-    has_hit-step (drop i (terms_of terms)) (drop i (texts_of texts))
-    (drop (i + 1) (terms_of terms)) (drop (i + 1) (texts_of texts)) (term_of term) (text_of text)
+    has_hit-step (drop i (terms_of terms)) (drop i (lent_texts texts))
+    (drop (i + 1) (terms_of terms)) (drop (i + 1) (lent_texts texts)) (term_of term) (lent_text text)
     (drop_map_more term_of terms i term few is)
-    (drop_map_more text_of texts i text within is')
+    (drop_map_more lent_text texts i text within is')
 
 pub hits_after-step : (terms : List (List ℕ)) (spot : Spot) (before : ℕ) (ws : List (List ℕ))
     → 0 < length ws
@@ -63,6 +63,6 @@ hits_after-step terms spot before (w ∷ ws) h = refl
 
 -- the characters of texts that are lent
 pub texts-now : (texts : List (Bor (List ℕ)))
-    → texts_of texts ≡ map chars (map (λ text. text.now) texts)
+    → lent_texts texts ≡ map chars (map (λ text. text.now) texts)
 texts-now [] = refl
 texts-now (text ∷ texts) = ap (λ (l : List (List ℕ)). chars text.now ∷ l) (texts-now texts)

@@ -4,8 +4,8 @@ use Rattle.std.specs.Prelude.{◌&&◌, ◌||◌, if◌then◌else◌, nat_le, n
 use Rattle.std.proofs.lemmas.Bool.{and_right, le-ltb, leb-false, leb-true, lt-ltb, or_cases, or_parts}
 use Rattle.bp_matter.specs.declared.looks.Hit.{Hit}
 use Rattle.bp_looks.specs.declared.found.TheConstants.{ENOUGH_HITS, MAX_PARTS}
-use Rattle.bp_looks.specs.Found.{hits_in, told, walk}
-use Rattle.bp_looks.specs.Parts.{Part, Rows, parts_of, parts_in}
+use Rattle.bp_looks.specs.Found.{hits_in, told_so_far, walk}
+use Rattle.bp_looks.specs.Parts.{Part, PartRows, parts_of, parts_in}
 
 walk_on : (terms : List (List ℕ)) (hits : List Hit) (taken : ℕ) (part : Part) (more : List Part)
     → taken < MAX_PARTS
@@ -60,24 +60,24 @@ walk-full terms hits taken (part ∷ more) full =
     ]
 
 -- the parts of a document from the one at `page` on
-pub parts-step : (doc page : ℕ) (parts : List Rows) (rows : Rows)
+pub parts-step : (doc page : ℕ) (parts : List PartRows) (rows : PartRows)
     → drop page parts ≡ rows ∷ drop (page + 1) parts
     → parts_of doc page (drop page parts)
     ≡ record { doc = doc; page = page; rows = rows } ∷ parts_of doc (page + 1) (drop (page + 1) parts)
-parts-step doc page parts rows e = ap (λ (l : List Rows). parts_of doc page l) e
+parts-step doc page parts rows e = ap (λ (l : List PartRows). parts_of doc page l) e
 
 -- the parts of the documents from the one after `i` others on
-pub documents-step : (doc page i : ℕ) (docs : List (List Rows)) (parts : List Rows)
+pub documents-step : (doc page i : ℕ) (docs : List (List PartRows)) (parts : List PartRows)
     → drop i docs ≡ parts ∷ drop (i + 1) docs
     → parts_in doc page (drop i docs)
     ≡ parts_of doc page (drop page parts) ++ parts_in (doc + 1) 0 (drop (i + 1) docs)
 documents-step doc page i docs parts e =
-    ap (λ (l : List (List Rows)). parts_in doc page l) e
+    ap (λ (l : List (List PartRows)). parts_in doc page l) e
 
 -- a search that stops says at which part
-pub told-stopped : (hits : List Hit) (doc page : ℕ) (parts : List Rows) (more : List Part)
+pub told-stopped : (hits : List Hit) (doc page : ℕ) (parts : List PartRows) (more : List Part)
     → 0 < length parts
-    → told (record { hits = hits; rest = parts_of doc page parts ++ more })
+    → told_so_far (record { hits = hits; rest = parts_of doc page parts ++ more })
     ≡ record { hits = hits; next = doc; next_page = page }
 told-stopped hits doc page [] more h = absurd (omega arith)
 told-stopped hits doc page (rows ∷ parts) more h = refl

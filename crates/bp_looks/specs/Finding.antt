@@ -11,8 +11,8 @@ use Rattle.bp_looks.specs.Refusing.{no_document, no_page}
 use Rattle.bp_looks.specs.Terms.{are_terms}
 
 -- how many pages the document of a number has, if there is one
-abbrev pub pages_of : Matter → ℕ → Option ℕ
-pages_of m doc = of_row (λ row. row.pages) (doc_with doc m)
+abbrev pub page_count_of : Matter → ℕ → Option ℕ
+page_count_of m doc = of_row (λ row. row.pages) (doc_with doc m)
 
 -- from a part on of a document of so many pages, if there is one
 abbrev pub find_from : Matter → List (List ℕ) → ℕ → ℕ → Option ℕ → Result Found Rule
@@ -24,4 +24,4 @@ find_from m terms from page (Some pages) =
 abbrev pub find : Matter → List (List ℕ) → ℕ → ℕ → Result Found Rule
 find m terms from page =
     if not (are_terms terms) then Err (bare_rule TermRefused)
-    else find_from m terms from page (pages_of m from)
+    else find_from m terms from page (page_count_of m from)

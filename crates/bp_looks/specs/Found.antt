@@ -3,20 +3,20 @@ use Rattle.std.specs.Prelude.{ℕ, ◌+◌, nat_lt, ◌&&◌, ◌==◌, if◌the
 use Rattle.bp_core.specs.declared.numbers.DocNo.{DocNo}
 use Rattle.bp_matter.specs.Matter.{Matter}
 use Rattle.bp_looks.specs.Hits.{hits_of_rows}
-use Rattle.bp_looks.specs.Parts.{Part, Rows, documents_of, parts_from}
+use Rattle.bp_looks.specs.Parts.{Part, PartRows, documents_of, parts_from}
 use Rattle.bp_matter.specs.declared.looks.Found.{Found}
 use Rattle.bp_looks.specs.declared.found.TheConstants.{ENOUGH_HITS, MAX_PARTS}
 use Rattle.bp_matter.specs.declared.looks.Hit.{Hit}
 use Rattle.bp_looks.specs.declared.hits.Spot.{Spot}
 
 -- a number as that of a document
-abbrev pub doc_no : ℕ → DocNo
-doc_no n = record { 0 = n }
+abbrev pub as_doc_no : ℕ → DocNo
+as_doc_no n = record { 0 = n }
 
 -- where the first row of a part stands: on its page, with field 0, or in field 1, with page 0
 abbrev pub spot_of : ℕ → ℕ → Spot
 spot_of doc page =
-    record { doc = doc_no doc; page = page; field = (if page == 0 then 1 else 0) }
+    record { doc = as_doc_no doc; page = page; field = (if page == 0 then 1 else 0) }
 
 -- the hits of a part
 abbrev pub hits_in : List (List ℕ) → Part → List Hit
@@ -41,9 +41,9 @@ abbrev pub walk : List (List ℕ) → List Hit → ℕ → List Part → Walk
 walk terms hits taken parts = walk_within MAX_PARTS ENOUGH_HITS terms hits taken parts
 
 -- the document of the first part, or 0
-abbrev pub next_of : List Part → ℕ
-next_of [] = 0
-next_of (part ∷ more) = part.doc
+abbrev pub next_doc_of : List Part → ℕ
+next_doc_of [] = 0
+next_doc_of (part ∷ more) = part.doc
 
 -- its number in the document, or 0
 abbrev pub next_page_of : List Part → ℕ
@@ -51,17 +51,17 @@ next_page_of [] = 0
 next_page_of (part ∷ more) = part.page
 
 -- what a search tells that came so far
-abbrev pub told : Walk → Found
-told walked =
+abbrev pub told_so_far : Walk → Found
+told_so_far walked =
     record {
       hits = walked.hits;
-      next = next_of walked.rest;
+      next = next_doc_of walked.rest;
       next_page = next_page_of walked.rest;
     }
 
 -- a search from a part of a document on
-abbrev pub found_from : List (List Rows) → List (List ℕ) → ℕ → ℕ → Found
-found_from docs terms doc page = told (walk terms [] 0 (parts_from docs doc page))
+abbrev pub found_from : List (List PartRows) → List (List ℕ) → ℕ → ℕ → Found
+found_from docs terms doc page = told_so_far (walk terms [] 0 (parts_from docs doc page))
 
 -- in the documents of a matter
 abbrev pub found_of : Matter → List (List ℕ) → ℕ → ℕ → Found

@@ -13,12 +13,12 @@ abbrev pub word_text : Word → List ℕ
 word_text word = word.text
 
 -- the characters of a text that is lent
-abbrev pub text_of : Bor (List ℕ) → List ℕ
-text_of text = chars text.now
+abbrev pub lent_text : Bor (List ℕ) → List ℕ
+lent_text text = chars text.now
 
 -- of each text
-abbrev pub texts_of : List (Bor (List ℕ)) → List (List ℕ)
-texts_of texts = map text_of texts
+abbrev pub lent_texts : List (Bor (List ℕ)) → List (List ℕ)
+lent_texts texts = map lent_text texts
 
 -- the characters of a term
 abbrev pub term_of : Vec ℕ → List ℕ

@@ -23,8 +23,8 @@ abbrev pub id_among : List ProductionRow → ℕ → Option (List ℕ)
 id_among productions doc = of_row production_id (find (has_item_of doc) productions)
 
 -- the id of the production in which a document stands, if it stands in one
-abbrev pub production_of : Matter → ℕ → Option (List ℕ)
-production_of m doc = id_among m.productions doc
+abbrev pub produced_in : Matter → ℕ → Option (List ℕ)
+produced_in m doc = id_among m.productions doc
 
 -- ---- ids that were put at documents
 
@@ -40,4 +40,4 @@ id_if false id = None
 -- for so many documents, from one on, the id of the production in which each stands
 pub record AreIds (m : Matter) (from count : ℕ) (ids : List (Option (Bor (List ℕ)))) : Type 0 where
   pub many : length ids ≡ count
-  pub tell : (k : ℕ) → k < count → id_at ids k ≡ production_of m (from + k)
+  pub tell : (k : ℕ) → k < count → id_at ids k ≡ produced_in m (from + k)

@@ -6,7 +6,7 @@ use Rattle.bp_matter.specs.LookUps.{call_with, called_state}
 use Rattle.bp_matter.specs.Matter.{Matter}
 use Rattle.bp_matter.specs.ValidRows.{names}
 use Rattle.bp_matter.specs.declared.rows.DocRow.{DocRow}
-use Rattle.bp_looks.specs.Produced.{production_of}
+use Rattle.bp_looks.specs.Produced.{produced_in}
 use Rattle.bp_looks.specs.Refusing.{no_document}
 use Rattle.bp_looks.specs.Shown.{shown_designation, shown_responsive, shown_treatment}
 use Rattle.bp_matter.specs.declared.looks.StateRow.{StateRow}
@@ -28,7 +28,7 @@ state_row m row =
       boxes = length (boxes_on doc m.boxes);
       held = length (held_on doc m.held);
       entry = is_entered doc m.entries;
-      production = production_of m doc;
+      production = produced_in m doc;
     }
 
 -- the documents from one on, at most so many: they are numbered from 1

@@ -10,7 +10,7 @@ ComesPast terms hits taken parts hits' taken' =
     (more : List Part) → walk terms hits taken (parts ++ more) ≡ walk terms hits' taken' more
 
 -- a search stops among these parts, and doesn't take the rest
-abbrev pub StopsAt : List (List ℕ) → List Hit → ℕ → List Part → List Hit → List Part → Type 0
-StopsAt terms hits taken parts hits' rest =
+abbrev pub SearchStopsAt : List (List ℕ) → List Hit → ℕ → List Part → List Hit → List Part → Type 0
+SearchStopsAt terms hits taken parts hits' rest =
     (more : List Part)
     → walk terms hits taken (parts ++ more) ≡ record { hits = hits'; rest = rest ++ more }

@@ -8,7 +8,7 @@ ghost use Rattle.bp_looks.specs.Found.{found_of, hits_in, spot_of};
 ghost use Rattle.bp_looks.specs.Hits.{hits_of_rows, terms_of};
 ghost use Rattle.bp_looks.specs.Parts.{document_rows, page_rows, page_words, part_at, parts_of};
 ghost use Rattle.bp_looks.specs.Pieces.{pieces_of};
-ghost use Rattle.bp_looks.specs.Walking.{ComesPast, StopsAt};
+ghost use Rattle.bp_looks.specs.Walking.{ComesPast, SearchStopsAt};
 
 use crate::hits::{Spot, add_value_hits, add_word_hits};
 use crate::no_such::{no_document, no_page};
@@ -114,7 +114,7 @@ impl Progress {
             (parts_of doc.0 first (drop first (document_rows tables.now.matter doc.0)))
             self.new.hits.items self.new.taken)) }
         ensures stopped { IfOk result (λ stop. IfSome stop (λ page.
-            StopsAt (terms_of terms.now) self.old.hits.items self.old.taken
+            SearchStopsAt (terms_of terms.now) self.old.hits.items self.old.taken
             (parts_of doc.0 first (drop first (document_rows tables.now.matter doc.0)))
             self.new.hits.items
             (parts_of doc.0 page (drop page (document_rows tables.now.matter doc.0))))) }

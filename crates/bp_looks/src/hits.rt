@@ -1,6 +1,6 @@
 // Where terms match texts in turn.
 ghost use Rattle.std.specs.Prelude.{◌≡◌, ◌<◌, ◌^◌, ◌++◌, OnOk, IfOk, length, map};
-ghost use Rattle.bp_looks.specs.Hits.{texts_of, terms_of, has_hit, hit_at, hits_of, word_text};
+ghost use Rattle.bp_looks.specs.Hits.{lent_texts, terms_of, has_hit, hit_at, hits_of, word_text};
 ghost use Rattle.bp_looks.specs.Pieces.{pieces_of};
 
 use crate::matching::matches;
@@ -54,7 +54,7 @@ pub(crate) fn add_word_hits(
 
 // The texts of words, lent.
 fn word_texts(alloc: Global, words: &[Word]) -> Result<Vec<&str>, OutOfMemory>
-    ensures { IfOk result (λ texts. texts_of texts.items ≡ map word_text words.now) }
+    ensures { IfOk result (λ texts. lent_texts texts.items ≡ map word_text words.now) }
 {
     let mut texts = Vec::new(alloc);
     for word in words {
@@ -73,7 +73,7 @@ fn add_hits(
     requires terms { length terms.now < 2 ^ 32 }
     requires texts { length texts.now < 2 ^ 32 }
     ensures { OnOk result (hits.new.items
-        ≡ hits.old.items ++ hits_of (terms_of terms.now) spot (texts_of texts.now)) }
+        ≡ hits.old.items ++ hits_of (terms_of terms.now) spot (lent_texts texts.now)) }
 {
     for i in 0..texts.len() {
         if has_hit(terms, &texts[i..]) {
@@ -97,7 +97,7 @@ fn hit_at(spot: Spot, count: u32, place: u32) -> Hit
 
 // Whether the terms match the first texts, in turn.
 fn has_hit(terms: &[Vec<char>], texts: &[&str]) -> bool
-    ensures { result ≡ has_hit (terms_of terms.now) (texts_of texts.now) }
+    ensures { result ≡ has_hit (terms_of terms.now) (lent_texts texts.now) }
 {
     for i in 0..terms.len() {
         if i >= texts.len() {

@@ -1,6 +1,6 @@
 // The texts that a field's value is cut into.
 ghost use Rattle.std.specs.Prelude.{◌≡◌, IfOk, map};
-ghost use Rattle.bp_looks.specs.Hits.{texts_of};
+ghost use Rattle.bp_looks.specs.Hits.{lent_texts};
 ghost use Rattle.bp_looks.specs.Pieces.{pieces_of};
 
 use bp_core::{OutOfMemory, Text};
@@ -8,7 +8,7 @@ use std::alloc::{AllocError, Global};
 
 // The texts of a value, cut at every space, without empty ones.
 pub(crate) fn pieces(alloc: Global, value: &Text) -> Result<Vec<&str>, OutOfMemory>
-    ensures { IfOk result (λ pieces. texts_of pieces.items ≡ pieces_of value.now) }
+    ensures { IfOk result (λ pieces. lent_texts pieces.items ≡ pieces_of value.now) }
 {
     let pieces = cut(alloc, value.as_str())?;
     Ok(pieces)

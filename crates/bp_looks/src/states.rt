@@ -2,7 +2,7 @@
 ghost use Rattle.std.specs.Prelude.{◌≡◌, ◌≤◌, IfOk, length, take};
 ghost use Rattle.std.specs.Option.{option_copied};
 ghost use Rattle.bp_core.specs.Answers.{Answers};
-ghost use Rattle.bp_looks.specs.Produced.{production_of};
+ghost use Rattle.bp_looks.specs.Produced.{produced_in};
 ghost use Rattle.bp_looks.specs.States.{docs_from, see_states, state_row, states_of};
 
 use crate::copies::copy_if;
@@ -72,7 +72,7 @@ fn state_row(
     row: &DocRow,
     production: Option<&Text>,
 ) -> Result<StateRow, OutOfMemory>
-    requires { option_copied production ≡ production_of tables.now.matter row.now.doc.0 }
+    requires { option_copied production ≡ produced_in tables.now.matter row.now.doc.0 }
     ensures { IfOk result (λ state. state ≡ state_row tables.now.matter row.now) }
 {
     let call = tables.call_with(row.doc);

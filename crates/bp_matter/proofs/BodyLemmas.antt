@@ -14,10 +14,10 @@ use Rattle.bp_core.specs.declared.review.Treatment.{Treatment}
 use Rattle.bp_core.specs.declared.review.Treatment.TheVariants.{Produce, Redact, Withhold}
 use Rattle.bp_bates.specs.declared.prefixes.Prefix.{Prefix}
 use Rattle.bp_bates.specs.declared.spans.Span.{Span}
-use Rattle.bp_matter.specs.Fields.{byte, flag, flag_number, is_there, value_if, optional, treatment, treatment_number, state, state_number, editor_of, confirmer_of, role_number, basis, basis_number, ink_number, rect, span, prefix}
+use Rattle.bp_matter.specs.Fields.{byte, flag, flag_number, is_there, value_if, optional, treatment, treatment_number, state, state_number, editor_number, confirmer_number, role_number, basis, basis_number, ink_number, rect, span, prefix}
 use Rattle.bp_matter.specs.Written.{image_written, is_word, is_long, is_short, are_few, if_there, treatment_written, state_written, is_called, rect_written, span_written, entry_fields_written, box_row_written, held_row_written, word_written, item_written, request_written, span_of, same_span, staff_written, field_written, doc_written, page_written, call_written, box_written, held_written, entry_written, prefix_written, production_written, batch_written, words_written}
 use Rattle.bp_matter.specs.Bodies.{entry_part, box_rest, box_part, held_part, word_part, item_part, request_part, staff_body, field_body, doc_body, page_body, call_body, box_body, held_body, entry_body, prefix_body, production_body, batch_body, words_body, image_part}
-use Rattle.bp_matter.specs.Reading.{Read, ◌>>=◌, value_of, one_of, flag_of, treatment_of, state_of, state_at, role_of, basis_of, ink_of, rect_at, span_at, prefix_at, entry_fields_at, box_rest_at, box_part_at, held_part_at, word_part_at, item_at, request_at, value_there, optional_at, image_at, unit_of, staff_at, field_at, doc_at, page_at, call_at, box_at, held_at, entry_at, prefix_row_at, production_at, batch_at, words_at}
+use Rattle.bp_matter.specs.Reading.{Read, ◌>>=◌, value_of_byte, one_of, flag_of_byte, treatment_of_byte, state_of, state_at, role_of, basis_of, ink_of, rect_at, span_at, prefix_at, entry_fields_at, box_rest_at, box_part_at, held_part_at, word_part_at, item_at, request_at, value_there, optional_at, image_left, unit_of_byte, staff_at, field_at, doc_at, page_at, call_at, box_at, held_at, log_entry_at, prefix_row_at, production_at, batch_at, words_at}
 use Rattle.bp_matter.specs.declared.rows.State.{State}
 use Rattle.bp_matter.specs.declared.rows.State.TheVariants.{Uncalled, First, Confirmed}
 use Rattle.bp_matter.specs.declared.rows.StaffRow.{StaffRow}
@@ -57,10 +57,10 @@ reads_one b v e =
       | inr none ↦ absurd (let f = none.1 in cc)
     ]
 
-pub version_codec : Codec (λ (u : Unit {0}). Unit {0}) (λ u. byte 1) (value_of one_of)
+pub version_codec : Codec (λ (u : Unit {0}). Unit {0}) (λ u. byte 1) (value_of_byte one_of)
 version_codec = value_codec (λ u. Unit {0}) (λ u. 1) one_of (λ v p. refl) reads_one
 
-writes_flag : (v : Bool) → Unit {0} → flag_of (flag_number v) ≡ Some v
+writes_flag : (v : Bool) → Unit {0} → flag_of_byte (flag_number v) ≡ Some v
 writes_flag true p = refl
 writes_flag false p = refl
 
@@ -75,12 +75,12 @@ entry number b n x v others is rest e =
 none_left : {V : Type 0} (number : V → ℕ) (b : ℕ) (v : V) → None ≡ Some v → number v ≡ b
 none_left number b v e = absurd cc
 
-pub flag_codec : Codec (λ (b : Bool). Unit {0}) flag (value_of flag_of)
+pub flag_codec : Codec (λ (b : Bool). Unit {0}) flag (value_of_byte flag_of_byte)
 flag_codec =
-    value_codec (λ b. Unit {0}) flag_number flag_of writes_flag
+    value_codec (λ b. Unit {0}) flag_number flag_of_byte writes_flag
     (λ b v e. (tt, entry flag_number b 0 false v _ refl (entry flag_number b 1 true v None refl (none_left flag_number b v)) e))
 
-writes_treatment : (t : Treatment) → IsTrue (treatment_written t) → treatment_of (treatment_number t) ≡ Some t
+writes_treatment : (t : Treatment) → IsTrue (treatment_written t) → treatment_of_byte (treatment_number t) ≡ Some t
 writes_treatment Produce p = refl
 writes_treatment Redact p = refl
 writes_treatment (Withhold Ac) p = refl
@@ -88,14 +88,14 @@ writes_treatment (Withhold Wp) p = refl
 writes_treatment (Withhold Pi) p = absurd cc
 writes_treatment (Withhold Ts) p = absurd cc
 
-reads_treatment : (b : ℕ) (t : Treatment) → treatment_of b ≡ Some t → treatment_number t ≡ b
+reads_treatment : (b : ℕ) (t : Treatment) → treatment_of_byte b ≡ Some t → treatment_number t ≡ b
 reads_treatment b t e =
     entry treatment_number b 0 Produce t _ refl
     (entry treatment_number b 1 Redact t _ refl
     (entry treatment_number b 2 (Withhold Ac) t _ refl
     (entry treatment_number b 3 (Withhold Wp) t None refl (none_left treatment_number b t)))) e
 
-treatment_read : (b : ℕ) (t : Treatment) → treatment_of b ≡ Some t → IsTrue (treatment_written t)
+treatment_read : (b : ℕ) (t : Treatment) → treatment_of_byte b ≡ Some t → IsTrue (treatment_written t)
 treatment_read b Produce e = refl
 treatment_read b Redact e = refl
 treatment_read b (Withhold Ac) e = refl
@@ -103,9 +103,9 @@ treatment_read b (Withhold Wp) e = refl
 treatment_read b (Withhold Pi) e = absurd (let n = reads_treatment b (Withhold Pi) e in let f = rw (← n) at e in cc)
 treatment_read b (Withhold Ts) e = absurd (let n = reads_treatment b (Withhold Ts) e in let f = rw (← n) at e in cc)
 
-pub treatment_codec : Codec (λ t. IsTrue (treatment_written t)) treatment (value_of treatment_of)
+pub treatment_codec : Codec (λ t. IsTrue (treatment_written t)) treatment (value_of_byte treatment_of_byte)
 treatment_codec =
-    value_codec (λ t. IsTrue (treatment_written t)) treatment_number treatment_of writes_treatment (λ b t e. (treatment_read b t e, reads_treatment b t e))
+    value_codec (λ t. IsTrue (treatment_written t)) treatment_number treatment_of_byte writes_treatment (λ b t e. (treatment_read b t e, reads_treatment b t e))
 
 all_of : {a b : Bool} → a ≡ true → b ≡ true → (a && b) ≡ true
 all_of {a} {b} x y = and_from a b x y
@@ -113,40 +113,40 @@ all_of {a} {b} x y = and_from a b x y
 -- ---- the state
 
 state_reads : (n editor confirmer : ℕ) (s : State) → state_of n editor confirmer ≡ Some s → is_word editor ≡ true → is_word confirmer ≡ true
-    → IsTrue (state_written s) × (state_number s ≡ n) × (editor_of s ≡ editor) × (confirmer_of s ≡ confirmer)
+    → IsTrue (state_written s) × (state_number s ≡ n) × (editor_number s ≡ editor) × (confirmer_number s ≡ confirmer)
 state_reads n editor confirmer s e we wc =
     elim (chosen (eqb n 1 && eqb confirmer 0) (First (record { 0 = editor })) s _ e) [
       | inl first ↦
           let parts = and_parts (eqb n 1) (eqb confirmer 0) first.0 in
           let fact : IsTrue (state_written (First (record { 0 = editor }))) = rw we refl in
-          subst (λ (x : State). IsTrue (state_written x) × (state_number x ≡ n) × (editor_of x ≡ editor) × (confirmer_of x ≡ confirmer)) first.1
+          subst (λ (x : State). IsTrue (state_written x) × (state_number x ≡ n) × (editor_number x ≡ editor) × (confirmer_number x ≡ confirmer)) first.1
           (fact, sym (eqb-true n 1 parts.0), refl, sym (eqb-true confirmer 0 parts.1))
       | inr other ↦
           elim (chosen (eqb n 2 && not (eqb confirmer 0)) (Confirmed (record { 0 = editor }) (record { 0 = confirmer })) s None other.1) [
             | inl second ↦
                 let both = and_parts (eqb n 2) (not (eqb confirmer 0)) second.0 in
                 let fact : IsTrue (state_written (Confirmed (record { 0 = editor }) (record { 0 = confirmer }))) = rw (both.1, we, wc) refl in
-                subst (λ (x : State). IsTrue (state_written x) × (state_number x ≡ n) × (editor_of x ≡ editor) × (confirmer_of x ≡ confirmer)) second.1
+                subst (λ (x : State). IsTrue (state_written x) × (state_number x ≡ n) × (editor_number x ≡ editor) × (confirmer_number x ≡ confirmer)) second.1
                 (fact, sym (eqb-true n 2 both.0), refl, refl)
             | inr none ↦ absurd (let f = none.1 in cc)
           ]
     ]
 
-state_writes : (s : State) → IsTrue (state_written s) → state_of (state_number s) (editor_of s) (confirmer_of s) ≡ Some s
+state_writes : (s : State) → IsTrue (state_written s) → state_of (state_number s) (editor_number s) (confirmer_number s) ≡ Some s
 state_writes Uncalled p = absurd cc
 state_writes (First editor) p = refl
 state_writes (Confirmed editor confirmer) p = rw (and_parts (not (eqb confirmer.0 0)) _ p).0 refl
 
-state_words : (s : State) → IsTrue (state_written s) → IsTrue (is_word (editor_of s)) × IsTrue (is_word (confirmer_of s))
-state_words s p = and_parts (is_word (editor_of s)) (is_word (confirmer_of s)) (and_parts (is_called s) (is_word (editor_of s) && is_word (confirmer_of s)) p).1
+state_words : (s : State) → IsTrue (state_written s) → IsTrue (is_word (editor_number s)) × IsTrue (is_word (confirmer_number s))
+state_words s p = and_parts (is_word (editor_number s)) (is_word (confirmer_number s)) (and_parts (is_called s) (is_word (editor_number s) && is_word (confirmer_number s)) p).1
 
 pub state_codec : Codec (λ s. IsTrue (state_written s)) state state_at
 unfolding state_at
 state_codec =
     field byte_codec state_number (λ s p. tt) (λ n _.
-    field word_codec editor_of (λ s p. (state_words s p.0).0) (λ editor we.
-    last_of word_codec confirmer_of (λ confirmer. state_of n editor confirmer)
-    (λ s p. ((state_words s p.0.0).1, ap (λ (k : ℕ). state_of k editor (confirmer_of s)) (sym p.0.1) ∙ ap (λ (k : ℕ). state_of (state_number s) k (confirmer_of s)) (sym p.1) ∙ state_writes s p.0.0))
+    field word_codec editor_number (λ s p. (state_words s p.0).0) (λ editor we.
+    last_of word_codec confirmer_number (λ confirmer. state_of n editor confirmer)
+    (λ s p. ((state_words s p.0.0).1, ap (λ (k : ℕ). state_of k editor (confirmer_number s)) (sym p.0.1) ∙ ap (λ (k : ℕ). state_of (state_number s) k (confirmer_number s)) (sym p.1) ∙ state_writes s p.0.0))
     (λ confirmer s wc e. let r = state_reads n editor confirmer s e we wc in (((r.0, r.1), r.2), r.3))))
 
 writes_role : (r : Role) → Unit {0} → role_of (role_number r) ≡ Some r
@@ -156,7 +156,7 @@ writes_role Lead p = refl
 writes_role Clerk p = refl
 writes_role Receiver p = refl
 
-pub role_codec : Codec (λ (r : Role). Unit {0}) (λ r. byte (role_number r)) (value_of role_of)
+pub role_codec : Codec (λ (r : Role). Unit {0}) (λ r. byte (role_number r)) (value_of_byte role_of)
 role_codec =
     value_codec (λ r. Unit {0}) role_number role_of writes_role (λ b r e. (
       tt,
@@ -173,7 +173,7 @@ writes_basis Wp p = refl
 writes_basis Pi p = refl
 writes_basis Ts p = refl
 
-pub basis_codec : Codec (λ (r : Basis). Unit {0}) basis (value_of basis_of)
+pub basis_codec : Codec (λ (r : Basis). Unit {0}) basis (value_of_byte basis_of)
 basis_codec =
     value_codec (λ r. Unit {0}) basis_number basis_of writes_basis (λ b r e. (
       tt,
@@ -187,7 +187,7 @@ writes_ink : (v : Ink) → Unit {0} → ink_of (ink_number v) ≡ Some v
 writes_ink Black p = refl
 writes_ink Lettered p = refl
 
-pub ink_codec : Codec (λ (v : Ink). Unit {0}) (λ v. byte (ink_number v)) (value_of ink_of)
+pub ink_codec : Codec (λ (v : Ink). Unit {0}) (λ v. byte (ink_number v)) (value_of_byte ink_of)
 ink_codec =
     value_codec (λ v. Unit {0}) ink_number ink_of writes_ink
     (λ b v e. (tt, entry ink_number b 1 Black v _ refl (entry ink_number b 2 Lettered v None refl (none_left ink_number b v)) e))
@@ -561,8 +561,8 @@ entry_written-parts v p =
 abbrev pub EntryOf : ℕ → DocEntry → Type 0
 EntryOf doc v = IsTrue (entry_written v) × (v.doc.0 ≡ doc)
 
-pub entry_codec : (doc : ℕ) → IsTrue (is_word doc) → Codec (EntryOf doc) entry_body (entry_at doc)
-unfolding entry_at
+pub entry_codec : (doc : ℕ) → IsTrue (is_word doc) → Codec (EntryOf doc) entry_body (log_entry_at doc)
+unfolding log_entry_at
 entry_codec doc w =
     field version_codec (λ v. tt) (λ v p. tt) (λ version _.
     last entry_fields_codec (λ v. v.entry) (λ logged. record { doc = record { 0 = doc }; entry = logged })
@@ -686,16 +686,16 @@ production_codec num w =
 
 -- ---- a page, whose strip is the rest
 
-writes_unit : (v : LengthUnit) → Unit {0} → unit_of (unit_number v) ≡ Some v
+writes_unit : (v : LengthUnit) → Unit {0} → unit_of_byte (unit_number v) ≡ Some v
 writes_unit units.None p = refl
 writes_unit units.Inch p = refl
 writes_unit units.Centimetre p = refl
 
-reads_unit : (b : ℕ) (v : LengthUnit) → unit_of b ≡ Some v → Unit {0} × (unit_number v ≡ b)
+reads_unit : (b : ℕ) (v : LengthUnit) → unit_of_byte b ≡ Some v → Unit {0} × (unit_number v ≡ b)
 reads_unit b v e = (tt, entry unit_number b 1 units.None v _ refl (entry unit_number b 2 units.Inch v _ refl (entry unit_number b 3 units.Centimetre v _ refl (none_left unit_number b v))) e)
 
-pub unit_codec : Codec (λ (u : LengthUnit). Unit {0}) (λ u. byte (unit_number u)) (value_of unit_of)
-unit_codec = value_codec (λ u. Unit {0}) unit_number unit_of writes_unit reads_unit
+pub unit_codec : Codec (λ (u : LengthUnit). Unit {0}) (λ u. byte (unit_number u)) (value_of_byte unit_of_byte)
+unit_codec = value_codec (λ u. Unit {0}) unit_number unit_of_byte writes_unit reads_unit
 
 pub record ImageParts (v : Image) : Type 0 where
   pub width : IsTrue (is_word v.width)
@@ -716,8 +716,8 @@ image_written-parts v p =
     let f = and_parts (is_word v.yres.den) _ e.1 in
     record { width = a.0; height = b.0; xres_num = c.0; xres_den = d.0; yres_num = e.0; yres_den = f.0; lines = f.1 }
 
-pub image_codec : StripLaw → Whole (λ v. IsTrue (image_written v)) image_part image_at
-unfolding image_at
+pub image_codec : StripLaw → Whole (λ v. IsTrue (image_written v)) image_part image_left
+unfolding image_left
 image_codec law =
     field_whole word_codec (λ v. v.width) (λ v p. (image_written-parts v p).width) (λ width q_width.
     field_whole word_codec (λ v. v.height) (λ v p. (image_written-parts v p.0).height) (λ height q_height.

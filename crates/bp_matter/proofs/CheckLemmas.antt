@@ -1,6 +1,6 @@
 -- What the loops of the tests need.
 use Rattle.std.proofs.Common.{◌≡◌, ℕ, zero, suc, ◌+◌, ◌<◌, ◌≤◌, Bool, true, false, cond, eqb, ◌&&◌, List, [], ◌∷◌, ◌++◌, append_assoc, length, Option, Some, None, refl, sym, ap, ◌∙◌, arith, get_or, slice_set, replicate}
-use Rattle.bp_matter.specs.ValidProductions.{all_marked_on, mark, is_marked, marked_on, blank, stand_once}
+use Rattle.bp_matter.specs.ValidProductions.{all_marked_on, mark, is_marked_at, marked_on, blank, stand_once}
 use Rattle.bp_matter.specs.ValidPages.{has_rows}
 use Rattle.std.specs.Prelude.{not, is_none}
 use Rattle.std.proofs.lemmas.List.{append-nil, nil_from_length}
@@ -30,7 +30,7 @@ has_less key (suc n) k lt = refl
 
 -- ---- marks
 
-pub marked_is : (marks : List Bool) (n : ℕ) (b : Bool) → n < length marks → b ≡ get_or marks n b → is_marked n marks ≡ b
+pub marked_is : (marks : List Bool) (n : ℕ) (b : Bool) → n < length marks → b ≡ get_or marks n b → is_marked_at n marks ≡ b
 marked_is [] n b lt e = absurd (omega arith)
 marked_is (m ∷ marks) zero b lt e = sym e
 marked_is (m ∷ marks) (suc n) b lt e = marked_is marks n b (omega arith) e
@@ -40,7 +40,7 @@ mark_is [] n = refl
 mark_is (m ∷ marks) zero = refl
 mark_is (m ∷ marks) (suc n) = ap (λ (ms : List Bool). m ∷ ms) (mark_is marks n)
 
-pub unmarked_past : (marks : List Bool) (n : ℕ) → length marks ≤ n → is_marked n marks ≡ false
+pub unmarked_past : (marks : List Bool) (n : ℕ) → length marks ≤ n → is_marked_at n marks ≡ false
 unmarked_past [] n le = refl
 unmarked_past (m ∷ marks) zero le = absurd (omega arith)
 unmarked_past (m ∷ marks) (suc n) le = unmarked_past marks n (omega arith)
@@ -50,11 +50,11 @@ mark_past [] n le = refl
 mark_past (m ∷ marks) zero le = absurd (omega arith)
 mark_past (m ∷ marks) (suc n) le = ap (λ (ms : List Bool). m ∷ ms) (mark_past marks n (omega arith))
 
-pub mark_meets : (so_far : Option (List Bool)) (marks : List Bool) (rest others : List Item) (i : Item) → so_far ≡ marked_on (Some marks) rest → rest ≡ i ∷ others → is_marked i.doc.0 marks ≡ true → so_far ≡ None
+pub mark_meets : (so_far : Option (List Bool)) (marks : List Bool) (rest others : List Item) (i : Item) → so_far ≡ marked_on (Some marks) rest → rest ≡ i ∷ others → is_marked_at i.doc.0 marks ≡ true → so_far ≡ None
 mark_meets so_far marks rest others i e r h =
     e ∙ ap (marked_on (Some marks)) r ∙ ap (λ (b : Bool). marked_on (cond b None (Some (mark i.doc.0 marks))) others) h
 
-pub mark_passes : (so_far : Option (List Bool)) (marks now : List Bool) (rest others : List Item) (i : Item) → so_far ≡ marked_on (Some marks) rest → rest ≡ i ∷ others → is_marked i.doc.0 marks ≡ false → mark i.doc.0 marks ≡ now
+pub mark_passes : (so_far : Option (List Bool)) (marks now : List Bool) (rest others : List Item) (i : Item) → so_far ≡ marked_on (Some marks) rest → rest ≡ i ∷ others → is_marked_at i.doc.0 marks ≡ false → mark i.doc.0 marks ≡ now
     → so_far ≡ marked_on (Some now) others
 mark_passes so_far marks now rest others i e r h m =
     e ∙ ap (marked_on (Some marks)) r ∙ ap (λ (b : Bool). marked_on (cond b None (Some (mark i.doc.0 marks))) others) h ∙ ap (λ (ms : List Bool). marked_on (Some ms) others) m

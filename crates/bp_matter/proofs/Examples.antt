@@ -21,7 +21,7 @@ use Rattle.bp_matter.specs.declared.batches.BatchDoc.{BatchDoc}
 use Rattle.bp_matter.specs.declared.batches.BatchPage.{BatchPage}
 use Rattle.bp_matter.specs.Texts.{is_text, is_designation, is_volume, is_id, is_value, is_field_name, is_id_of_doc, is_word_text}
 use Rattle.bp_matter.specs.Images.{strip}
-use Rattle.bp_matter.specs.Fields.{word, long}
+use Rattle.bp_matter.specs.Fields.{word, long_kept}
 use Rattle.bp_matter.specs.Bodies.{staff_body, doc_body, page_body, call_body, box_body, held_body, prefix_body, production_body, words_body}
 use Rattle.bp_matter.specs.Matter.{Matter, staff_key, doc_key, page_key, words_key, call_key}
 use Rattle.bp_matter.specs.Valid.{IsValid}
@@ -427,7 +427,7 @@ held_bytes : held_body holding ≡ 1 ∷ 0 ∷ []
 held_bytes = refl
 
 prefix_bytes : prefix_body kept ≡ 1 ∷ 4 ∷ 4 ∷ 0 ∷ 0 ∷ 0 ∷ 0 ∷ 0 ∷ 0 ∷ 0 ∷ 3 ∷ 0 ∷ 0 ∷ 0 ∷ 65 ∷ 66 ∷ 45 ∷ []
-unfolding word long lib.Utf8.encode
+unfolding word long_kept lib.Utf8.encode
 prefix_bytes = refl
 
 -- a production after its version
@@ -441,7 +441,7 @@ frozen_bytes =
     ∷ 0 ∷ 0 ∷ 0 ∷ 0 ∷ 0 ∷ 0 ∷ 3 ∷ 0 ∷ 0 ∷ 0 ∷ 0 ∷ 0 ∷ 0 ∷ 0 ∷ 3 ∷ 0 ∷ 0 ∷ 0 ∷ 0 ∷ 0 ∷ 0 ∷ 0 ∷ []
 
 lettered_bytes : production_body frozen ≡ 2 ∷ frozen_bytes
-unfolding word long lib.Utf8.encode
+unfolding word long_kept lib.Utf8.encode
 lettered_bytes = refl
 
 -- one in black ink, as all were before there were letters, has version 1 and nothing else changed
@@ -449,7 +449,7 @@ abbrev frozen_black : ProductionRow
 frozen_black = record frozen { production = record (frozen.production) { ink = Black } }
 
 black_bytes : production_body frozen_black ≡ 1 ∷ frozen_bytes
-unfolding word long lib.Utf8.encode
+unfolding word long_kept lib.Utf8.encode
 black_bytes = refl
 
 -- the versions of a production, and none beside them

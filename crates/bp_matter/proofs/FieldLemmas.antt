@@ -10,9 +10,9 @@ use Rattle.std.proofs.lemmas.Str.{is_utf8-from_IsUtf8, chars-encodes, encodes-ch
 use Rattle.std.proofs.lemmas.Option.{some_pair_parts}
 use Rattle.std.proofs.lemmas.List.{append-nil, take_at, drop_at, take-append-drop, length-append, length-take, get_or-take, get_or_past}
 use Rattle.std.proofs.lemmas.Nat.{le_bytes_4, from_le_bytes-to_le_bytes_4, le_bytes_8, from_le_bytes-to_le_bytes_8}
-use Rattle.bp_matter.specs.Fields.{byte, word, long, text, list}
+use Rattle.bp_matter.specs.Fields.{byte, word, long_kept, text_kept, list}
 use Rattle.bp_matter.specs.Written.{is_word, is_long, is_short, are_few}
-use Rattle.bp_matter.specs.Reading.{Read, ◌>>=◌, u32_at, characters_at, text_at, value_of, bytes_at, many_at, many_on, list_at, u64_at, Fails}
+use Rattle.bp_matter.specs.Reading.{Read, ◌>>=◌, u32_at, characters_at, text_at, value_of_byte, bytes_at, many_at, many_on, list_at, u64_at, Fails}
 use Rattle.bp_matter.specs.declared.read_fault.ReadFault.{ReadFault}
 use Rattle.bp_matter.specs.declared.read_fault.ReadFault.TheVariants as faults
 use Rattle.bp_matter.proofs.CodecLemmas.{IsBytes, Codec, bind_some, last_of, byte_codec, IsBytes-after, same}
@@ -46,14 +46,14 @@ guard_some true x y e = absurd cc
 guard_some false x y e = (refl, cc)
 
 word_again : (front rest : List ℕ) (n : ℕ) → length front ≡ 4 → ltb (length (front ++ rest)) 4 ≡ false → from_le_bytes w32 front ≡ n → u32_at (front ++ rest) ≡ Some (n, rest)
-word_again front rest n len long is = rw (long, take_at front rest 4 len, drop_at front rest 4 len, is) refl
+word_again front rest n len long_kept is = rw (long_kept, take_at front rest 4 len, drop_at front rest 4 len, is) refl
 
 pub word_codec : Codec (λ n. IsTrue (is_word n)) word u32_at
 unfolding word
 word_codec = record {
   takes = λ bytes n rest h e.
       let g = guard_some (ltb (length bytes) 4) (from_le_bytes w32 (take 4 bytes), drop 4 bytes) (n, rest) e in
-      let long : 4 ≤ length bytes = ltb-false _ _ g.0 in
+      let long_kept : 4 ≤ length bytes = ltb-false _ _ g.0 in
       let n-is : from_le_bytes w32 (take 4 bytes) ≡ n = ap (λ (p : ℕ × List ℕ). p.0) g.1 in
       let rest-is : drop 4 bytes ≡ rest = ap (λ (p : ℕ × List ℕ). p.1) g.1 in
       let fits = IsBytes-take 4 bytes h in
@@ -62,15 +62,15 @@ word_codec = record {
       (lt-ltb n (2 ^ 32) (rw (← n-is) below), split_is 4 bytes (word n) rest front rest-is);
   again = λ n rest h.
       let lt : n < 2 ^ 32 = ltb-true n (2 ^ 32) h in
-      let long : ltb (length (word n ++ rest)) 4 ≡ false = le-ltb _ _ (omega (arith, length-append (word n) rest)) in
-      word_again (word n) rest n refl long (from_le_bytes-to_le_bytes_4 n lt);
+      let long_kept : ltb (length (word n ++ rest)) 4 ≡ false = le-ltb _ _ (omega (arith, length-append (word n) rest)) in
+      word_again (word n) rest n refl long_kept (from_le_bytes-to_le_bytes_4 n lt);
 }
 
 long_again : (front rest : List ℕ) (n : ℕ) → length front ≡ 8 → ltb (length (front ++ rest)) 8 ≡ false → from_le_bytes w64 front ≡ n → u64_at (front ++ rest) ≡ Some (n, rest)
 long_again front rest n len enough is = rw (enough, take_at front rest 8 len, drop_at front rest 8 len, is) refl
 
-pub long_codec : Codec (λ n. IsTrue (is_long n)) long u64_at
-unfolding long
+pub long_codec : Codec (λ n. IsTrue (is_long n)) long_kept u64_at
+unfolding long_kept
 long_codec = record {
   takes = λ bytes n rest h e.
       let g = guard_some (ltb (length bytes) 8) (from_le_bytes w64 (take 8 bytes), drop 8 bytes) (n, rest) e in
@@ -79,12 +79,12 @@ long_codec = record {
       let rest-is : drop 8 bytes ≡ rest = ap (λ (p : ℕ × List ℕ). p.1) g.1 in
       let fits = IsBytes-take 8 bytes h in
       let below : from_le_bytes w64 (take 8 bytes) < 2 ^ 64 = omega (arith, fits 0, fits 1, fits 2, fits 3, fits 4, fits 5, fits 6, fits 7) in
-      let front : long n ≡ take 8 bytes = le_bytes_8 (take 8 bytes) n (omega (arith, length-take 8 bytes)) fits (sym n-is) in
-      (lt-ltb n (2 ^ 64) (rw (← n-is) below), split_is 8 bytes (long n) rest front rest-is);
+      let front : long_kept n ≡ take 8 bytes = le_bytes_8 (take 8 bytes) n (omega (arith, length-take 8 bytes)) fits (sym n-is) in
+      (lt-ltb n (2 ^ 64) (rw (← n-is) below), split_is 8 bytes (long_kept n) rest front rest-is);
   again = λ n rest h.
       let lt : n < 2 ^ 64 = ltb-true n (2 ^ 64) h in
-      let enough : ltb (length (long n ++ rest)) 8 ≡ false = le-ltb _ _ (omega (arith, length-append (long n) rest)) in
-      long_again (long n) rest n refl enough (from_le_bytes-to_le_bytes_8 n lt);
+      let enough : ltb (length (long_kept n ++ rest)) 8 ≡ false = le-ltb _ _ (omega (arith, length-append (long_kept n) rest)) in
+      long_again (long_kept n) rest n refl enough (from_le_bytes-to_le_bytes_8 n lt);
 }
 
 -- ---- a text
@@ -97,7 +97,7 @@ guarded false false x y e = absurd cc
 characters_takes : (n : ℕ) (bytes t rest : List ℕ) → characters_at n bytes ≡ Some (t, rest) → (all_scalars t ≡ true) × (n ≡ length (encode_utf8_all t)) × (bytes ≡ encode_utf8_all t ++ rest)
 characters_takes n bytes t rest e =
     let g = guarded (ltb (length bytes) n) (is_utf8 (take n bytes)) (chars (take n bytes), drop n bytes) (t, rest) e in
-    let long : n ≤ length bytes = ltb-false _ _ g.0 in
+    let long_kept : n ≤ length bytes = ltb-false _ _ g.0 in
     let good : IsUtf8 (take n bytes) = IsUtf8-from_is_utf8 (take n bytes) g.1 in
     let t-is : chars (take n bytes) ≡ t = ap (λ (p : List ℕ × List ℕ). p.0) g.2 in
     let rest-is : drop n bytes ≡ rest = ap (λ (p : List ℕ × List ℕ). p.1) g.2 in
@@ -108,10 +108,10 @@ characters_again : (t rest : List ℕ) → all_scalars t ≡ true → characters
 characters_again t rest scalars =
     let front = encode_utf8_all t in
     let good : is_utf8 front ≡ true = is_utf8-from_IsUtf8 front (t, (scalars, refl)) in
-    let long : ltb (length (front ++ rest)) (length front) ≡ false = le-ltb _ _ (omega (arith, length-append front rest)) in
-    rw (long, take_at front rest (length front) refl, drop_at front rest (length front) refl, good, chars-encodes t scalars) refl
+    let long_kept : ltb (length (front ++ rest)) (length front) ≡ false = le-ltb _ _ (omega (arith, length-append front rest)) in
+    rw (long_kept, take_at front rest (length front) refl, drop_at front rest (length front) refl, good, chars-encodes t scalars) refl
 
-pub text_codec : Codec (λ t. IsTrue (is_short t)) text text_at
+pub text_codec : Codec (λ t. IsTrue (is_short t)) text_kept text_at
 unfolding text_at
 text_codec = record {
   takes = λ bytes t rest h e.
@@ -132,7 +132,7 @@ text_codec = record {
 -- ---- a value of one byte
 
 pub value_codec : {V : Type 0} (P : V → Type 0) (number : V → ℕ) (value : ℕ → Option V) → ((v : V) → P v → value (number v) ≡ Some v) → ((b : ℕ) (v : V) → value b ≡ Some v → P v × (number v ≡ b))
-    → Codec P (λ v. byte (number v)) (value_of value)
+    → Codec P (λ v. byte (number v)) (value_of_byte value)
 value_codec P number value writes reads =
     last_of byte_codec number value (λ v p. (tt, writes v p)) (λ b v u e. reads b v e)
 
@@ -142,14 +142,14 @@ pub bytes_codec : (n : ℕ) → Codec (λ b. IsTrue (eqb (length b) n)) (λ b. b
 bytes_codec n = record {
   takes = λ bytes b rest h e.
       let g = guard_some (ltb (length bytes) n) (take n bytes, drop n bytes) (b, rest) e in
-      let long : n ≤ length bytes = ltb-false _ _ g.0 in
+      let long_kept : n ≤ length bytes = ltb-false _ _ g.0 in
       let b-is : take n bytes ≡ b = ap (λ (p : List ℕ × List ℕ). p.0) g.1 in
       let rest-is : drop n bytes ≡ rest = ap (λ (p : List ℕ × List ℕ). p.1) g.1 in
       (eq-eqb (length b) n (rw (← b-is) (omega (arith, length-take n bytes))), split_is n bytes b rest (sym b-is) rest-is);
   again = λ b rest h.
       let len : length b ≡ n = eqb-true (length b) n h in
-      let long : ltb (length (b ++ rest)) n ≡ false = le-ltb _ _ (omega (arith, length-append b rest)) in
-      rw (long, take_at b rest n len, drop_at b rest n len) refl;
+      let long_kept : ltb (length (b ++ rest)) n ≡ false = le-ltb _ _ (omega (arith, length-append b rest)) in
+      rw (long_kept, take_at b rest n len, drop_at b rest n len) refl;
 }
 
 -- ---- lists

@@ -6,7 +6,7 @@ use Rattle.bp_core.specs.declared.kept.Row.{Row}
 use Rattle.bp_matter.specs.Bodies.{staff_body, field_body, doc_body, page_body, call_body, box_body, held_body, entry_body, prefix_body, production_body, batch_body, words_body}
 use Rattle.bp_matter.specs.Forms.{IsBody, FormsOf}
 use Rattle.bp_matter.specs.ReadRows.{whole}
-use Rattle.bp_matter.specs.Reading.{staff_at, field_at, doc_at, page_at, call_at, box_at, held_at, entry_at, prefix_row_at, production_at, batch_at, words_at}
+use Rattle.bp_matter.specs.Reading.{staff_at, field_at, doc_at, page_at, call_at, box_at, held_at, log_entry_at, prefix_row_at, production_at, batch_at, words_at}
 use Rattle.bp_matter.specs.Written.{is_word, box_row_written, staff_written, field_written, doc_written, page_written, call_written, box_written, held_written, entry_written, prefix_written, production_written, batch_written, words_written}
 use Rattle.bp_matter.proofs.CodecLemmas.{IsBytes, Whole}
 use Rattle.bp_matter.proofs.ImageLemmas.{StripLaw}
@@ -66,7 +66,7 @@ held_form k1 k2 w1 w2 bytes h =
     formed_by held_written (whole_codec (held_codec k1 k2 w1 w2)) (λ v p. p.0) (λ v w.
     (record v { doc = record { 0 = k1 }; row = record (v.row) { field = k2 } }, (and_from (is_word k1) _ w1 w2, refl, refl), refl)) bytes h
 
-pub entry_form : (k1 : ℕ) → IsTrue (is_word k1) → (bytes : List ℕ) → IsBytes bytes → IsTrue (is_some (whole (entry_at k1 bytes))) ↔ IsBody entry_written entry_body bytes
+pub entry_form : (k1 : ℕ) → IsTrue (is_word k1) → (bytes : List ℕ) → IsBytes bytes → IsTrue (is_some (whole (log_entry_at k1 bytes))) ↔ IsBody entry_written entry_body bytes
 entry_form k1 w1 bytes h =
     formed_by entry_written (whole_codec (entry_codec k1 w1)) (λ v p. p.0) (λ v w.
     (record v { doc = record { 0 = k1 } }, (and_from (is_word k1) _ w1 (and_parts (is_word v.doc.0) _ w).1, refl), refl)) bytes h

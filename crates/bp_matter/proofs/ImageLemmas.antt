@@ -10,13 +10,13 @@ use Rattle.bp_codes.specs.Bits.{bits_of}
 use Rattle.bp_rows.specs.Image.{Image, IsPage}
 use Rattle.bp_rows.specs.Limits.{sides_are_allowed}
 use Rattle.bp_t6.specs.Read.{StripReads}
-use Rattle.bp_t6.specs.Strips.{page_of}
-use Rattle.bp_t6.specs.Written.{strip_of}
+use Rattle.bp_t6.specs.Strips.{page_of_lines}
+use Rattle.bp_t6.specs.Written.{bits_strip}
 use Rattle.bp_matter.specs.Images.{strip, is_grid, has_lines, each_before, all_lists, all_lines, is_strip, lines_of}
 
 -- the strip of a page is read as the page's rows, and as no others
 abbrev pub StripLaw : Type 0
-StripLaw = (p : Image) (lines : List (List Bool)) → IsPage p → StripReads (bits_of High (strip_of p)) p.width p.height lines ↔ (lines ≡ p.rows)
+StripLaw = (p : Image) (lines : List (List Bool)) → IsPage p → StripReads (bits_of High (bits_strip p)) p.width p.height lines ↔ (lines ≡ p.rows)
 
 -- ---- lists of values
 
@@ -100,7 +100,7 @@ in_found {A} p (y ∷ ys) x h t =
 
 -- ---- lines for a strip
 
-pub strip_same : (p : Image) → strip p ≡ strip (page_of p.width p.height p.rows)
+pub strip_same : (p : Image) → strip p ≡ strip (page_of_lines p.width p.height p.rows)
 unfolding strip
 strip_same p = refl
 
@@ -112,20 +112,20 @@ at_sides_some true found lines e = (refl, e)
 at_sides_some false found lines e = absurd cc
 
 -- what is found has the sides and the strip
-pub lines_taken : (width height : ℕ) (bytes : List ℕ) (lines : List (List Bool)) → lines_of width height bytes ≡ Some lines → IsTrue (has_lines width height lines) × (bytes ≡ strip (page_of width height lines))
+pub lines_taken : (width height : ℕ) (bytes : List ℕ) (lines : List (List Bool)) → lines_of width height bytes ≡ Some lines → IsTrue (has_lines width height lines) × (bytes ≡ strip (page_of_lines width height lines))
 unfolding lines_of
 lines_taken width height bytes lines e =
     let found = at_sides_some (sides_are_allowed width height) (find (is_strip width height bytes) (all_lines width height)) lines e in
     let passes = found_passes (is_strip width height bytes) (all_lines width height) lines found.1 in
-    let parts = and_parts (is_grid width height lines) (bytes_eq (strip (page_of width height lines)) bytes) passes in
-    (and_from (sides_are_allowed width height) (is_grid width height lines) found.0 parts.0, sym ((bytes_eq-Decides (strip (page_of width height lines)) bytes).0 parts.1))
+    let parts = and_parts (is_grid width height lines) (bytes_eq (strip (page_of_lines width height lines)) bytes) passes in
+    (and_from (sides_are_allowed width height) (is_grid width height lines) found.0 parts.0, sym ((bytes_eq-Decides (strip (page_of_lines width height lines)) bytes).0 parts.1))
 
 wide_at : (width : ℕ) (lines : List (List Bool)) (r : ℕ) → list_all (λ line. eqb (length line) width) lines ≡ true → r < length lines → length (get_or lines r []) ≡ width
 wide_at width [] r h lt = absurd (omega arith)
 wide_at width (line ∷ lines) zero h lt = eqb-true (length line) width (and_parts (eqb (length line) width) (list_all (λ line. eqb (length line) width) lines) h).0
 wide_at width (line ∷ lines) (suc r) h lt = wide_at width lines r (and_parts (eqb (length line) width) (list_all (λ line. eqb (length line) width) lines) h).1 (omega arith)
 
-pub plain_page : (width height : ℕ) (lines : List (List Bool)) → IsTrue (has_lines width height lines) → IsPage (page_of width height lines)
+pub plain_page : (width height : ℕ) (lines : List (List Bool)) → IsTrue (has_lines width height lines) → IsPage (page_of_lines width height lines)
 plain_page width height lines h =
     let parts = and_parts (sides_are_allowed width height) (is_grid width height lines) h in
     let grid = and_parts (eqb (length lines) height) (list_all (λ line. eqb (length line) width) lines) parts.1 in
@@ -137,59 +137,59 @@ plain_page width height lines h =
       grid = record { down = down; across = λ r lt. wide_at width lines r grid.1 (rw down lt) };
     }
 
-strip_is : (p : Image) → strip_of p ≡ strip p
+strip_is : (p : Image) → bits_strip p ≡ strip p
 unfolding strip
 strip_is p = refl
 
-long_strip : ((p : Image) → IsPage p → length (strip_of p) < 2 ^ 32) → (width height : ℕ) (lines : List (List Bool)) (bytes : List ℕ) → IsTrue (has_lines width height lines) → bytes ≡ strip (page_of width height lines) → 2 ^ 32 ≤ length bytes → ⊥
+long_strip : ((p : Image) → IsPage p → length (bits_strip p) < 2 ^ 32) → (width height : ℕ) (lines : List (List Bool)) (bytes : List ℕ) → IsTrue (has_lines width height lines) → bytes ≡ strip (page_of_lines width height lines) → 2 ^ 32 ≤ length bytes → ⊥
 long_strip short width height lines bytes has is long =
-    let below : length (strip (page_of width height lines)) < 2 ^ 32 = subst (λ (b : List ℕ). length b < 2 ^ 32) (strip_is (page_of width height lines)) (short (page_of width height lines) (plain_page width height lines has)) in
-    let same : length bytes ≡ length (strip (page_of width height lines)) = ap (λ (b : List ℕ). length b) is in
+    let below : length (strip (page_of_lines width height lines)) < 2 ^ 32 = subst (λ (b : List ℕ). length b < 2 ^ 32) (strip_is (page_of_lines width height lines)) (short (page_of_lines width height lines) (plain_page width height lines has)) in
+    let same : length bytes ≡ length (strip (page_of_lines width height lines)) = ap (λ (b : List ℕ). length b) is in
     omega (arith, below, same, long)
 
-own_reading : StripLaw → (width height : ℕ) (lines : List (List Bool)) (bytes : List ℕ) → IsTrue (has_lines width height lines) → bytes ≡ strip (page_of width height lines) → StripReads (bits_of High bytes) width height lines
+own_reading : StripLaw → (width height : ℕ) (lines : List (List Bool)) (bytes : List ℕ) → IsTrue (has_lines width height lines) → bytes ≡ strip (page_of_lines width height lines) → StripReads (bits_of High bytes) width height lines
 own_reading law width height lines bytes has is =
-    let own : StripReads (bits_of High (strip_of (page_of width height lines))) width height lines = (law (page_of width height lines) lines (plain_page width height lines has)).1 refl in
-    subst (λ (b : List ℕ). StripReads (bits_of High b) width height lines) (strip_is (page_of width height lines) ∙ sym is) own
+    let own : StripReads (bits_of High (bits_strip (page_of_lines width height lines))) width height lines = (law (page_of_lines width height lines) lines (plain_page width height lines has)).1 refl in
+    subst (λ (b : List ℕ). StripReads (bits_of High b) width height lines) (strip_is (page_of_lines width height lines) ∙ sym is) own
 
 -- lines that are read from a strip of these sides have it
-same_strip : StripLaw → (width height : ℕ) (lines read : List (List Bool)) (bytes : List ℕ) → IsTrue (has_lines width height lines) → bytes ≡ strip (page_of width height lines) → StripReads (bits_of High bytes) width height read → strip_of (page_of width height read) ≡ bytes
+same_strip : StripLaw → (width height : ℕ) (lines read : List (List Bool)) (bytes : List ℕ) → IsTrue (has_lines width height lines) → bytes ≡ strip (page_of_lines width height lines) → StripReads (bits_of High bytes) width height read → bits_strip (page_of_lines width height read) ≡ bytes
 same_strip law width height lines read bytes has is reads =
-    let of_it : StripReads (bits_of High (strip_of (page_of width height lines))) width height read = subst (λ (b : List ℕ). StripReads (bits_of High b) width height read) (is ∙ sym (strip_is (page_of width height lines))) reads in
-    let same : read ≡ lines = (law (page_of width height lines) read (plain_page width height lines has)).0 of_it in
-    ap (λ (l : List (List Bool)). strip_of (page_of width height l)) same ∙ strip_is (page_of width height lines) ∙ sym is
+    let of_it : StripReads (bits_of High (bits_strip (page_of_lines width height lines))) width height read = subst (λ (b : List ℕ). StripReads (bits_of High b) width height read) (is ∙ sym (strip_is (page_of_lines width height lines))) reads in
+    let same : read ≡ lines = (law (page_of_lines width height lines) read (plain_page width height lines has)).0 of_it in
+    ap (λ (l : List (List Bool)). bits_strip (page_of_lines width height l)) same ∙ strip_is (page_of_lines width height lines) ∙ sym is
 
 -- lines of the same sides with the same strip are the same
 one_strip : StripLaw → (width height : ℕ) (first second : List (List Bool)) → IsTrue (has_lines width height first) → IsTrue (has_lines width height second)
-    → strip (page_of width height first) ≡ strip (page_of width height second) → first ≡ second
+    → strip (page_of_lines width height first) ≡ strip (page_of_lines width height second) → first ≡ second
 unfolding strip
 one_strip law width height first second h k e =
-    let own : StripReads (bits_of High (strip_of (page_of width height first))) width height first = (law (page_of width height first) first (plain_page width height first h)).1 refl in
-    (law (page_of width height second) first (plain_page width height second k)).0 (subst (λ (bytes : List ℕ). StripReads (bits_of High bytes) width height first) e own)
+    let own : StripReads (bits_of High (bits_strip (page_of_lines width height first))) width height first = (law (page_of_lines width height first) first (plain_page width height first h)).1 refl in
+    (law (page_of_lines width height second) first (plain_page width height second k)).0 (subst (λ (bytes : List ℕ). StripReads (bits_of High bytes) width height first) e own)
 
 -- lines of these sides are found for their strip
-pub lines_found : StripLaw → (width height : ℕ) (lines : List (List Bool)) → IsTrue (has_lines width height lines) → lines_of width height (strip (page_of width height lines)) ≡ Some lines
+pub lines_found : StripLaw → (width height : ℕ) (lines : List (List Bool)) → IsTrue (has_lines width height lines) → lines_of width height (strip (page_of_lines width height lines)) ≡ Some lines
 unfolding lines_of
 lines_found law width height lines h =
-    let bytes = strip (page_of width height lines) in
+    let bytes = strip (page_of_lines width height lines) in
     let parts = and_parts (sides_are_allowed width height) (is_grid width height lines) h in
     let same : bytes_eq bytes bytes ≡ true = (bytes_eq-Decides bytes bytes).1 refl in
     let found = in_found (is_strip width height bytes) (all_lines width height) lines (in_all width height lines parts.1) (and_from (is_grid width height lines) (bytes_eq bytes bytes) parts.1 same) in
-    let passes = and_parts (is_grid width height found.0) (bytes_eq (strip (page_of width height found.0)) bytes) (found_passes (is_strip width height bytes) (all_lines width height) found.0 found.1) in
+    let passes = and_parts (is_grid width height found.0) (bytes_eq (strip (page_of_lines width height found.0)) bytes) (found_passes (is_strip width height bytes) (all_lines width height) found.0 found.1) in
     let there : IsTrue (has_lines width height found.0) = and_from (sides_are_allowed width height) (is_grid width height found.0) parts.0 passes.0 in
-    let is : found.0 ≡ lines = one_strip law width height found.0 lines there h ((bytes_eq-Decides (strip (page_of width height found.0)) bytes).0 passes.1) in
+    let is : found.0 ≡ lines = one_strip law width height found.0 lines there h ((bytes_eq-Decides (strip (page_of_lines width height found.0)) bytes).0 passes.1) in
     rw parts.0 (found.1 ∙ ap (λ (l : List (List Bool)). Some l) is)
 
 pub lines_again : StripLaw → (p : Image) → IsTrue (has_lines p.width p.height p.rows) → lines_of p.width p.height (strip p) ≡ Some p.rows
 lines_again law p h = ap (lines_of p.width p.height) (strip_same p) ∙ lines_found law p.width p.height p.rows h
 
 no_lines_in : (width height : ℕ) (bytes : List ℕ) (found : Option (List (List Bool))) → lines_of width height bytes ≡ found
-    → ((lines : List (List Bool)) → IsTrue (has_lines width height lines) → bytes ≡ strip (page_of width height lines) → ⊥) → lines_of width height bytes ≡ None
+    → ((lines : List (List Bool)) → IsTrue (has_lines width height lines) → bytes ≡ strip (page_of_lines width height lines) → ⊥) → lines_of width height bytes ≡ None
 no_lines_in width height bytes None e none = e
 no_lines_in width height bytes (Some lines) e none = let taken = lines_taken width height bytes lines e in absurd (none lines taken.0 taken.1)
 
 -- where no lines have the strip, none are found
-pub no_lines : (width height : ℕ) (bytes : List ℕ) → ((lines : List (List Bool)) → IsTrue (has_lines width height lines) → bytes ≡ strip (page_of width height lines) → ⊥) → lines_of width height bytes ≡ None
+pub no_lines : (width height : ℕ) (bytes : List ℕ) → ((lines : List (List Bool)) → IsTrue (has_lines width height lines) → bytes ≡ strip (page_of_lines width height lines) → ⊥) → lines_of width height bytes ≡ None
 no_lines width height bytes none = no_lines_in width height bytes (lines_of width height bytes) refl none
 
 -- ---- the same, as a function finds it
@@ -206,7 +206,7 @@ page_lines p page =
     (grid_test p.width p.rows (λ r lt. page.grid.across r (subst (λ (n : ℕ). r < n) page.grid.down lt))))
 
 -- too many bytes for a strip
-pub too_long : ((p : Image) → IsPage p → length (strip_of p) < 2 ^ 32) → (width height : ℕ) (bytes : List ℕ) → 2 ^ 32 ≤ length bytes → lines_of width height bytes ≡ None
+pub too_long : ((p : Image) → IsPage p → length (bits_strip p) < 2 ^ 32) → (width height : ℕ) (bytes : List ℕ) → 2 ^ 32 ≤ length bytes → lines_of width height bytes ≡ None
 too_long short width height bytes long = no_lines width height bytes (λ lines has is. long_strip short width height lines bytes has is long)
 
 -- lines that are read from no strip
@@ -215,17 +215,17 @@ not_read law width height bytes none =
     no_lines width height bytes (λ lines has is. none lines (and_parts (sides_are_allowed width height) (is_grid width height lines) has).0 (own_reading law width height lines bytes has is))
 
 -- the page that is read has another strip
-pub other_strip : StripLaw → (width height : ℕ) (bytes written : List ℕ) (p : Image) → p ≡ page_of width height p.rows → StripReads (bits_of High bytes) width height p.rows → written ≡ strip_of p → {seen : List ℕ} → written ≡ seen → bytes_eq seen bytes ≡ false
+pub other_strip : StripLaw → (width height : ℕ) (bytes written : List ℕ) (p : Image) → p ≡ page_of_lines width height p.rows → StripReads (bits_of High bytes) width height p.rows → written ≡ bits_strip p → {seen : List ℕ} → written ≡ seen → bytes_eq seen bytes ≡ false
     → lines_of width height bytes ≡ None
 other_strip law width height bytes written p plain reads is {seen} same differ =
     no_lines width height bytes (λ lines has e.
-    let equal : seen ≡ bytes = sym same ∙ is ∙ ap strip_of plain ∙ same_strip law width height lines p.rows bytes has e reads in
+    let equal : seen ≡ bytes = sym same ∙ is ∙ ap bits_strip plain ∙ same_strip law width height lines p.rows bytes has e reads in
     false≢true (sym differ ∙ (bytes_eq-Decides seen bytes).1 equal))
 
 -- the page that is read has this strip
-pub its_strip : StripLaw → (width height : ℕ) (bytes written : List ℕ) (p : Image) → IsPage p → p ≡ page_of width height p.rows → written ≡ strip_of p → {seen : List ℕ} → written ≡ seen → bytes_eq seen bytes ≡ true
+pub its_strip : StripLaw → (width height : ℕ) (bytes written : List ℕ) (p : Image) → IsPage p → p ≡ page_of_lines width height p.rows → written ≡ bits_strip p → {seen : List ℕ} → written ≡ seen → bytes_eq seen bytes ≡ true
     → lines_of width height bytes ≡ Some p.rows
 its_strip law width height bytes written p page plain is {seen} same equal =
     let has : IsTrue (has_lines width height p.rows) = subst (λ (q : Image). IsTrue (has_lines q.width q.height p.rows)) plain (page_lines p page) in
-    let its : bytes ≡ strip (page_of width height p.rows) = sym ((bytes_eq-Decides seen bytes).0 equal) ∙ sym same ∙ is ∙ ap strip_of plain ∙ strip_is (page_of width height p.rows) in
+    let its : bytes ≡ strip (page_of_lines width height p.rows) = sym ((bytes_eq-Decides seen bytes).0 equal) ∙ sym same ∙ is ∙ ap bits_strip plain ∙ strip_is (page_of_lines width height p.rows) in
     ap (lines_of width height) its ∙ lines_found law width height p.rows has

@@ -4,7 +4,7 @@ use Rattle.std.proofs.Common.{◌≡◌, ◌<◌, ℕ, zero, suc, length, slice_
 use Rattle.bp_codes.specs.CodeLists.{mode_codes}
 use Rattle.bp_rows.specs.Image.{Image, IsPage, FitsRes, white_image}
 use Rattle.bp_rows.specs.declared.resolution.Unit.TheVariants.{Inch}
-use Rattle.bp_matter.specs.Images.{IsKept, all_lines, image_kept, in_frame, lines_of, strip}
+use Rattle.bp_matter.specs.Images.{IsKeptPage, all_lines, image_kept, in_frame, lines_of, strip}
 use Rattle.bp_matter.specs.declared.kept_page.Frame.{Frame}
 
 -- two pixels by one, 200 to the inch
@@ -51,6 +51,6 @@ white_is_page : IsPage white
 white_is_page = record { sides = refl; xres = two_hundred; yres = two_hundred; grid = record { down = refl; across = across } }
 
 -- its strip is kept of it
-kept_white : IsKept white white_strip
+kept_white : IsKeptPage white white_strip
 unfolding mode_codes
 kept_white = record { page = white_is_page; strip = refl }

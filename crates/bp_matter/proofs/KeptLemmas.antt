@@ -15,11 +15,11 @@ use Rattle.bp_t6.specs.Canonical.{IsCanonicalStrip}
 use Rattle.bp_t6.specs.Faults.{StripFault}
 use Rattle.bp_t6.specs.Read.{StripReads, LinesRead}
 use Rattle.bp_t6.specs.SoFar.{AddedSoFar, HasAdded, HasRead, ReadSoFar, ReadsLine, unread}
-use Rattle.bp_t6.specs.Strips.{SaysFault, page_of}
-use Rattle.bp_t6.specs.Written.{strip_of, white_line}
+use Rattle.bp_t6.specs.Strips.{SaysFault, page_of_lines}
+use Rattle.bp_t6.specs.Written.{bits_strip, white_line}
 use Rattle.bp_t6.proofs.StripLemmas.{lines_to-read}
 use Rattle.bp_matter.specs.declared.kept_page.Frame.{Frame}
-use Rattle.bp_matter.specs.Images.{strip, is_grid, lines_of, in_frame, image_kept, IsKept, IsReadFrom, CodesOf}
+use Rattle.bp_matter.specs.Images.{strip, is_grid, lines_of, in_frame, image_kept, IsKeptPage, IsReadFrom, CodesOf}
 use Rattle.bp_matter.proofs.ImageLemmas.{StripLaw, its_strip, lines_again, lines_taken, no_lines, other_strip, page_lines, plain_page}
 
 -- ---- read and coded again
@@ -78,13 +78,13 @@ lines_are_read width height bytes reader lines count bits wide read = record {
 
 -- all rows
 pub coding_all : (width height : ℕ) (bytes : List ℕ) (row : ℕ) (reader : ReadSoFar) (writer : AddedSoFar) (written : List ℕ) → CodingAgain width bytes row reader writer → row ≡ height
-    → ((p : Image) → p.width ≡ writer.width → HasAdded writer p.rows → written ≡ strip_of p)
+    → ((p : Image) → p.width ≡ writer.width → HasAdded writer p.rows → written ≡ bits_strip p)
     → CodesOf width height bytes written
 coding_all width height bytes row reader writer written so all strip_is = record {
   lines = so.lines;
   grid = record { down = so.count ∙ all; across = λ r h. so.read.wide r (omega (arith, so.count, all)) ∙ so.wide };
   reads = lines_are_read width height bytes reader so.lines (so.count ∙ all) so.bits so.wide so.read;
-  codes = strip_is (page_of width height so.lines) (sym so.same) so.added;
+  codes = strip_is (page_of_lines width height so.lines) (sym so.same) so.added;
 }
 
 -- where a row breaks a rule, no lines are read
@@ -102,7 +102,7 @@ coding_stops width height bytes row reader writer rule so down says more none li
     none (bits_of High bytes) width height lines says.kind says.row says.at reads moved
 
 -- lines of a grid, at sides that a page may have, are a page
-pub plain_is_page : (width height : ℕ) (lines : List (List Bool)) → IsTrue (sides_are_allowed width height) → IsGrid width height lines → IsPage (page_of width height lines)
+pub plain_is_page : (width height : ℕ) (lines : List (List Bool)) → IsTrue (sides_are_allowed width height) → IsGrid width height lines → IsPage (page_of_lines width height lines)
 plain_is_page width height lines sides grid = record {
   sides = sides;
   xres = record { num = omega arith; den = omega arith };
@@ -114,7 +114,7 @@ plain_is_page width height lines sides grid = record {
 pub checked : StripLaw → (width height : ℕ) (bytes written seen : List ℕ) → IsTrue (sides_are_allowed width height) → CodesOf width height bytes written → written ≡ seen
     → bytes_eq seen bytes ≡ is_some (lines_of width height bytes)
 checked law width height bytes written seen sides so same =
-    let p = page_of width height so.lines in
+    let p = page_of_lines width height so.lines in
     elim (cases_Bool (bytes_eq seen bytes)) [
       | inl is ↦ is ∙ sym (ap is_some (its_strip law width height bytes written p (plain_is_page width height so.lines sides so.grid) refl so.codes same is))
       | inr isnt ↦ isnt ∙ sym (ap is_some (other_strip law width height bytes written p refl so.reads so.codes same isnt))
@@ -124,7 +124,7 @@ checked law width height bytes written seen sides so same =
 pub canonical_found : StripLaw → (width height : ℕ) (bytes : List ℕ) → IsTrue (sides_are_allowed width height) → IsCanonicalStrip width height bytes → is_some (lines_of width height bytes) ≡ true
 unfolding strip
 canonical_found law width height bytes sides is =
-    let p = page_of width height is.lines in
+    let p = page_of_lines width height is.lines in
     let page = plain_is_page width height is.lines sides is.grid in
     let found : lines_of width height (strip p) ≡ Some is.lines = lines_again law p (page_lines p page) in
     ap is_some (ap (lines_of width height) is.strip ∙ found)
@@ -137,7 +137,7 @@ refused_sides width height bytes refused =
 -- ---- what is seen of a kept strip
 
 -- the page whose strip was made
-pub coded_is : StripLaw → (p : Image) (frame : Frame) (bytes : List ℕ) → IsPage p → in_frame frame p.rows ≡ p → bytes ≡ strip_of p → image_kept frame bytes ≡ p
+pub coded_is : StripLaw → (p : Image) (frame : Frame) (bytes : List ℕ) → IsPage p → in_frame frame p.rows ≡ p → bytes ≡ bits_strip p → image_kept frame bytes ≡ p
 unfolding strip
 coded_is law p frame bytes page framed is =
     let found : lines_of p.width p.height (strip p) ≡ Some p.rows = lines_again law p (page_lines p page) in
@@ -147,10 +147,10 @@ coded_is law p frame bytes page framed is =
     ap (λ w. lines_of w frame.height bytes) wide ∙ ap (λ h. lines_of p.width h bytes) high ∙ ap (lines_of p.width p.height) is ∙ found in
     ap (λ o. in_frame frame (unwrap_or o [])) own ∙ framed
 
-pub coded_is_kept : StripLaw → (p : Image) (frame : Frame) (bytes : List ℕ) → IsPage p → in_frame frame p.rows ≡ p → bytes ≡ strip_of p → IsKept (image_kept frame bytes) bytes
+pub coded_is_kept : StripLaw → (p : Image) (frame : Frame) (bytes : List ℕ) → IsPage p → in_frame frame p.rows ≡ p → bytes ≡ bits_strip p → IsKeptPage (image_kept frame bytes) bytes
 coded_is_kept law p frame bytes page framed is =
     let same = coded_is law p frame bytes page framed is in
-    record { page = subst IsPage (sym same) page; strip = is ∙ ap strip_of (sym same) }
+    record { page = subst IsPage (sym same) page; strip = is ∙ ap bits_strip (sym same) }
 
 -- a frame that has what a page has beside its rows
 pub framed : (p : Image) (frame : Frame) → frame.width ≡ p.width → frame.height ≡ p.height → frame.xres ≡ p.xres → frame.yres ≡ p.yres → frame.unit ≡ p.unit → in_frame frame p.rows ≡ p
@@ -167,7 +167,7 @@ there None d is = absurd cc
 there (Some x) d is = refl
 
 -- bytes for which lines are found are kept
-pub taken_is_kept : (frame : Frame) (bytes : List ℕ) → FitsRes frame.xres → FitsRes frame.yres → is_some (lines_of frame.width frame.height bytes) ≡ true → IsKept (image_kept frame bytes) bytes
+pub taken_is_kept : (frame : Frame) (bytes : List ℕ) → FitsRes frame.xres → FitsRes frame.yres → is_some (lines_of frame.width frame.height bytes) ≡ true → IsKeptPage (image_kept frame bytes) bytes
 unfolding strip
 taken_is_kept frame bytes across down is =
     let lines = unwrap_or (lines_of frame.width frame.height bytes) [] in
@@ -182,7 +182,7 @@ anew_page frame bytes written sides across down so = record { sides = sides; xre
 
 -- what was written of them is kept
 pub anew_is_kept : StripLaw → (frame : Frame) (bytes written kept : List ℕ) → IsTrue (sides_are_allowed frame.width frame.height) → FitsRes frame.xres → FitsRes frame.yres → CodesOf frame.width frame.height bytes written → kept ≡ written
-    → IsKept (image_kept frame kept) kept
+    → IsKeptPage (image_kept frame kept) kept
 anew_is_kept law frame bytes written kept sides across down so same =
     coded_is_kept law (in_frame frame so.lines) frame kept (anew_page frame bytes written sides across down so) refl (same ∙ so.codes)
 

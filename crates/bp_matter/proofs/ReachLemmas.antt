@@ -8,7 +8,7 @@ use Rattle.std.proofs.lemmas.List.Folds.{list_any-append}
 use Rattle.std.proofs.lemmas.Map.Text.{is_eq-slice_cmp}
 use Rattle.std.proofs.lemmas.Slice.Eq.{bytes_eq-Decides}
 use Rattle.bp_core.proofs.DifferLemmas.{lent_cmp, code_test}
-use Rattle.bp_matter.specs.ValidPrefixes.{after_items, after_productions, after_reached, is_number, is_reached, is_under, is_used, spans_reach}
+use Rattle.bp_matter.specs.ValidPrefixes.{after_items, after_productions, after_reached, was_reached, is_reached, is_under, is_used, spans_reach}
 use Rattle.bp_matter.specs.declared.rows.PrefixRow.{PrefixRow}
 use Rattle.bp_matter.specs.declared.rows.ProductionRow.{ProductionRow}
 
@@ -81,7 +81,7 @@ reached_grown productions left others row map now key next reached l bytes back 
 }
 
 -- what is found says whether the prefix is used and its next number reached
-found_is : (found : Option (Option ℕ)) (n : ℕ) → is_reached found n ≡ (is_some found && is_number (unwrap_or found (Some 1)) n)
+found_is : (found : Option (Option ℕ)) (n : ℕ) → is_reached found n ≡ (is_some found && was_reached (unwrap_or found (Some 1)) n)
 found_is None n = refl
 found_is (Some None) n = refl
 found_is (Some (Some m)) n = refl
@@ -92,5 +92,5 @@ all_reached productions left map row key reached l bytes back =
     let whole : productions ≡ reached.done = reached.parts ∙ ap (λ (x : List ProductionRow). reached.done ++ x) l ∙ append-nil reached.done in
     let told = reached.tells key row.prefix.text bytes back in
     found_is (get lent_cmp map key) row.next
-    ∙ ap (λ (b : Bool). b && is_number (unwrap_or (get lent_cmp map key) (Some 1)) row.next) (told.0 ∙ ap (list_any (is_under row.prefix.text)) (sym whole))
-    ∙ ap (λ (n : Option ℕ). is_used productions row && is_number n row.next) (told.1 ∙ ap (after_productions row.prefix.text (Some 1)) (sym whole))
+    ∙ ap (λ (b : Bool). b && was_reached (unwrap_or (get lent_cmp map key) (Some 1)) row.next) (told.0 ∙ ap (list_any (is_under row.prefix.text)) (sym whole))
+    ∙ ap (λ (n : Option ℕ). is_used productions row && was_reached n row.next) (told.1 ∙ ap (after_productions row.prefix.text (Some 1)) (sym whole))

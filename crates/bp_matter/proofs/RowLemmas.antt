@@ -6,8 +6,8 @@ use Rattle.std.proofs.lemmas.List.{append-nil, nil_from_length}
 use Rattle.bp_core.specs.declared.kept.Row.{Row}
 use Rattle.bp_matter.specs.Written.{is_word, staff_written, field_written, doc_written, page_written, call_written, box_written, held_written, entry_written, prefix_written, production_written, batch_written, words_written}
 use Rattle.bp_matter.specs.KeptRows.{staff_kept, field_kept, doc_kept, page_kept, call_kept, box_kept, held_kept, entry_kept, prefix_kept, production_kept, batch_kept, words_kept}
-use Rattle.bp_matter.specs.ReadRows.{held_of, whole, staff_of, field_of, doc_of, page_of, call_of, box_of, entry_of, prefix_of, production_of, batch_of, words_of}
-use Rattle.bp_matter.specs.Reading.{Read, staff_at, field_at, doc_at, page_at, call_at, box_at, held_at, entry_at, prefix_row_at, production_at, batch_at, words_at}
+use Rattle.bp_matter.specs.ReadRows.{held_of, whole, staff_of, field_in_row, doc_of, page_in_row, call_in_row, box_of, entry_in_row, prefix_in_row, production_in_row, batch_in_row, words_in_row}
+use Rattle.bp_matter.specs.Reading.{Read, staff_at, field_at, doc_at, page_at, call_at, box_at, held_at, log_entry_at, prefix_row_at, production_at, batch_at, words_at}
 use Rattle.bp_matter.specs.declared.rows.StaffRow.{StaffRow}
 use Rattle.bp_matter.specs.declared.rows.FieldRow.{FieldRow}
 use Rattle.bp_matter.specs.declared.rows.DocRow.{DocRow}
@@ -91,10 +91,10 @@ staff_read row v h w e = let r = one_read (whole_codec (staff_codec row.k1 w)) r
 pub staff_again : (v : StaffRow) → IsTrue (staff_written v) → staff_of (staff_kept v) ≡ Some v
 staff_again v w = whole_again (staff_codec v.staff.0 (staff_written-parts v w).staff) v (w, refl)
 
-pub field_read : (row : Row) (v : FieldRow) → IsBytes row.body → IsTrue (is_word row.k1) → field_of row ≡ Some v → (row ≡ field_kept v) × IsTrue (field_written v)
+pub field_read : (row : Row) (v : FieldRow) → IsBytes row.body → IsTrue (is_word row.k1) → field_in_row row ≡ Some v → (row ≡ field_kept v) × IsTrue (field_written v)
 field_read row v h w e = let r = one_read (whole_codec (field_codec row.k1 w)) row 2 v h e in (rw (r.0.1) r.1, r.0.0)
 
-pub field_again : (v : FieldRow) → IsTrue (field_written v) → field_of (field_kept v) ≡ Some v
+pub field_again : (v : FieldRow) → IsTrue (field_written v) → field_in_row (field_kept v) ≡ Some v
 field_again v w = whole_again (field_codec v.field (field_written-parts v w).number) v (w, refl)
 
 pub doc_read : (row : Row) (v : DocRow) → IsBytes row.body → IsTrue (is_word row.k1) → doc_of row ≡ Some v → (row ≡ doc_kept v) × IsTrue (doc_written v)
@@ -103,16 +103,16 @@ doc_read row v h w e = let r = one_read (whole_codec (doc_codec row.k1 w)) row 3
 pub doc_again : (v : DocRow) → IsTrue (doc_written v) → doc_of (doc_kept v) ≡ Some v
 doc_again v w = whole_again (doc_codec v.doc.0 (doc_written-parts v w).doc) v (w, refl)
 
-pub page_read : StripLaw → (row : Row) (v : PageRow) → IsBytes row.body → IsTrue (is_word row.k1) → IsTrue (is_word row.k2) → page_of row ≡ Some v → (row ≡ page_kept v) × IsTrue (page_written v)
+pub page_read : StripLaw → (row : Row) (v : PageRow) → IsBytes row.body → IsTrue (is_word row.k1) → IsTrue (is_word row.k2) → page_in_row row ≡ Some v → (row ≡ page_kept v) × IsTrue (page_written v)
 page_read law row v h w w2 e = let r = two_read (page_codec law row.k1 row.k2 w w2) row 4 v h e in (rw (r.0.1, r.0.2) r.1, r.0.0)
 
-pub page_again : StripLaw → (v : PageRow) → IsTrue (page_written v) → page_of (page_kept v) ≡ Some v
+pub page_again : StripLaw → (v : PageRow) → IsTrue (page_written v) → page_in_row (page_kept v) ≡ Some v
 page_again law v w = (page_codec law v.doc.0 v.page.0 (page_written-parts v w).doc (page_written-parts v w).page).again v (w, refl, refl)
 
-pub call_read : (row : Row) (v : CallRow) → IsBytes row.body → IsTrue (is_word row.k1) → call_of row ≡ Some v → (row ≡ call_kept v) × IsTrue (call_written v)
+pub call_read : (row : Row) (v : CallRow) → IsBytes row.body → IsTrue (is_word row.k1) → call_in_row row ≡ Some v → (row ≡ call_kept v) × IsTrue (call_written v)
 call_read row v h w e = let r = one_read (whole_codec (call_codec row.k1 w)) row 5 v h e in (rw (r.0.1) r.1, r.0.0)
 
-pub call_again : (v : CallRow) → IsTrue (call_written v) → call_of (call_kept v) ≡ Some v
+pub call_again : (v : CallRow) → IsTrue (call_written v) → call_in_row (call_kept v) ≡ Some v
 call_again v w = whole_again (call_codec v.doc.0 (call_written-parts v w).doc) v (w, refl)
 
 pub box_read : (row : Row) (v : DocBox) → IsBytes row.body → IsTrue (is_word row.k1) → IsTrue (is_word row.k2) → box_of row ≡ Some v → (row ≡ box_kept v) × IsTrue (box_written v)
@@ -127,34 +127,34 @@ held_read row v h w w2 e = let r = two_read (whole_codec (held_codec row.k1 row.
 pub held_again : (v : DocHeld) → IsTrue (held_written v) → held_of (held_kept v) ≡ Some v
 held_again v w = whole_again (held_codec v.doc.0 v.row.field (and_parts (is_word v.doc.0) _ w).0 (and_parts (is_word v.doc.0) _ w).1) v (w, refl, refl)
 
-pub entry_read : (row : Row) (v : DocEntry) → IsBytes row.body → IsTrue (is_word row.k1) → entry_of row ≡ Some v → (row ≡ entry_kept v) × IsTrue (entry_written v)
+pub entry_read : (row : Row) (v : DocEntry) → IsBytes row.body → IsTrue (is_word row.k1) → entry_in_row row ≡ Some v → (row ≡ entry_kept v) × IsTrue (entry_written v)
 entry_read row v h w e = let r = one_read (whole_codec (entry_codec row.k1 w)) row 8 v h e in (rw (r.0.1) r.1, r.0.0)
 
-pub entry_again : (v : DocEntry) → IsTrue (entry_written v) → entry_of (entry_kept v) ≡ Some v
+pub entry_again : (v : DocEntry) → IsTrue (entry_written v) → entry_in_row (entry_kept v) ≡ Some v
 entry_again v w = whole_again (entry_codec v.doc.0 (entry_written-parts v w).doc) v (w, refl)
 
-pub prefix_read : (row : Row) (v : PrefixRow) → IsBytes row.body → IsTrue (is_word row.k1) → prefix_of row ≡ Some v → (row ≡ prefix_kept v) × IsTrue (prefix_written v)
+pub prefix_read : (row : Row) (v : PrefixRow) → IsBytes row.body → IsTrue (is_word row.k1) → prefix_in_row row ≡ Some v → (row ≡ prefix_kept v) × IsTrue (prefix_written v)
 prefix_read row v h w e = let r = one_read (whole_codec (prefix_row_codec row.k1 w)) row 9 v h e in (rw (r.0.1) r.1, r.0.0)
 
-pub prefix_again : (v : PrefixRow) → IsTrue (prefix_written v) → prefix_of (prefix_kept v) ≡ Some v
+pub prefix_again : (v : PrefixRow) → IsTrue (prefix_written v) → prefix_in_row (prefix_kept v) ≡ Some v
 prefix_again v w = whole_again (prefix_row_codec v.num (prefix_written-parts v w).num) v (w, refl)
 
-pub production_read : (row : Row) (v : ProductionRow) → IsBytes row.body → IsTrue (is_word row.k1) → production_of row ≡ Some v → (row ≡ production_kept v) × IsTrue (production_written v)
+pub production_read : (row : Row) (v : ProductionRow) → IsBytes row.body → IsTrue (is_word row.k1) → production_in_row row ≡ Some v → (row ≡ production_kept v) × IsTrue (production_written v)
 production_read row v h w e = let r = one_read (whole_codec (production_codec row.k1 w)) row 10 v h e in (rw (r.0.1) r.1, r.0.0)
 
-pub production_again : (v : ProductionRow) → IsTrue (production_written v) → production_of (production_kept v) ≡ Some v
+pub production_again : (v : ProductionRow) → IsTrue (production_written v) → production_in_row (production_kept v) ≡ Some v
 production_again v w = whole_again (production_codec v.num (production_written-parts v w).num) v (w, refl)
 
-pub batch_read : (row : Row) (v : BatchRow) → IsBytes row.body → IsTrue (is_word row.k1) → batch_of row ≡ Some v → (row ≡ batch_kept v) × IsTrue (batch_written v)
+pub batch_read : (row : Row) (v : BatchRow) → IsBytes row.body → IsTrue (is_word row.k1) → batch_in_row row ≡ Some v → (row ≡ batch_kept v) × IsTrue (batch_written v)
 batch_read row v h w e = let r = one_read (whole_codec (batch_codec row.k1 w)) row 11 v h e in (rw (r.0.1) r.1, r.0.0)
 
-pub batch_again : (v : BatchRow) → IsTrue (batch_written v) → batch_of (batch_kept v) ≡ Some v
+pub batch_again : (v : BatchRow) → IsTrue (batch_written v) → batch_in_row (batch_kept v) ≡ Some v
 batch_again v w = whole_again (batch_codec v.num (batch_written-parts v w).num) v (w, refl)
 
-pub words_read : (row : Row) (v : PageWords) → IsBytes row.body → IsTrue (is_word row.k1) → IsTrue (is_word row.k2) → words_of row ≡ Some v → (row ≡ words_kept v) × IsTrue (words_written v)
+pub words_read : (row : Row) (v : PageWords) → IsBytes row.body → IsTrue (is_word row.k1) → IsTrue (is_word row.k2) → words_in_row row ≡ Some v → (row ≡ words_kept v) × IsTrue (words_written v)
 words_read row v h w w2 e = let r = two_read (whole_codec (words_codec row.k1 row.k2 w w2)) row 12 v h e in (rw (r.0.1, r.0.2) r.1, r.0.0)
 
-pub words_again : (v : PageWords) → IsTrue (words_written v) → words_of (words_kept v) ≡ Some v
+pub words_again : (v : PageWords) → IsTrue (words_written v) → words_in_row (words_kept v) ≡ Some v
 words_again v w = whole_again (words_codec v.doc.0 v.page.0 (words_written-parts v w).doc (words_written-parts v w).page) v (w, refl, refl)
 
 -- ---- the same, as a function finds it
@@ -178,8 +178,8 @@ staff_found row bytes v rest o kind k2 k1 same h e is =
 pub field_found : (row : Row) (bytes : List ℕ) (v : FieldRow) (rest : List ℕ) (o : Option FieldRow) → row.kind ≡ 2 → row.k2 ≡ 0 → row.k1 < 2 ^ 32 → bytes ≡ row.body → IsBytes bytes → field_at row.k1 bytes ≡ Some (v, rest)
     → o ≡ cond (eqb (length rest) 0) (Some v) None → Found field_kept field_written row o
 field_found row bytes v rest o kind k2 k1 same h e is =
-    let read : field_of row ≡ o = rw (eq-eqb row.kind 2 kind, eq-eqb row.k2 0 k2) (whole_read (field_at row.k1) bytes row.body v rest o same e is) in
-    found_by field_kept field_written field_of row o read (λ w. field_read row w (rw same at h) (lt-ltb row.k1 (2 ^ 32) k1))
+    let read : field_in_row row ≡ o = rw (eq-eqb row.kind 2 kind, eq-eqb row.k2 0 k2) (whole_read (field_at row.k1) bytes row.body v rest o same e is) in
+    found_by field_kept field_written field_in_row row o read (λ w. field_read row w (rw same at h) (lt-ltb row.k1 (2 ^ 32) k1))
 
 pub doc_found : (row : Row) (bytes : List ℕ) (v : DocRow) (rest : List ℕ) (o : Option DocRow) → row.kind ≡ 3 → row.k2 ≡ 0 → row.k1 < 2 ^ 32 → bytes ≡ row.body → IsBytes bytes → doc_at row.k1 bytes ≡ Some (v, rest)
     → o ≡ cond (eqb (length rest) 0) (Some v) None → Found doc_kept doc_written row o
@@ -189,14 +189,14 @@ doc_found row bytes v rest o kind k2 k1 same h e is =
 
 pub page_found : StripLaw → (row : Row) (bytes : List ℕ) (v : PageRow) → row.kind ≡ 4 → row.k1 < 2 ^ 32 → row.k2 < 2 ^ 32 → bytes ≡ row.body → IsBytes bytes → page_at row.k1 row.k2 bytes ≡ Some v → Found page_kept page_written row (Some v)
 page_found law row bytes v kind k1 k2 same h e =
-    let read : page_of row ≡ Some v = rw (eq-eqb row.kind 4 kind) (ap (page_at row.k1 row.k2) (sym same) ∙ e) in
-    found_by page_kept page_written page_of row (Some v) read (λ w. page_read law row w (rw same at h) (lt-ltb row.k1 (2 ^ 32) k1) (lt-ltb row.k2 (2 ^ 32) k2))
+    let read : page_in_row row ≡ Some v = rw (eq-eqb row.kind 4 kind) (ap (page_at row.k1 row.k2) (sym same) ∙ e) in
+    found_by page_kept page_written page_in_row row (Some v) read (λ w. page_read law row w (rw same at h) (lt-ltb row.k1 (2 ^ 32) k1) (lt-ltb row.k2 (2 ^ 32) k2))
 
 pub call_found : (row : Row) (bytes : List ℕ) (v : CallRow) (rest : List ℕ) (o : Option CallRow) → row.kind ≡ 5 → row.k2 ≡ 0 → row.k1 < 2 ^ 32 → bytes ≡ row.body → IsBytes bytes → call_at row.k1 bytes ≡ Some (v, rest)
     → o ≡ cond (eqb (length rest) 0) (Some v) None → Found call_kept call_written row o
 call_found row bytes v rest o kind k2 k1 same h e is =
-    let read : call_of row ≡ o = rw (eq-eqb row.kind 5 kind, eq-eqb row.k2 0 k2) (whole_read (call_at row.k1) bytes row.body v rest o same e is) in
-    found_by call_kept call_written call_of row o read (λ w. call_read row w (rw same at h) (lt-ltb row.k1 (2 ^ 32) k1))
+    let read : call_in_row row ≡ o = rw (eq-eqb row.kind 5 kind, eq-eqb row.k2 0 k2) (whole_read (call_at row.k1) bytes row.body v rest o same e is) in
+    found_by call_kept call_written call_in_row row o read (λ w. call_read row w (rw same at h) (lt-ltb row.k1 (2 ^ 32) k1))
 
 pub box_found : (row : Row) (bytes : List ℕ) (v : DocBox) (rest : List ℕ) (o : Option DocBox) → row.kind ≡ 6 → row.k1 < 2 ^ 32 → row.k2 < 2 ^ 32 → bytes ≡ row.body → IsBytes bytes → box_at row.k1 row.k2 bytes ≡ Some (v, rest)
     → o ≡ cond (eqb (length rest) 0) (Some v) None → Found box_kept box_written row o
@@ -210,32 +210,32 @@ held_found row bytes v rest o kind k1 k2 same h e is =
     let read : held_of row ≡ o = rw (eq-eqb row.kind 7 kind) (whole_read (held_at row.k1 row.k2) bytes row.body v rest o same e is) in
     found_by held_kept held_written held_of row o read (λ w. held_read row w (rw same at h) (lt-ltb row.k1 (2 ^ 32) k1) (lt-ltb row.k2 (2 ^ 32) k2))
 
-pub entry_found : (row : Row) (bytes : List ℕ) (v : DocEntry) (rest : List ℕ) (o : Option DocEntry) → row.kind ≡ 8 → row.k2 ≡ 0 → row.k1 < 2 ^ 32 → bytes ≡ row.body → IsBytes bytes → entry_at row.k1 bytes ≡ Some (v, rest)
+pub entry_found : (row : Row) (bytes : List ℕ) (v : DocEntry) (rest : List ℕ) (o : Option DocEntry) → row.kind ≡ 8 → row.k2 ≡ 0 → row.k1 < 2 ^ 32 → bytes ≡ row.body → IsBytes bytes → log_entry_at row.k1 bytes ≡ Some (v, rest)
     → o ≡ cond (eqb (length rest) 0) (Some v) None → Found entry_kept entry_written row o
 entry_found row bytes v rest o kind k2 k1 same h e is =
-    let read : entry_of row ≡ o = rw (eq-eqb row.kind 8 kind, eq-eqb row.k2 0 k2) (whole_read (entry_at row.k1) bytes row.body v rest o same e is) in
-    found_by entry_kept entry_written entry_of row o read (λ w. entry_read row w (rw same at h) (lt-ltb row.k1 (2 ^ 32) k1))
+    let read : entry_in_row row ≡ o = rw (eq-eqb row.kind 8 kind, eq-eqb row.k2 0 k2) (whole_read (log_entry_at row.k1) bytes row.body v rest o same e is) in
+    found_by entry_kept entry_written entry_in_row row o read (λ w. entry_read row w (rw same at h) (lt-ltb row.k1 (2 ^ 32) k1))
 
 pub prefix_found : (row : Row) (bytes : List ℕ) (v : PrefixRow) (rest : List ℕ) (o : Option PrefixRow) → row.kind ≡ 9 → row.k2 ≡ 0 → row.k1 < 2 ^ 32 → bytes ≡ row.body → IsBytes bytes → prefix_row_at row.k1 bytes ≡ Some (v, rest)
     → o ≡ cond (eqb (length rest) 0) (Some v) None → Found prefix_kept prefix_written row o
 prefix_found row bytes v rest o kind k2 k1 same h e is =
-    let read : prefix_of row ≡ o = rw (eq-eqb row.kind 9 kind, eq-eqb row.k2 0 k2) (whole_read (prefix_row_at row.k1) bytes row.body v rest o same e is) in
-    found_by prefix_kept prefix_written prefix_of row o read (λ w. prefix_read row w (rw same at h) (lt-ltb row.k1 (2 ^ 32) k1))
+    let read : prefix_in_row row ≡ o = rw (eq-eqb row.kind 9 kind, eq-eqb row.k2 0 k2) (whole_read (prefix_row_at row.k1) bytes row.body v rest o same e is) in
+    found_by prefix_kept prefix_written prefix_in_row row o read (λ w. prefix_read row w (rw same at h) (lt-ltb row.k1 (2 ^ 32) k1))
 
 pub production_found : (row : Row) (bytes : List ℕ) (v : ProductionRow) (rest : List ℕ) (o : Option ProductionRow) → row.kind ≡ 10 → row.k2 ≡ 0 → row.k1 < 2 ^ 32 → bytes ≡ row.body → IsBytes bytes → production_at row.k1 bytes ≡ Some (v, rest)
     → o ≡ cond (eqb (length rest) 0) (Some v) None → Found production_kept production_written row o
 production_found row bytes v rest o kind k2 k1 same h e is =
-    let read : production_of row ≡ o = rw (eq-eqb row.kind 10 kind, eq-eqb row.k2 0 k2) (whole_read (production_at row.k1) bytes row.body v rest o same e is) in
-    found_by production_kept production_written production_of row o read (λ w. production_read row w (rw same at h) (lt-ltb row.k1 (2 ^ 32) k1))
+    let read : production_in_row row ≡ o = rw (eq-eqb row.kind 10 kind, eq-eqb row.k2 0 k2) (whole_read (production_at row.k1) bytes row.body v rest o same e is) in
+    found_by production_kept production_written production_in_row row o read (λ w. production_read row w (rw same at h) (lt-ltb row.k1 (2 ^ 32) k1))
 
 pub batch_found : (row : Row) (bytes : List ℕ) (v : BatchRow) (rest : List ℕ) (o : Option BatchRow) → row.kind ≡ 11 → row.k2 ≡ 0 → row.k1 < 2 ^ 32 → bytes ≡ row.body → IsBytes bytes → batch_at row.k1 bytes ≡ Some (v, rest)
     → o ≡ cond (eqb (length rest) 0) (Some v) None → Found batch_kept batch_written row o
 batch_found row bytes v rest o kind k2 k1 same h e is =
-    let read : batch_of row ≡ o = rw (eq-eqb row.kind 11 kind, eq-eqb row.k2 0 k2) (whole_read (batch_at row.k1) bytes row.body v rest o same e is) in
-    found_by batch_kept batch_written batch_of row o read (λ w. batch_read row w (rw same at h) (lt-ltb row.k1 (2 ^ 32) k1))
+    let read : batch_in_row row ≡ o = rw (eq-eqb row.kind 11 kind, eq-eqb row.k2 0 k2) (whole_read (batch_at row.k1) bytes row.body v rest o same e is) in
+    found_by batch_kept batch_written batch_in_row row o read (λ w. batch_read row w (rw same at h) (lt-ltb row.k1 (2 ^ 32) k1))
 
 pub words_found : (row : Row) (bytes : List ℕ) (v : PageWords) (rest : List ℕ) (o : Option PageWords) → row.kind ≡ 12 → row.k1 < 2 ^ 32 → row.k2 < 2 ^ 32 → bytes ≡ row.body → IsBytes bytes → words_at row.k1 row.k2 bytes ≡ Some (v, rest)
     → o ≡ cond (eqb (length rest) 0) (Some v) None → Found words_kept words_written row o
 words_found row bytes v rest o kind k1 k2 same h e is =
-    let read : words_of row ≡ o = rw (eq-eqb row.kind 12 kind) (whole_read (words_at row.k1 row.k2) bytes row.body v rest o same e is) in
-    found_by words_kept words_written words_of row o read (λ w. words_read row w (rw same at h) (lt-ltb row.k1 (2 ^ 32) k1) (lt-ltb row.k2 (2 ^ 32) k2))
+    let read : words_in_row row ≡ o = rw (eq-eqb row.kind 12 kind) (whole_read (words_at row.k1 row.k2) bytes row.body v rest o same e is) in
+    found_by words_kept words_written words_in_row row o read (λ w. words_read row w (rw same at h) (lt-ltb row.k1 (2 ^ 32) k1) (lt-ltb row.k2 (2 ^ 32) k2))

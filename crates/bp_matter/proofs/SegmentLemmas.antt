@@ -6,7 +6,7 @@ use Rattle.std.proofs.lemmas.List.{append-nil}
 use Rattle.bp_core.specs.declared.kept.Row.{Row}
 use Rattle.bp_matter.proofs.ImageLemmas.{StripLaw}
 use Rattle.bp_matter.specs.KeptRows.{staff_kept, field_kept, doc_kept, page_kept, call_kept, box_kept, held_kept, entry_kept, prefix_kept, production_kept, batch_kept, words_kept, rows_of}
-use Rattle.bp_matter.specs.ReadRows.{held_of, Segment, segment_of, segment_from, matter_at_front, staff_of, field_of, doc_of, page_of, call_of, box_of, entry_of, prefix_of, production_of, batch_of, words_of}
+use Rattle.bp_matter.specs.ReadRows.{held_of, Segment, segment_of, segment_from, matter_at_front, staff_of, field_in_row, doc_of, page_in_row, call_in_row, box_of, entry_in_row, prefix_in_row, production_in_row, batch_in_row, words_in_row}
 use Rattle.bp_matter.specs.Written.{staff_written, field_written, doc_written, page_written, call_written, box_written, held_written, entry_written, prefix_written, production_written, batch_written, words_written}
 use Rattle.bp_matter.specs.Matter.{Matter}
 use Rattle.bp_matter.specs.Valid.{IsValid, AreWritten}
@@ -70,17 +70,17 @@ front-again law m w =
     let beyond-docs : Beyond 2 docs = beyond 2 doc_kept m.docs pages (λ v. refl) beyond-pages in
     let beyond-fields : Beyond 1 fields = beyond 1 field_kept m.fields docs (λ v. refl) beyond-docs in
     let e1 : segment_of staff_of staff ≡ (m.staff, fields) = segment-again staff_kept staff_of staff_written staff_again m.staff fields w.staff (refuses 1 staff_of fields (λ row other. rw other refl) beyond-fields) in
-    let e2 : segment_of field_of fields ≡ (m.fields, docs) = segment-again field_kept field_of field_written field_again m.fields docs w.fields (refuses 2 field_of docs (λ row other. rw other refl) beyond-docs) in
+    let e2 : segment_of field_in_row fields ≡ (m.fields, docs) = segment-again field_kept field_in_row field_written field_again m.fields docs w.fields (refuses 2 field_in_row docs (λ row other. rw other refl) beyond-docs) in
     let e3 : segment_of doc_of docs ≡ (m.docs, pages) = segment-again doc_kept doc_of doc_written doc_again m.docs pages w.docs (refuses 3 doc_of pages (λ row other. rw other refl) beyond-pages) in
-    let e4 : segment_of page_of pages ≡ (m.pages, calls) = segment-again page_kept page_of page_written (page_again law) m.pages calls w.pages (refuses 4 page_of calls (λ row other. rw other refl) beyond-calls) in
-    let e5 : segment_of call_of calls ≡ (m.calls, boxes) = segment-again call_kept call_of call_written call_again m.calls boxes w.calls (refuses 5 call_of boxes (λ row other. rw other refl) beyond-boxes) in
+    let e4 : segment_of page_in_row pages ≡ (m.pages, calls) = segment-again page_kept page_in_row page_written (page_again law) m.pages calls w.pages (refuses 4 page_in_row calls (λ row other. rw other refl) beyond-calls) in
+    let e5 : segment_of call_in_row calls ≡ (m.calls, boxes) = segment-again call_kept call_in_row call_written call_again m.calls boxes w.calls (refuses 5 call_in_row boxes (λ row other. rw other refl) beyond-boxes) in
     let e6 : segment_of box_of boxes ≡ (m.boxes, held) = segment-again box_kept box_of box_written box_again m.boxes held w.boxes (refuses 6 box_of held (λ row other. rw other refl) beyond-held) in
     let e7 : segment_of held_of held ≡ (m.held, entries) = segment-again held_kept held_of held_written held_again m.held entries w.held (refuses 7 held_of entries (λ row other. rw other refl) beyond-entries) in
-    let e8 : segment_of entry_of entries ≡ (m.entries, prefixes) = segment-again entry_kept entry_of entry_written entry_again m.entries prefixes w.entries (refuses 8 entry_of prefixes (λ row other. rw other refl) beyond-prefixes) in
-    let e9 : segment_of prefix_of prefixes ≡ (m.prefixes, productions) = segment-again prefix_kept prefix_of prefix_written prefix_again m.prefixes productions w.prefixes (refuses 9 prefix_of productions (λ row other. rw other refl) beyond-productions) in
-    let e10 : segment_of production_of productions ≡ (m.productions, batches) = segment-again production_kept production_of production_written production_again m.productions batches w.productions (refuses 10 production_of batches (λ row other. rw other refl) beyond-batches) in
-    let e11 : segment_of batch_of batches ≡ (m.batches, words) = segment-again batch_kept batch_of batch_written batch_again m.batches words w.batches (refuses 11 batch_of words (λ row other. rw other refl) beyond-words) in
-    let e12 : segment_of words_of words ≡ (m.words, []) = segment_last words_kept words_of words_written words_again m.words w.words in
+    let e8 : segment_of entry_in_row entries ≡ (m.entries, prefixes) = segment-again entry_kept entry_in_row entry_written entry_again m.entries prefixes w.entries (refuses 8 entry_in_row prefixes (λ row other. rw other refl) beyond-prefixes) in
+    let e9 : segment_of prefix_in_row prefixes ≡ (m.prefixes, productions) = segment-again prefix_kept prefix_in_row prefix_written prefix_again m.prefixes productions w.prefixes (refuses 9 prefix_in_row productions (λ row other. rw other refl) beyond-productions) in
+    let e10 : segment_of production_in_row productions ≡ (m.productions, batches) = segment-again production_kept production_in_row production_written production_again m.productions batches w.productions (refuses 10 production_in_row batches (λ row other. rw other refl) beyond-batches) in
+    let e11 : segment_of batch_in_row batches ≡ (m.batches, words) = segment-again batch_kept batch_in_row batch_written batch_again m.batches words w.batches (refuses 11 batch_in_row words (λ row other. rw other refl) beyond-words) in
+    let e12 : segment_of words_in_row words ≡ (m.words, []) = segment_last words_kept words_in_row words_written words_again m.words w.words in
     rw (e1, e2, e3, e4, e5, e6, e7, e8, e9, e10, e11, e12) refl
 
 pub are_written : (m : Matter) → IsValid m → AreWritten m

@@ -21,11 +21,12 @@ use Rattle.bp_matter.specs.declared.rows.ProductionRow.{ProductionRow}
 use Rattle.bp_matter.specs.declared.rows.BatchRow.{BatchRow}
 use Rattle.bp_text.specs.declared.words.Word.{Word}
 use Rattle.bp_matter.specs.declared.rows.PageWords.{PageWords}
-use Rattle.bp_matter.specs.Fields.{byte, word, long, text, list, flag, optional, role_number, basis, ink_number, treatment, state, rect, span, prefix}
+use Rattle.bp_matter.specs.Fields.{byte, word, long_kept, text_kept, list, flag, optional, role_number, basis, ink_number, treatment, state, rect, span, prefix}
 
 -- parts that several bodies share
 abbrev pub entry_part : Entry → List ℕ
-entry_part e = text e.date ++ (text e.author ++ (text e.recipients ++ text e.description))
+entry_part e =
+    text_kept e.date ++ (text_kept e.author ++ (text_kept e.recipients ++ text_kept e.description))
 
 -- a box but its number
 abbrev pub box_rest : BoxRow → List ℕ
@@ -41,20 +42,20 @@ held_part h = word h.field ++ basis h.basis
 
 -- a word within a page
 abbrev pub word_part : Word → List ℕ
-word_part w = word w.line ++ (rect w.rect ++ text w.text)
+word_part w = word w.line ++ (rect w.rect ++ text_kept w.text)
 
 -- an item within a production
 abbrev pub item_part : Item → List ℕ
 item_part i =
     word i.doc.0 ++ (word i.parent.0 ++ (treatment i.treatment ++ (list box_part i.boxes
-    ++ (list held_part i.held ++ (optional entry_part i.entry ++ (text i.designation
+    ++ (list held_part i.held ++ (optional entry_part i.entry ++ (text_kept i.designation
     ++ span i.span))))))
 
 -- a request within a production
 abbrev pub request_part : Request → List ℕ
 request_part r =
-    text r.id ++ (text r.volume ++ (prefix r.prefix ++ (word r.from.0 ++ (word r.to.0
-    ++ list text r.fields))))
+    text_kept r.id ++ (text_kept r.volume ++ (prefix r.prefix ++ (word r.from.0 ++ (word r.to.0
+    ++ list text_kept r.fields))))
 
 -- the strip has no length before it: it is the rest
 abbrev pub image_part : Image → List ℕ
@@ -64,17 +65,17 @@ image_part p =
 
 -- the body of each kind of row
 abbrev pub staff_body : StaffRow → List ℕ
-staff_body row = byte 1 ++ (byte (role_number row.role) ++ (row.digest ++ text row.name))
+staff_body row = byte 1 ++ (byte (role_number row.role) ++ (row.digest ++ text_kept row.name))
 
 -- the body of a field
 abbrev pub field_body : FieldRow → List ℕ
-field_body row = byte 1 ++ text row.name
+field_body row = byte 1 ++ text_kept row.name
 
 -- the body of a document
 abbrev pub doc_body : DocRow → List ℕ
 doc_body row =
-    byte 1 ++ (word row.parent.0 ++ (word row.pages ++ (word row.batch ++ (text row.id
-    ++ list text row.values))))
+    byte 1 ++ (word row.parent.0 ++ (word row.pages ++ (word row.batch ++ (text_kept row.id
+    ++ list text_kept row.values))))
 
 -- the body of a page
 abbrev pub page_body : PageRow → List ℕ
@@ -84,7 +85,7 @@ page_body row = byte 1 ++ image_part row.image
 abbrev pub call_body : CallRow → List ℕ
 call_body row =
     byte 1 ++ (state row.state ++ (flag row.responsive ++ (treatment row.treatment
-    ++ text row.designation)))
+    ++ text_kept row.designation)))
 
 -- the body of a box
 abbrev pub box_body : DocBox → List ℕ
@@ -100,7 +101,8 @@ entry_body row = byte 1 ++ entry_part row.entry
 
 -- the body of a prefix
 abbrev pub prefix_body : PrefixRow → List ℕ
-prefix_body row = byte 1 ++ (byte row.prefix.width ++ (long row.next ++ text row.prefix.text))
+prefix_body row =
+    byte 1 ++ (byte row.prefix.width ++ (long_kept row.next ++ text_kept row.prefix.text))
 
 -- the body of a production
 abbrev pub production_body : ProductionRow → List ℕ
@@ -110,7 +112,8 @@ production_body row =
 
 -- the body of a batch
 abbrev pub batch_body : BatchRow → List ℕ
-batch_body row = byte 1 ++ (row.digest ++ (word row.documents ++ (word row.pages ++ text row.name)))
+batch_body row =
+    byte 1 ++ (row.digest ++ (word row.documents ++ (word row.pages ++ text_kept row.name)))
 
 -- the body of the words of a page
 abbrev pub words_body : PageWords → List ℕ

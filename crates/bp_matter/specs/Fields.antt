@@ -28,13 +28,13 @@ word n = to_le_bytes w32 n
 
 -- a number of 64 bits
 -- by RFC 3629 for the bytes of a text
-unfoldable pub long : ℕ → List ℕ
-long n = to_le_bytes w64 n
+unfoldable pub long_kept : ℕ → List ℕ
+long_kept n = to_le_bytes w64 n
 
 -- four bytes of length, and the characters in UTF-8
 -- by RFC 3629 for the bytes of a text
-abbrev pub text : List ℕ → List ℕ
-text characters = word (length (encode_utf8_all characters)) ++ encode_utf8_all characters
+abbrev pub text_kept : List ℕ → List ℕ
+text_kept characters = word (length (encode_utf8_all characters)) ++ encode_utf8_all characters
 
 -- a list of values, each written so
 -- by RFC 3629 for the bytes of a text
@@ -114,20 +114,20 @@ state_number (First _) = 1
 state_number (Confirmed _ _) = 2
 
 -- who edited last; 0 for nobody
-abbrev pub editor_of : State → ℕ
-editor_of Uncalled = 0
-editor_of (First editor) = editor.0
-editor_of (Confirmed editor _) = editor.0
+abbrev pub editor_number : State → ℕ
+editor_number Uncalled = 0
+editor_number (First editor) = editor.0
+editor_number (Confirmed editor _) = editor.0
 
 -- 0 for none
-abbrev pub confirmer_of : State → ℕ
-confirmer_of (Confirmed _ confirmer) = confirmer.0
-confirmer_of _ = 0
+abbrev pub confirmer_number : State → ℕ
+confirmer_number (Confirmed _ confirmer) = confirmer.0
+confirmer_number _ = 0
 
 -- a state, its last editor and its confirmer
 -- by RFC 3629 for the bytes of a text
 abbrev pub state : State → List ℕ
-state s = byte (state_number s) ++ (word (editor_of s) ++ word (confirmer_of s))
+state s = byte (state_number s) ++ (word (editor_number s) ++ word (confirmer_number s))
 
 -- a rectangle
 -- by RFC 3629 for the bytes of a text
@@ -137,9 +137,9 @@ rect r = word r.left ++ (word r.top ++ (word r.width ++ word r.height))
 -- the first and the last number of a span
 -- by RFC 3629 for the bytes of a text
 abbrev pub span : Span → List ℕ
-span s = long s.first ++ long s.last
+span s = long_kept s.first ++ long_kept s.last
 
 -- a prefix and its width
 -- by RFC 3629 for the bytes of a text
 abbrev pub prefix : Prefix → List ℕ
-prefix p = text p.text ++ byte p.width
+prefix p = text_kept p.text ++ byte p.width

@@ -9,15 +9,15 @@ use Rattle.bp_rows.specs.Limits.{sides_are_allowed}
 use Rattle.bp_rows.specs.declared.resolution.Unit.{Unit as LengthUnit}
 use Rattle.bp_rows.specs.declared.resolution.Unit.TheVariants as units
 use Rattle.bp_t6.specs.Read.{StripReads}
-use Rattle.bp_t6.specs.Strips.{page_of as plain_image}
-use Rattle.bp_t6.specs.Written.{strip_of}
+use Rattle.bp_t6.specs.Strips.{page_of_lines as plain_image}
+use Rattle.bp_t6.specs.Written.{bits_strip}
 use Rattle.bp_matter.specs.declared.kept_page.Frame.{Frame}
 
 -- its strip: the rows coded, the end of the facsimile block and zero bits to the byte (ITU-T T.6,
 -- 2.2.4)
 -- by ITU-T T.6; TIFF 6.0, section 8, ResolutionUnit
 unfoldable pub strip : Image → List ℕ
-strip p = strip_of p
+strip p = bits_strip p
 
 -- the number of a unit of length (TIFF 6.0, section 8, ResolutionUnit)
 -- by ITU-T T.6; TIFF 6.0, section 8, ResolutionUnit
@@ -79,9 +79,9 @@ abbrev pub image_kept : Frame → List ℕ → Image
 image_kept frame bytes = in_frame frame (unwrap_or (lines_of frame.width frame.height bytes) [])
 
 -- what is kept of a page is its strip
-pub record IsKept (p : Image) (bytes : List ℕ) : Type 0 where
+pub record IsKeptPage (p : Image) (bytes : List ℕ) : Type 0 where
   pub page : IsPage p
-  pub strip : bytes ≡ strip_of p
+  pub strip : bytes ≡ bits_strip p
 
 -- a page in a frame whose lines are read from a strip
 -- by ITU-T T.6, 2.2.3
@@ -105,7 +105,7 @@ pub record CodesOf (width height : ℕ) (bytes written : List ℕ) : Type 0 wher
   pub lines : List (List Bool)
   pub grid : IsGrid width height lines
   pub reads : StripReads (bits_of High bytes) width height lines
-  pub codes : written ≡ strip_of (plain_image width height lines)
+  pub codes : written ≡ bits_strip (plain_image width height lines)
 
 -- the strip of the lines that are read from the bytes, or that none are
 abbrev pub CodedAgain : ℕ → ℕ → List ℕ → Option (List ℕ) → Type 0

@@ -93,8 +93,8 @@ text_at bytes = do
   characters_at n.0 n.1
 
 -- a value of a byte, where it has one
-abbrev pub value_of : {V : Type 0} → (ℕ → Option V) → List ℕ → Read V
-value_of value bytes = do
+abbrev pub value_of_byte : {V : Type 0} → (ℕ → Option V) → List ℕ → Read V
+value_of_byte value bytes = do
   b ← u8_at bytes
   v ← value b.0
   Some (v, b.1)
@@ -104,8 +104,8 @@ abbrev pub one_of : ℕ → Option (Unit {0})
 one_of n = if n == 1 then Some tt else None
 
 -- the values of a byte
-abbrev pub flag_of : ℕ → Option Bool
-flag_of n = if n == 0 then Some false else (if n == 1 then Some true else None)
+abbrev pub flag_of_byte : ℕ → Option Bool
+flag_of_byte n = if n == 0 then Some false else (if n == 1 then Some true else None)
 
 -- the ground of a byte
 abbrev pub basis_of : ℕ → Option Basis
@@ -114,8 +114,8 @@ basis_of n =
     else (if n == 3 then Some Ts else None)))
 
 -- the treatment of a byte
-abbrev pub treatment_of : ℕ → Option Treatment
-treatment_of n =
+abbrev pub treatment_of_byte : ℕ → Option Treatment
+treatment_of_byte n =
     if n == 0 then Some Produce else (if n == 1 then Some Redact else (if n == 2
     then Some (Withhold Ac) else (if n == 3 then Some (Withhold Wp) else None)))
 
@@ -130,8 +130,8 @@ abbrev pub ink_of : ℕ → Option Ink
 ink_of n = if n == 1 then Some Black else (if n == 2 then Some Lettered else None)
 
 -- the unit of a byte
-abbrev pub unit_of : ℕ → Option LengthUnit
-unit_of n =
+abbrev pub unit_of_byte : ℕ → Option LengthUnit
+unit_of_byte n =
     if n == 1 then Some units.None else (if n == 2 then Some units.Inch else (if n == 3
     then Some units.Centimetre else None))
 
@@ -184,7 +184,7 @@ value_there read true bytes = do
 -- a flag, and a value where it is 1
 unfoldable pub optional_at : {V : Type 0} → (List ℕ → Read V) → List ℕ → Read (Option V)
 optional_at read bytes = do
-  there ← value_of flag_of bytes
+  there ← value_of_byte flag_of_byte bytes
   value_there read there.0 there.1
 
 -- parts that several bodies share
@@ -234,7 +234,7 @@ unfoldable pub box_rest_at : ℕ → List ℕ → Read BoxRow
 box_rest_at num bytes = do
   page ← u32_at bytes
   rect ← rect_at page.1
-  basis ← value_of basis_of rect.1
+  basis ← value_of_byte basis_of rect.1
   Some (record { num = num; page = record { 0 = page.0 }; rect = rect.0; basis = basis.0 }, basis.1)
 
 -- a box with its number
@@ -247,7 +247,7 @@ box_part_at bytes = do
 unfoldable pub held_part_at : List ℕ → Read HeldRow
 held_part_at bytes = do
   field ← u32_at bytes
-  basis ← value_of basis_of field.1
+  basis ← value_of_byte basis_of field.1
   Some (record { field = field.0; basis = basis.0 }, basis.1)
 
 -- a word of a page
@@ -263,7 +263,7 @@ unfoldable pub item_at : List ℕ → Read Item
 item_at bytes = do
   doc ← u32_at bytes
   parent ← u32_at doc.1
-  treatment ← value_of treatment_of parent.1
+  treatment ← value_of_byte treatment_of_byte parent.1
   boxes ← list_at box_part_at treatment.1
   held ← list_at held_part_at boxes.1
   entry ← optional_at entry_fields_at held.1
@@ -309,8 +309,8 @@ request_at bytes = do
 -- a member of the staff by number and body
 unfoldable pub staff_at : ℕ → List ℕ → Read StaffRow
 staff_at staff bytes = do
-  version ← value_of one_of bytes
-  role ← value_of role_of version.1
+  version ← value_of_byte one_of bytes
+  role ← value_of_byte role_of version.1
   digest ← bytes_at 32 role.1
   name ← text_at digest.1
   Some (
@@ -326,14 +326,14 @@ staff_at staff bytes = do
 -- a field by number and body
 unfoldable pub field_at : ℕ → List ℕ → Read FieldRow
 field_at field bytes = do
-  version ← value_of one_of bytes
+  version ← value_of_byte one_of bytes
   name ← text_at version.1
   Some (record { field = field; name = name.0 }, name.1)
 
 -- a document by number and body
 unfoldable pub doc_at : ℕ → List ℕ → Read DocRow
 doc_at doc bytes = do
-  version ← value_of one_of bytes
+  version ← value_of_byte one_of bytes
   parent ← u32_at version.1
   pages ← u32_at parent.1
   batch ← u32_at pages.1
@@ -352,15 +352,15 @@ doc_at doc bytes = do
   )
 
 -- an image whose strip is all that is left
-unfoldable pub image_at : List ℕ → Option Image
-image_at bytes = do
+unfoldable pub image_left : List ℕ → Option Image
+image_left bytes = do
   width ← u32_at bytes
   height ← u32_at width.1
   xres_num ← u32_at height.1
   xres_den ← u32_at xres_num.1
   yres_num ← u32_at xres_den.1
   yres_den ← u32_at yres_num.1
-  unit ← value_of unit_of yres_den.1
+  unit ← value_of_byte unit_of_byte yres_den.1
   lines ← lines_of width.0 height.0 unit.1
   Some (record {
     width = width.0;
@@ -377,17 +377,17 @@ image_at bytes = do
 -- a page by its numbers and body
 unfoldable pub page_at : ℕ → ℕ → List ℕ → Option PageRow
 page_at doc page bytes = do
-  version ← value_of one_of bytes
-  image ← image_at version.1
+  version ← value_of_byte one_of bytes
+  image ← image_left version.1
   Some (record { doc = record { 0 = doc }; page = record { 0 = page }; image = image })
 
 -- a call by document and body
 unfoldable pub call_at : ℕ → List ℕ → Read CallRow
 call_at doc bytes = do
-  version ← value_of one_of bytes
+  version ← value_of_byte one_of bytes
   state ← state_at version.1
-  responsive ← value_of flag_of state.1
-  treatment ← value_of treatment_of responsive.1
+  responsive ← value_of_byte flag_of_byte state.1
+  treatment ← value_of_byte treatment_of_byte responsive.1
   designation ← text_at treatment.1
   Some (
     record {
@@ -403,15 +403,15 @@ call_at doc bytes = do
 -- a box by its numbers and body
 unfoldable pub box_at : ℕ → ℕ → List ℕ → Read DocBox
 box_at doc num bytes = do
-  version ← value_of one_of bytes
+  version ← value_of_byte one_of bytes
   row ← box_rest_at num version.1
   Some (record { doc = record { 0 = doc }; row = row.0 }, row.1)
 
 -- a held field by its numbers and body
 unfoldable pub held_at : ℕ → ℕ → List ℕ → Read DocHeld
 held_at doc field bytes = do
-  version ← value_of one_of bytes
-  basis ← value_of basis_of version.1
+  version ← value_of_byte one_of bytes
+  basis ← value_of_byte basis_of version.1
   Some (
     record {
       doc = record { 0 = doc };
@@ -424,16 +424,16 @@ held_at doc field bytes = do
   )
 
 -- a log entry by document and body
-unfoldable pub entry_at : ℕ → List ℕ → Read DocEntry
-entry_at doc bytes = do
-  version ← value_of one_of bytes
+unfoldable pub log_entry_at : ℕ → List ℕ → Read DocEntry
+log_entry_at doc bytes = do
+  version ← value_of_byte one_of bytes
   entry ← entry_fields_at version.1
   Some (record { doc = record { 0 = doc }; entry = entry.0 }, entry.1)
 
 -- a prefix by number and body
 unfoldable pub prefix_row_at : ℕ → List ℕ → Read PrefixRow
 prefix_row_at num bytes = do
-  version ← value_of one_of bytes
+  version ← value_of_byte one_of bytes
   width ← u8_at version.1
   next ← u64_at width.1
   text ← text_at next.1
@@ -449,7 +449,7 @@ prefix_row_at num bytes = do
 -- a production by number and body, whose version is its ink
 unfoldable pub production_at : ℕ → List ℕ → Read ProductionRow
 production_at num bytes = do
-  ink ← value_of ink_of bytes
+  ink ← value_of_byte ink_of bytes
   request ← request_at ink.1
   items ← list_at item_at request.1
   Some (
@@ -468,7 +468,7 @@ production_at num bytes = do
 -- a batch by number and body
 unfoldable pub batch_at : ℕ → List ℕ → Read BatchRow
 batch_at num bytes = do
-  version ← value_of one_of bytes
+  version ← value_of_byte one_of bytes
   digest ← bytes_at 32 version.1
   documents ← u32_at digest.1
   pages ← u32_at documents.1
@@ -487,6 +487,6 @@ batch_at num bytes = do
 -- the words of a page by its numbers and body
 unfoldable pub words_at : ℕ → ℕ → List ℕ → Read PageWords
 words_at doc page bytes = do
-  version ← value_of one_of bytes
+  version ← value_of_byte one_of bytes
   words ← list_at word_part_at version.1
   Some (record { doc = record { 0 = doc }; page = record { 0 = page }; words = words.0 }, words.1)

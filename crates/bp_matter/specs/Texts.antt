@@ -90,9 +90,9 @@ columns =
     ∷ codes "PAGECOUNT" ∷ codes "DESIGNATION" ∷ codes "WITHHELD" ∷ codes "TEXTPATH" ∷ []
 
 -- one of these columns, in UTF-8
-abbrev pub is_column : List ℕ → Bool
-is_column bytes = list_any (λ column. bytes_eq bytes column) columns
+abbrev pub is_one_column : List ℕ → Bool
+is_one_column bytes = list_any (λ column. bytes_eq bytes column) columns
 
 -- the same of a text
 abbrev pub is_column_name : List ℕ → Bool
-is_column_name text = is_column (encode_utf8_all text)
+is_column_name text = is_one_column (encode_utf8_all text)

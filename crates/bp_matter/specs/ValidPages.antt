@@ -6,7 +6,7 @@ use Rattle.bp_core.specs.Sorted.{ascends, find_key, two_keys}
 use Rattle.bp_rows.specs.Image.{Image}
 use Rattle.bp_rows.specs.Limits.{sides_are_imported}
 use Rattle.bp_core.specs.declared.rectangle.Rect.{Rect}
-use Rattle.bp_t6.specs.Written.{strip_of}
+use Rattle.bp_t6.specs.Written.{bits_strip}
 use Rattle.bp_matter.specs.Written.{page_written}
 use Rattle.bp_matter.specs.Matter.{page_key}
 use Rattle.bp_matter.specs.declared.rows.DocRow.{DocRow}
@@ -32,7 +32,7 @@ pixels_of (row ∷ rows) = row.image.width * row.image.height + pixels_of rows
 
 -- how many bytes the strip of a page has
 abbrev pub strip_size : Image → ℕ
-strip_size p = length (strip_of p)
+strip_size p = length (bits_strip p)
 
 -- the bytes of the strips of all pages
 abbrev pub strip_bytes_of : List PageRow → ℕ

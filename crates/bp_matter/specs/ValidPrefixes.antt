@@ -42,9 +42,9 @@ after_productions text (Some n) (row ∷ rows) =
     else Some n) rows
 
 -- that number was reached
-abbrev pub is_number : Option ℕ → ℕ → Bool
-is_number None n = false
-is_number (Some m) n = m == n
+abbrev pub was_reached : Option ℕ → ℕ → Bool
+was_reached None n = false
+was_reached (Some m) n = m == n
 
 -- the number after these items, behind what was reached of their prefix: it begins with 1
 abbrev pub after_reached : Option (Option ℕ) → List Item → Option ℕ
@@ -55,12 +55,12 @@ after_reached (Some (Some n)) items = after_items n items
 -- a production was there, and this number was reached
 abbrev pub is_reached : Option (Option ℕ) → ℕ → Bool
 is_reached None n = false
-is_reached (Some number) n = is_number number n
+is_reached (Some number) n = was_reached number n
 
 -- the spans under a prefix are the numbers from 1 up to the next
 abbrev pub spans_reach : List ProductionRow → PrefixRow → Bool
 spans_reach productions row =
-    is_number (after_productions row.prefix.text (Some 1) productions) row.next
+    was_reached (after_productions row.prefix.text (Some 1) productions) row.next
 
 -- some production has the prefix
 abbrev pub is_used : List ProductionRow → PrefixRow → Bool

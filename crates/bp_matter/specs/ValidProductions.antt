@@ -61,17 +61,17 @@ mark zero (m ∷ marks) = true ∷ marks
 mark (suc n) (m ∷ marks) = m ∷ mark n marks
 
 -- there is a mark at this place
-abbrev pub is_marked : ℕ → List Bool → Bool
-is_marked n [] = false
-is_marked zero (m ∷ marks) = m
-is_marked (suc n) (m ∷ marks) = is_marked n marks
+abbrev pub is_marked_at : ℕ → List Bool → Bool
+is_marked_at n [] = false
+is_marked_at zero (m ∷ marks) = m
+is_marked_at (suc n) (m ∷ marks) = is_marked_at n marks
 
 -- each document in turn has no mark yet, and gets one
 abbrev pub marked_on : Option (List Bool) → List Item → Option (List Bool)
 marked_on None items = None
 marked_on (Some marks) [] = Some marks
 marked_on (Some marks) (i ∷ items) =
-    marked_on (if is_marked i.doc.0 marks then None else Some (mark i.doc.0 marks)) items
+    marked_on (if is_marked_at i.doc.0 marks then None else Some (mark i.doc.0 marks)) items
 
 -- the same of the items of each production in turn
 abbrev pub all_marked_on : Option (List Bool) → List ProductionRow → Option (List Bool)

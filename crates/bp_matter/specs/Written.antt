@@ -28,7 +28,7 @@ use Rattle.bp_matter.specs.declared.rows.ProductionRow.{ProductionRow}
 use Rattle.bp_matter.specs.declared.rows.BatchRow.{BatchRow}
 use Rattle.bp_text.specs.declared.words.Word.{Word}
 use Rattle.bp_matter.specs.declared.rows.PageWords.{PageWords}
-use Rattle.bp_matter.specs.Fields.{treatment_number, editor_of, confirmer_of}
+use Rattle.bp_matter.specs.Fields.{treatment_number, editor_number, confirmer_number}
 
 -- a number of 32 bits
 abbrev pub is_word : ℕ → Bool
@@ -59,7 +59,7 @@ is_called (Confirmed _ confirmer) = not (confirmer.0 == 0)
 
 -- a called state
 abbrev pub state_written : State → Bool
-state_written s = is_called s && (is_word (editor_of s) && is_word (confirmer_of s))
+state_written s = is_called s && (is_word (editor_number s) && is_word (confirmer_number s))
 
 -- a treatment that has a number
 abbrev pub treatment_written : Treatment → Bool

@@ -1,6 +1,6 @@
 // Whether lists are the tables of a matter: a test for each list.
 ghost use Rattle.std.specs.Prelude.{IfOk, IsTrue};
-ghost use Rattle.bp_matter.specs.Lists.{matter_of};
+ghost use Rattle.bp_matter.specs.Lists.{matter_read};
 ghost use Rattle.bp_matter.specs.Valid.{AreWritten, IsValid};
 
 mod batches;
@@ -40,9 +40,9 @@ use std::alloc::Global;
 
 // Whether these lists, whose rows have a writing, are the tables of a matter.
 pub(crate) fn is_valid(alloc: Global, lists: &Lists) -> Result<bool, OutOfMemory>
-    requires { AreWritten (matter_of lists.now) }
-    ensures fact { IfOk result (λ good. IsTrue good → IsValid (matter_of lists.now)) }
-    ensures back { IfOk result (λ good. IsValid (matter_of lists.now) → IsTrue good) }
+    requires { AreWritten (matter_read lists.now) }
+    ensures fact { IfOk result (λ good. IsTrue good → IsValid (matter_read lists.now)) }
+    ensures back { IfOk result (λ good. IsValid (matter_read lists.now) → IsTrue good) }
 {
     if !staff_valid(alloc, &lists.staff)? {
         return Ok(false);

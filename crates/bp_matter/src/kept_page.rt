@@ -2,7 +2,7 @@
 ghost use Rattle.std.specs.Prelude.{◌≡◌, ◌<◌, ◌^◌, IfOk, IsTrue, length};
 ghost use Rattle.bp_rows.specs.Image.{IsPage};
 ghost use Rattle.bp_rows.specs.Limits.{sides_are_allowed};
-ghost use Rattle.bp_t6.specs.Written.{strip_of};
+ghost use Rattle.bp_t6.specs.Written.{bits_strip};
 ghost use Rattle.bp_matter.specs.Images.{GivesRead, in_frame, lines_of};
 ghost use Rattle.bp_matter.specs.Reading.{Gives};
 
@@ -36,14 +36,14 @@ struct FramedStrip {
 
 // Clauses see the page whose strip it is.
 impl Model for FramedStrip {
-    ghost use Rattle.bp_matter.specs.Images.{IsKept, image_kept};
+    ghost use Rattle.bp_matter.specs.Images.{IsKeptPage, image_kept};
     ghost use Rattle.bp_rows.specs.Image.{Image};
 
     ghost Value = { Image };
 
     ghost view = { λ k. image_kept k.frame k.strip };
 
-    ghost invariant = { λ k. IsKept (image_kept k.frame k.strip) k.strip };
+    ghost invariant = { λ k. IsKeptPage (image_kept k.frame k.strip) k.strip };
 }
 
 /// A page that is kept as its T.6 strip and not as pixels. Several hold it and none changes it, so that
@@ -102,7 +102,7 @@ impl KeptPage {
     /// The strip of the page, lent: its rows coded, the end of the facsimile block and zero bits to the
     /// byte (ITU-T T.6). It takes no memory.
     pub fn strip(&self) -> &[u8]
-        ensures strip { result.now ≡ strip_of self.now }
+        ensures strip { result.now ≡ bits_strip self.now }
         ensures short { length result.now < 2 ^ 32 }
         ensures page { IsPage self.now }
     {
@@ -211,7 +211,7 @@ fn read_strip_in(alloc: Global, frame: Frame, bytes: &[u8]) -> Result<FramedStri
 
 impl FramedStrip {
     fn strip(&self) -> &[u8]
-        ensures strip { result.now ≡ strip_of self.now }
+        ensures strip { result.now ≡ bits_strip self.now }
         ensures short { length result.now < 2 ^ 32 }
         ensures page { IsPage self.now }
     {

@@ -1,6 +1,6 @@
 // Reading the kept rows of a matter.
 ghost use Rattle.std.specs.Prelude.{◌≡◌, IfOk, false, None, length};
-ghost use Rattle.bp_matter.specs.Lists.{matter_of};
+ghost use Rattle.bp_matter.specs.Lists.{matter_read};
 ghost use Rattle.bp_matter.specs.ReadRows.{is_formed};
 ghost use Rattle.bp_matter.specs.ReadTables.{ReadsTables, least_bad, lesser, bad_rule, kept_row_bad};
 ghost use Rattle.bp_matter.specs.Valid.{IsValid};
@@ -37,8 +37,8 @@ pub fn read_tables(alloc: Global, rows: &RowList) -> Result<Tables, Refusal>
 
 // The tables of these lists.
 fn tables_of(alloc: Global, lists: Lists) -> Result<Tables, OutOfMemory>
-    requires { IsValid (matter_of lists) }
-    ensures { IfOk result (λ tables. tables.matter ≡ matter_of lists) }
+    requires { IsValid (matter_read lists) }
+    ensures { IfOk result (λ tables. tables.matter ≡ matter_read lists) }
 {
     Ok(Tables {
         staff: lists.staff,

@@ -109,13 +109,13 @@ impl Kind for StaffRow {
 impl Kind for FieldRow {
     ghost use Rattle.bp_matter.specs.KeptRows.{field_kept};
     ghost use Rattle.bp_matter.specs.Written.{field_written};
-    ghost use Rattle.bp_matter.specs.ReadRows.{field_of};
+    ghost use Rattle.bp_matter.specs.ReadRows.{field_in_row};
 
     ghost kept_of = { field_kept };
 
     ghost is_written = { field_written };
 
-    ghost read_of = { field_of };
+    ghost read_of = { field_in_row };
 
     fn keep(&self, alloc: Global) -> Result<Row, OutOfMemory> {
         let mut body = Vec::new(alloc);
@@ -179,13 +179,13 @@ impl Kind for DocRow {
 impl Kind for PageRow {
     ghost use Rattle.bp_matter.specs.KeptRows.{page_kept};
     ghost use Rattle.bp_matter.specs.Written.{page_written};
-    ghost use Rattle.bp_matter.specs.ReadRows.{page_of};
+    ghost use Rattle.bp_matter.specs.ReadRows.{page_in_row};
 
     ghost kept_of = { page_kept };
 
     ghost is_written = { page_written };
 
-    ghost read_of = { page_of };
+    ghost read_of = { page_in_row };
 
     fn keep(&self, alloc: Global) -> Result<Row, OutOfMemory> {
         let mut body = Vec::new(alloc);
@@ -215,13 +215,13 @@ impl Kind for PageRow {
 impl Kind for CallRow {
     ghost use Rattle.bp_matter.specs.KeptRows.{call_kept};
     ghost use Rattle.bp_matter.specs.Written.{call_written};
-    ghost use Rattle.bp_matter.specs.ReadRows.{call_of};
+    ghost use Rattle.bp_matter.specs.ReadRows.{call_in_row};
 
     ghost kept_of = { call_kept };
 
     ghost is_written = { call_written };
 
-    ghost read_of = { call_of };
+    ghost read_of = { call_in_row };
 
     fn keep(&self, alloc: Global) -> Result<Row, OutOfMemory> {
         let mut body = Vec::new(alloc);
@@ -320,13 +320,13 @@ impl Kind for DocHeld {
 impl Kind for DocEntry {
     ghost use Rattle.bp_matter.specs.KeptRows.{entry_kept};
     ghost use Rattle.bp_matter.specs.Written.{entry_written};
-    ghost use Rattle.bp_matter.specs.ReadRows.{entry_of};
+    ghost use Rattle.bp_matter.specs.ReadRows.{entry_in_row};
 
     ghost kept_of = { entry_kept };
 
     ghost is_written = { entry_written };
 
-    ghost read_of = { entry_of };
+    ghost read_of = { entry_in_row };
 
     fn keep(&self, alloc: Global) -> Result<Row, OutOfMemory> {
         let mut body = Vec::new(alloc);
@@ -355,13 +355,13 @@ impl Kind for DocEntry {
 impl Kind for PrefixRow {
     ghost use Rattle.bp_matter.specs.KeptRows.{prefix_kept};
     ghost use Rattle.bp_matter.specs.Written.{prefix_written};
-    ghost use Rattle.bp_matter.specs.ReadRows.{prefix_of};
+    ghost use Rattle.bp_matter.specs.ReadRows.{prefix_in_row};
 
     ghost kept_of = { prefix_kept };
 
     ghost is_written = { prefix_written };
 
-    ghost read_of = { prefix_of };
+    ghost read_of = { prefix_in_row };
 
     fn keep(&self, alloc: Global) -> Result<Row, OutOfMemory> {
         let mut body = Vec::new(alloc);
@@ -390,13 +390,13 @@ impl Kind for PrefixRow {
 impl Kind for ProductionRow {
     ghost use Rattle.bp_matter.specs.KeptRows.{production_kept};
     ghost use Rattle.bp_matter.specs.Written.{production_written};
-    ghost use Rattle.bp_matter.specs.ReadRows.{production_of};
+    ghost use Rattle.bp_matter.specs.ReadRows.{production_in_row};
 
     ghost kept_of = { production_kept };
 
     ghost is_written = { production_written };
 
-    ghost read_of = { production_of };
+    ghost read_of = { production_in_row };
 
     fn keep(&self, alloc: Global) -> Result<Row, OutOfMemory> {
         let mut body = Vec::new(alloc);
@@ -425,13 +425,13 @@ impl Kind for ProductionRow {
 impl Kind for BatchRow {
     ghost use Rattle.bp_matter.specs.KeptRows.{batch_kept};
     ghost use Rattle.bp_matter.specs.Written.{batch_written};
-    ghost use Rattle.bp_matter.specs.ReadRows.{batch_of};
+    ghost use Rattle.bp_matter.specs.ReadRows.{batch_in_row};
 
     ghost kept_of = { batch_kept };
 
     ghost is_written = { batch_written };
 
-    ghost read_of = { batch_of };
+    ghost read_of = { batch_in_row };
 
     fn keep(&self, alloc: Global) -> Result<Row, OutOfMemory> {
         let mut body = Vec::new(alloc);
@@ -460,13 +460,13 @@ impl Kind for BatchRow {
 impl Kind for PageWords {
     ghost use Rattle.bp_matter.specs.KeptRows.{words_kept};
     ghost use Rattle.bp_matter.specs.Written.{words_written};
-    ghost use Rattle.bp_matter.specs.ReadRows.{words_of};
+    ghost use Rattle.bp_matter.specs.ReadRows.{words_in_row};
 
     ghost kept_of = { words_kept };
 
     ghost is_written = { words_written };
 
-    ghost read_of = { words_of };
+    ghost read_of = { words_in_row };
 
     fn keep(&self, alloc: Global) -> Result<Row, OutOfMemory> {
         let mut body = Vec::new(alloc);

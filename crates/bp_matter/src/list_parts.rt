@@ -9,11 +9,11 @@ use bp_text::Word;
 use std::alloc::Global;
 
 impl Part for Text {
-    ghost use Rattle.bp_matter.specs.Fields.{text};
+    ghost use Rattle.bp_matter.specs.Fields.{text_kept};
     ghost use Rattle.bp_matter.specs.Written.{is_short};
     ghost use Rattle.bp_matter.specs.Reading.{text_at};
 
-    ghost part_of = { text };
+    ghost part_of = { text_kept };
 
     ghost is_written = { is_short };
 

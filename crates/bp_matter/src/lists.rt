@@ -2,7 +2,7 @@
 ghost use Rattle.std.specs.Prelude.{◌≡◌, ◌++◌, IfOk};
 ghost use Rattle.bp_matter.specs.KeptRows.{rows_of};
 ghost use Rattle.bp_matter.specs.ReadRows.{matter_at_front};
-ghost use Rattle.bp_matter.specs.Lists.{matter_of};
+ghost use Rattle.bp_matter.specs.Lists.{matter_read};
 ghost use Rattle.bp_matter.specs.Valid.{AreWritten};
 
 use crate::kinds::take_rows;
@@ -31,10 +31,10 @@ pub(crate) struct Lists {
 
 // The rows of each kind in turn, and what is left.
 pub(crate) fn take_lists(alloc: Global, rows: &[Row]) -> Result<(Lists, &[Row]), OutOfMemory>
-    ensures lists { IfOk result (λ x. matter_of x.0 ≡ (matter_at_front rows.now).0) }
+    ensures lists { IfOk result (λ x. matter_read x.0 ≡ (matter_at_front rows.now).0) }
     ensures rest { IfOk result (λ x. x.1.now ≡ (matter_at_front rows.now).1) }
-    ensures parts { IfOk result (λ x. rows.now ≡ rows_of (matter_of x.0) ++ x.1.now) }
-    ensures written { IfOk result (λ x. AreWritten (matter_of x.0)) }
+    ensures parts { IfOk result (λ x. rows.now ≡ rows_of (matter_read x.0) ++ x.1.now) }
+    ensures written { IfOk result (λ x. AreWritten (matter_read x.0)) }
 {
     let (staff, rest) = take_rows(alloc, rows)?;
     let (fields, rest) = take_rows(alloc, rest)?;

@@ -1,7 +1,7 @@
 // Reading the bodies of kept rows.
 ghost use Rattle.std.specs.Prelude.{◌≡◌, ◌<◌, ◌≤◌, ◌^◌, length};
 ghost use Rattle.bp_matter.specs.Written.{span_of, first_number, last_number};
-ghost use Rattle.bp_matter.specs.Reading.{Gives, u8_at, u32_at, u64_at, text_at, characters_at, value_of, one_of, flag_of, basis_of, ink_of, treatment_of, state_at, state_of, role_of, bytes_at, many_at, list_at, value_there, optional_at, rect_at, span_at, prefix_at, entry_fields_at, box_rest_at, box_part_at, held_part_at, word_part_at, item_at, request_at, unit_of, image_at, staff_at, field_at, doc_at, page_at, call_at, box_at, held_at, entry_at, prefix_row_at, production_at, batch_at, words_at};
+ghost use Rattle.bp_matter.specs.Reading.{Gives, u8_at, u32_at, u64_at, text_at, characters_at, value_of_byte, one_of, flag_of_byte, basis_of, ink_of, treatment_of_byte, state_at, state_of, role_of, bytes_at, many_at, list_at, value_there, optional_at, rect_at, span_at, prefix_at, entry_fields_at, box_rest_at, box_part_at, held_part_at, word_part_at, item_at, request_at, unit_of_byte, image_left, staff_at, field_at, doc_at, page_at, call_at, box_at, held_at, log_entry_at, prefix_row_at, production_at, batch_at, words_at};
 
 use crate::kept_page::{Frame, KeptPage};
 use crate::parts::Part;
@@ -60,7 +60,7 @@ pub(crate) fn take_text(alloc: Global, bytes: &[u8]) -> Result<(Text, &[u8]), Re
 }
 
 fn take_version(bytes: &[u8]) -> Result<((), &[u8]), ReadFault>
-    ensures { Gives (λ x. (x.0, x.1.now)) result (value_of one_of bytes.now) }
+    ensures { Gives (λ x. (x.0, x.1.now)) result (value_of_byte one_of bytes.now) }
 {
     let (byte, rest) = take_u8(bytes)?;
     if byte == 1 {
@@ -71,7 +71,7 @@ fn take_version(bytes: &[u8]) -> Result<((), &[u8]), ReadFault>
 }
 
 fn take_flag(bytes: &[u8]) -> Result<(bool, &[u8]), ReadFault>
-    ensures { Gives (λ x. (x.0, x.1.now)) result (value_of flag_of bytes.now) }
+    ensures { Gives (λ x. (x.0, x.1.now)) result (value_of_byte flag_of_byte bytes.now) }
 {
     let (byte, rest) = take_u8(bytes)?;
     match byte {
@@ -82,7 +82,7 @@ fn take_flag(bytes: &[u8]) -> Result<(bool, &[u8]), ReadFault>
 }
 
 fn take_treatment(bytes: &[u8]) -> Result<(Treatment, &[u8]), ReadFault>
-    ensures { Gives (λ x. (x.0, x.1.now)) result (value_of treatment_of bytes.now) }
+    ensures { Gives (λ x. (x.0, x.1.now)) result (value_of_byte treatment_of_byte bytes.now) }
 {
     let (byte, rest) = take_u8(bytes)?;
     match byte {
@@ -318,7 +318,7 @@ fn take_request(alloc: Global, bytes: &[u8]) -> Result<(Request, &[u8]), ReadFau
 }
 
 fn take_role(bytes: &[u8]) -> Result<(Role, &[u8]), ReadFault>
-    ensures { Gives (λ x. (x.0, x.1.now)) result (value_of role_of bytes.now) }
+    ensures { Gives (λ x. (x.0, x.1.now)) result (value_of_byte role_of bytes.now) }
 {
     let (byte, rest) = take_u8(bytes)?;
     match byte {
@@ -332,7 +332,7 @@ fn take_role(bytes: &[u8]) -> Result<(Role, &[u8]), ReadFault>
 }
 
 fn take_basis(bytes: &[u8]) -> Result<(Basis, &[u8]), ReadFault>
-    ensures { Gives (λ x. (x.0, x.1.now)) result (value_of basis_of bytes.now) }
+    ensures { Gives (λ x. (x.0, x.1.now)) result (value_of_byte basis_of bytes.now) }
 {
     let (byte, rest) = take_u8(bytes)?;
     match byte {
@@ -345,7 +345,7 @@ fn take_basis(bytes: &[u8]) -> Result<(Basis, &[u8]), ReadFault>
 }
 
 fn take_ink(bytes: &[u8]) -> Result<(Ink, &[u8]), ReadFault>
-    ensures { Gives (λ x. (x.0, x.1.now)) result (value_of ink_of bytes.now) }
+    ensures { Gives (λ x. (x.0, x.1.now)) result (value_of_byte ink_of bytes.now) }
 {
     let (byte, rest) = take_u8(bytes)?;
     match byte {
@@ -423,7 +423,7 @@ pub(crate) fn take_doc(alloc: Global, doc: u32, bytes: &[u8]) -> Result<(DocRow,
 }
 
 fn take_unit(bytes: &[u8]) -> Result<(Unit, &[u8]), ReadFault>
-    ensures { Gives (λ x. (x.0, x.1.now)) result (value_of unit_of bytes.now) }
+    ensures { Gives (λ x. (x.0, x.1.now)) result (value_of_byte unit_of_byte bytes.now) }
 {
     let (byte, rest) = take_u8(bytes)?;
     match byte {
@@ -434,9 +434,9 @@ fn take_unit(bytes: &[u8]) -> Result<(Unit, &[u8]), ReadFault>
     }
 }
 
-#[tactic(auto, unfolding(crate::specs::Reading::image_at))]
+#[tactic(auto, unfolding(crate::specs::Reading::image_left))]
 fn take_image(alloc: Global, bytes: &[u8]) -> Result<KeptPage, ReadFault>
-    ensures { Gives (λ x. x) result (image_at bytes.now) }
+    ensures { Gives (λ x. x) result (image_left bytes.now) }
 {
     let (width, rest) = take_u32(bytes)?;
     let (height, rest) = take_u32(rest)?;
@@ -523,13 +523,13 @@ pub(crate) fn take_held(doc: u32, field: u32, bytes: &[u8]) -> Result<(DocHeld, 
     Ok((DocHeld { doc, row }, rest))
 }
 
-#[tactic(auto, unfolding(crate::specs::Reading::entry_at))]
+#[tactic(auto, unfolding(crate::specs::Reading::log_entry_at))]
 pub(crate) fn take_entry(
     alloc: Global,
     doc: u32,
     bytes: &[u8],
 ) -> Result<(DocEntry, &[u8]), ReadFault>
-    ensures { Gives (λ x. (x.0, x.1.now)) result (entry_at doc bytes.now) }
+    ensures { Gives (λ x. (x.0, x.1.now)) result (log_entry_at doc bytes.now) }
 {
     let (_version, rest) = take_version(bytes)?;
     let (entry, rest) = take_entry_fields(alloc, rest)?;

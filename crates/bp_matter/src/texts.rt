@@ -2,7 +2,7 @@
 ghost use Rattle.std.specs.Prelude.{◌≡◌, ◌==◌, ◌&&◌, ◌||◌, length, nat_le, not};
 ghost use Rattle.std.specs.List.{list_all};
 ghost use Rattle.std.specs.Str.{bytes_eq};
-ghost use Rattle.bp_matter.specs.Texts.{is_text, is_text_character, is_designation, is_designation_character, is_volume_character, is_id_character, is_volume, is_id, is_value_character, is_value, is_name_character, is_field_name, is_id_of_doc_character, is_id_of_doc, is_plain_character, is_word_text, is_batch_name, is_column, is_column_name};
+ghost use Rattle.bp_matter.specs.Texts.{is_text, is_text_character, is_designation, is_designation_character, is_volume_character, is_id_character, is_volume, is_id, is_value_character, is_value, is_name_character, is_field_name, is_id_of_doc_character, is_id_of_doc, is_plain_character, is_word_text, is_batch_name, is_one_column, is_column_name};
 
 use crate::limits::{MAX_DESIGNATION, MAX_ID};
 use bp_core::Text;
@@ -182,7 +182,7 @@ pub fn is_column_name(text: &Text) -> bool
 }
 
 fn is_column(bytes: &[u8]) -> bool
-    ensures { result ≡ is_column bytes.now }
+    ensures { result ≡ is_one_column bytes.now }
 {
     bytes == b"BEGDOC".as_slice()
         || bytes == b"ENDDOC".as_slice()

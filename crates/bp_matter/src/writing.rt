@@ -3,7 +3,7 @@ ghost use Rattle.std.specs.Prelude.{◌≡◌, ◌<◌, ◌^◌, ◌++◌, ◌&&
 ghost use Rattle.std.specs.Str.{all_scalars};
 ghost use Rattle.std.specs.List.{list_all, flat_map};
 ghost use Rattle.bp_matter.specs.Images.{strip, unit_number};
-ghost use Rattle.bp_matter.specs.Fields.{byte, word, long, text, list, flag, state, treatment, basis, rect, span, prefix, optional, ink_number, role_number};
+ghost use Rattle.bp_matter.specs.Fields.{byte, word, long_kept, text_kept, list, flag, state, treatment, basis, rect, span, prefix, optional, ink_number, role_number};
 ghost use Rattle.bp_matter.specs.Written.{is_word, is_short, are_few, if_there, treatment_written, entry_fields_written, word_written, item_written, request_written, span_written, staff_written, field_written, doc_written, call_written, entry_written, prefix_written, production_written, batch_written, words_written};
 ghost use Rattle.bp_matter.specs.Bodies.{entry_part, box_rest, box_part, held_part, word_part, item_part, request_part, staff_body, field_body, doc_body, page_body, call_body, box_body, held_body, entry_body, prefix_body, production_body, batch_body, words_body, image_part};
 
@@ -35,7 +35,7 @@ fn put_u32(out: &mut Vec<u8>, number: u32) -> Result<(), OutOfMemory>
 
 pub(crate) fn put_text(out: &mut Vec<u8>, characters: &Text) -> Result<(), OutOfMemory>
     requires { length (encode_utf8_all characters.now) < 2 ^ 32 }
-    ensures { OnOk result (out.new.items ≡ out.old.items ++ text characters.now) }
+    ensures { OnOk result (out.new.items ≡ out.old.items ++ text_kept characters.now) }
 {
     put_u32(out, characters.len() as u32)?;
     out.extend_from_slice(characters.as_str().as_bytes())?;
@@ -67,9 +67,9 @@ fn treatment_number(of: Treatment) -> u8
     }
 }
 
-#[tactic(auto, unfolding(crate::specs::Fields::long))]
+#[tactic(auto, unfolding(crate::specs::Fields::long_kept))]
 fn put_u64(out: &mut Vec<u8>, number: u64) -> Result<(), OutOfMemory>
-    ensures { OnOk result (out.new.items ≡ out.old.items ++ long number) }
+    ensures { OnOk result (out.new.items ≡ out.old.items ++ long_kept number) }
 {
     out.extend_from_slice(&number.to_le_bytes())?;
     Ok(())
@@ -176,7 +176,7 @@ fn put_item_end(out: &mut Vec<u8>, item: &Item) -> Result<(), OutOfMemory>
         && (is_short item.now.designation && span_written item.now.span)) }
     ensures { OnOk result (out.new.items ≡ out.old.items
         ++ (optional entry_part item.now.entry
-        ++ (text item.now.designation ++ span item.now.span))) }
+        ++ (text_kept item.now.designation ++ span item.now.span))) }
 {
     put_entry_if(out, &item.entry)?;
     put_text(out, &item.designation)?;

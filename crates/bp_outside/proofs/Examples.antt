@@ -65,7 +65,7 @@ more_is_written : outs.with_written printed (codes "1")
     ≡ record printed { written = Some (codes "ok 1") }
 more_is_written = refl
 
-want_of_memory_is_no_fault : outs.after_refusal printed out_refusals.OutOfMemory ≡ printed
+want_of_memory_is_no_fault : outs.out_after_refusal printed out_refusals.OutOfMemory ≡ printed
 want_of_memory_is_no_fault = refl
 
 abbrev known : SourceView
@@ -138,7 +138,7 @@ keeps_what_stood_there begins = false≢true begins.empties
 abbrev second : doors.DoorView
 second =
     record {
-      exchanges = Some (doors.fresh ∷ doors.fresh ∷ []);
+      exchanges = Some (doors.new_exchange ∷ doors.new_exchange ∷ []);
       under_way = true;
       closed = false;
       left = false;
@@ -149,12 +149,12 @@ second =
 
 only_the_last_exchange_reads : doors.changed (doors.took (7 ∷ []) false) second
     ≡ record second {
-      exchanges = Some (doors.fresh ∷ record doors.fresh { read = 7 ∷ [] } ∷ []);
+      exchanges = Some (doors.new_exchange ∷ record doors.new_exchange { read = 7 ∷ [] } ∷ []);
     }
 only_the_last_exchange_reads = refl
 
 no_byte_is_the_end_of_input : doors.changed (doors.took [] true) second
-    ≡ record second { exchanges = Some (doors.fresh ∷ record doors.fresh { ended = true } ∷ []) }
+    ≡ record second { exchanges = Some (doors.new_exchange ∷ record doors.new_exchange { ended = true } ∷ []) }
 no_byte_is_the_end_of_input = refl
 
 a_refused_accept_is_counted : doors.after_accept second (Err door_refusals.Failed)
@@ -167,18 +167,18 @@ a_closed_door_leaves_its_exchanges = refl
 
 a_peer_comes : doors.after_accept second (Ok true)
     ≡ record second {
-      exchanges = Some (doors.fresh ∷ doors.fresh ∷ doors.fresh ∷ []);
+      exchanges = Some (doors.new_exchange ∷ doors.new_exchange ∷ doors.new_exchange ∷ []);
       accepts = 3;
     }
 a_peer_comes = refl
 
-a_refusal_marks_its_exchange : doors.after_refusal second door_refusals.OutOfMemory
-    ≡ record second { exchanges = Some (doors.fresh ∷ record doors.fresh { lacked = true } ∷ []) }
+a_refusal_marks_its_exchange : doors.door_after_refusal second door_refusals.OutOfMemory
+    ≡ record second { exchanges = Some (doors.new_exchange ∷ record doors.new_exchange { lacked = true } ∷ []) }
 a_refusal_marks_its_exchange = refl
 
 it_is_hung_up : doors.after_hang_up second
     ≡ record second {
-      exchanges = Some (doors.fresh ∷ record doors.fresh { hung_up = true } ∷ []);
+      exchanges = Some (doors.new_exchange ∷ record doors.new_exchange { hung_up = true } ∷ []);
       under_way = false;
     }
 it_is_hung_up = refl

@@ -3,7 +3,7 @@ use Rattle.std.proofs.Common.{◌≡◌, ℕ, ◌+◌, ◌≤◌, ◌==◌, Bool
 use Rattle.std.specs.Prelude.{Err}
 use Rattle.std.proofs.lemmas.Bool.Decides.{nat_tests}
 use Rattle.std.proofs.lemmas.List.{append-nil, length-take-le}
-use Rattle.bp_outside.specs.Door.{DoorView, ReadsFirst, after_refusal, changed, took}
+use Rattle.bp_outside.specs.Door.{DoorView, ReadsFirst, door_after_refusal, changed, took}
 use Rattle.bp_outside.specs.Input.{LosesSome, TakesInput, TakesMore, TakesSome, WasNeeded}
 use Rattle.bp_outside.specs.declared.input.InputStop.{InputStop}
 use Rattle.bp_outside.specs.declared.input.InputStop.TheVariants.{LackedMemory, Refused}
@@ -131,6 +131,6 @@ read_short Tells LackedMemory room door now after so_far bytes short fits before
 read_short Tells (Refused refusal) room door now after so_far bytes short fits before step =
     record {
       some = so_far;
-      read = step ∙ ap (λ d. after_refusal d refusal) before;
+      read = step ∙ ap (λ d. door_after_refusal d refusal) before;
       short = short;
     }

@@ -6,7 +6,7 @@ use Rattle.std.proofs.lemmas.List.{append-nil, take_rest}
 use Rattle.std.proofs.Math.Seq.{take-add}
 use Rattle.bp_outside.specs.declared.refusals.OutRefusal.{OutRefusal}
 use Rattle.bp_outside.specs.declared.refusals.OutRefusal.TheVariants.{Failed, OutOfMemory}
-use Rattle.bp_outside.specs.Out.{OutView, WritesFirst, WritesPrefix, with_written, after_refusal}
+use Rattle.bp_outside.specs.Out.{OutView, OutWritesFirst, OutWritesPrefix, with_written, out_after_refusal}
 
 told_nothing : (told : Option (List ℕ)) → option_map (λ written. written ++ []) told ≡ told
 told_nothing None = refl
@@ -37,15 +37,15 @@ with_written-more out piece at more =
     ∙ ap (with_written out) (sym (take-add at more piece))
 
 after_refusal-with_written : (refusal : OutRefusal) (out : OutView) (bytes : List ℕ)
-    → after_refusal (with_written out bytes) refusal
-    ≡ with_written (after_refusal out refusal) bytes
+    → out_after_refusal (with_written out bytes) refusal
+    ≡ with_written (out_after_refusal out refusal) bytes
 after_refusal-with_written Failed out bytes = refl
 after_refusal-with_written OutOfMemory out bytes = refl
 
 -- one more write, after the first so many bytes of a piece
 pub write_more : (out now after : OutView) (piece : List ℕ) (at more : ℕ)
     → (at ≤ length piece) × (now ≡ with_written out (take at piece))
-    → WritesFirst now (take (length piece - at) (drop at piece)) more after
+    → OutWritesFirst now (take (length piece - at) (drop at piece)) more after
     → (at + more ≤ length piece) × (after ≡ with_written out (take (at + more) piece))
 write_more out now after piece at more so_far step =
     let rest = take_rest piece at in
@@ -59,16 +59,16 @@ write_more out now after piece at more so_far step =
 -- a refusal, after the first so many bytes of a piece
 pub refused_after : (refusal : OutRefusal) (out now after : OutView) (piece : List ℕ) (at : ℕ)
     → now ≡ with_written out (take at piece)
-    → WritesPrefix (after_refusal now refusal) (take (length piece - at) (drop at piece)) after
-    → WritesPrefix (after_refusal out refusal) piece after
+    → OutWritesPrefix (out_after_refusal now refusal) (take (length piece - at) (drop at piece)) after
+    → OutWritesPrefix (out_after_refusal out refusal) piece after
 refused_after refusal out now after piece at so_far end =
     record {
       count = at + end.count;
       written = end.written
-          ∙ ap (λ r. with_written (after_refusal now refusal) (take end.count r))
+          ∙ ap (λ r. with_written (out_after_refusal now refusal) (take end.count r))
           (take_rest piece at)
-          ∙ ap (λ o. with_written (after_refusal o refusal) (take end.count (drop at piece))) so_far
+          ∙ ap (λ o. with_written (out_after_refusal o refusal) (take end.count (drop at piece))) so_far
           ∙ ap (λ o. with_written o (take end.count (drop at piece)))
           (after_refusal-with_written refusal out (take at piece))
-          ∙ with_written-more (after_refusal out refusal) piece at end.count;
+          ∙ with_written-more (out_after_refusal out refusal) piece at end.count;
     }

@@ -1,7 +1,7 @@
 -- The input of one exchange at a door, read until it is enough.
 use Rattle.std.specs.Prelude.{◌≡◌, ◌⊎◌, ℕ, ◌<◌, ◌≤◌, Bool, true, false, List, [], ◌++◌, length, Vec, Result, Ok, Err}
 use Rattle.std.specs.declared.alloc.Global.{Global}
-use Rattle.bp_outside.specs.Door.{DoorView, after_refusal, changed, took}
+use Rattle.bp_outside.specs.Door.{DoorView, door_after_refusal, changed, took}
 use Rattle.bp_outside.specs.declared.input.InputStop.{InputStop}
 use Rattle.bp_outside.specs.declared.input.InputStop.TheVariants.{LackedMemory, Refused}
 use Rattle.bp_outside.specs.declared.input.TheConstants.{INPUT_CHUNK}
@@ -31,10 +31,10 @@ pub record TakesPart (Tells : List ℕ → Bool → Type 0) (before after : Door
   pub needed : WasNeeded Tells some
 
 -- some bytes were read, which were told not to be enough, and then a read was refused
-pub record StopsAt (Tells : List ℕ → Bool → Type 0) (before : DoorView) (refusal : DoorRefusal)
+pub record InputStopsAt (Tells : List ℕ → Bool → Type 0) (before : DoorView) (refusal : DoorRefusal)
     (after : DoorView) : Type 0 where
   pub some : List ℕ
-  pub read : after ≡ after_refusal (changed (took some false) before) refusal
+  pub read : after ≡ door_after_refusal (changed (took some false) before) refusal
   pub short : Tells some false
 
 -- what reading an input leaves
@@ -42,7 +42,7 @@ abbrev pub TakesInput : (List ℕ → Bool → Type 0) → DoorView → Result (
     → DoorView → Type 0
 TakesInput Tells before (Ok bytes) after = TakesWhole Tells before bytes.items after
 TakesInput Tells before (Err LackedMemory) after = TakesPart Tells before after
-TakesInput Tells before (Err (Refused refusal)) after = StopsAt Tells before refusal after
+TakesInput Tells before (Err (Refused refusal)) after = InputStopsAt Tells before refusal after
 
 -- some bytes, at most as many as there was room for, were read and put behind those before
 pub record TakesMore (room : ℕ) (before : DoorView) (bytes now : List ℕ) (after : DoorView)
@@ -66,4 +66,4 @@ TakesSome room before bytes (Ok false) now after =
     (now ≡ bytes) × (after ≡ changed (took [] true) before)
 TakesSome room before bytes (Err LackedMemory) now after = LosesSome room before after
 TakesSome room before bytes (Err (Refused refusal)) now after =
-    after ≡ after_refusal before refusal
+    after ≡ door_after_refusal before refusal

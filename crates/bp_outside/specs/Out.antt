@@ -18,28 +18,31 @@ with_written out bytes =
     record out { written = option_map (λ written. written ++ bytes) out.written }
 
 -- the out after a refusal: as it was, but for the count of faults
-abbrev pub after_refusal : OutView → OutRefusal → OutView
-after_refusal out Failed = record out { faults = risen out.faults }
-after_refusal out OutOfMemory = out
+abbrev pub out_after_refusal : OutView → OutRefusal → OutView
+out_after_refusal out Failed = record out { faults = risen out.faults }
+out_after_refusal out OutOfMemory = out
 
 -- the first so many bytes of a piece were written: at most the piece, and at least one byte where
 -- it has one
-pub record WritesFirst (out : OutView) (piece : List ℕ) (count : ℕ) (after : OutView) : Type 0 where
+pub record OutWritesFirst (out : OutView) (piece : List ℕ) (count : ℕ) (after : OutView)
+    : Type 0 where
   pub within : count ≤ length piece
   pub some : 0 < length piece → 0 < count
   pub written : after ≡ with_written out (take count piece)
 
 -- some prefix of a piece was written
-pub record WritesPrefix (out : OutView) (piece : List ℕ) (after : OutView) : Type 0 where
+pub record OutWritesPrefix (out : OutView) (piece : List ℕ) (after : OutView) : Type 0 where
   pub count : ℕ
   pub written : after ≡ with_written out (take count piece)
 
 -- what a write of a piece leaves
-abbrev pub Writes : OutView → List ℕ → Result ℕ OutRefusal → OutView → Type 0
-Writes out piece (Ok count) after = WritesFirst out piece count after
-Writes out piece (Err refusal) after = WritesPrefix (after_refusal out refusal) piece after
+abbrev pub OutWrites : OutView → List ℕ → Result ℕ OutRefusal → OutView → Type 0
+OutWrites out piece (Ok count) after = OutWritesFirst out piece count after
+OutWrites out piece (Err refusal) after =
+    OutWritesPrefix (out_after_refusal out refusal) piece after
 
 -- what a write of a whole piece leaves
 abbrev pub WritesAll : OutView → List ℕ → Result (Unit {0}) OutRefusal → OutView → Type 0
 WritesAll out piece (Ok _) after = after ≡ with_written out piece
-WritesAll out piece (Err refusal) after = WritesPrefix (after_refusal out refusal) piece after
+WritesAll out piece (Err refusal) after =
+    OutWritesPrefix (out_after_refusal out refusal) piece after

@@ -1,6 +1,6 @@
 // Counts of what a source couldn't read.
 ghost use Rattle.std.specs.Prelude.{◌≡◌};
-ghost use Rattle.bp_outside.specs.ReadCounts.{raised};
+ghost use Rattle.bp_outside.specs.ReadCounts.{counts_raised};
 
 use crate::refusals::ReadRefusal;
 
@@ -22,7 +22,7 @@ impl ReadCounts {
     // Raises the count of this refusal by one, and gives it back.
     pub fn refuse(&mut self, refusal: ReadRefusal) -> ReadRefusal
         ensures same { result ≡ refusal }
-        ensures counted { self.new ≡ raised self.old refusal }
+        ensures counted { self.new ≡ counts_raised self.old refusal }
     {
         match refusal {
             ReadRefusal::Absent => self.absences = self.absences.saturating_add(1),

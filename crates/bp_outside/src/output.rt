@@ -1,6 +1,6 @@
 // Where one stream of bytes is written to.
 ghost use Rattle.std.specs.Prelude.{◌≡◌, true};
-ghost use Rattle.bp_outside.specs.Out.{OutView, Writes, WritesAll};
+ghost use Rattle.bp_outside.specs.Out.{OutView, OutWrites, WritesAll};
 
 use crate::refusals::OutRefusal;
 use std::alloc::Global;
@@ -14,7 +14,7 @@ pub trait Out {
     /// Writes the first bytes of the piece, and tells how many: at least one of a piece that has
     /// any. A refusal may have written a prefix of the piece.
     fn write(&mut self, alloc: Global, piece: &[u8]) -> Result<usize, OutRefusal>
-        ensures { Writes (shows self.old) piece.now result (shows self.new) };
+        ensures { OutWrites (shows self.old) piece.now result (shows self.new) };
 
     // An out that is sure never failed.
     ghost unfailing: { (out : Self) → (shows out).sure ≡ true → (shows out).faults ≡ 0 };

@@ -6,7 +6,7 @@ use Rattle.std.proofs.lemmas.Bool.{false≢true}
 use Rattle.std.proofs.lemmas.List.{append_cancel_right}
 use Rattle.std.proofs.lemmas.Slice.Eq.{bytes_eq-Decides}
 use Rattle.bp_core.specs.Characters.{solidus}
-use Rattle.bp_bates.specs.Labels.{label_of}
+use Rattle.bp_bates.specs.Labels.{bates_label}
 use Rattle.bp_bates.specs.Prefixes.{is_good_prefix}
 use Rattle.bp_bates.proofs.LabelLemmas.{labels_same}
 use Rattle.bp_bates.proofs.PrefixLemmas.{IsGood-from_test}
@@ -44,9 +44,9 @@ ended_step front ending plain is =
 pub label_step : (q : Request) (number : ℕ) (ending : List ℕ)
     → IsNamed q
     → IsEnding ending
-    → IsStep (label_of q.prefix.text q.prefix.width number ++ ending)
+    → IsStep (bates_label q.prefix.text q.prefix.width number ++ ending)
 label_step q number ending named is =
-    ended_step (label_of q.prefix.text q.prefix.width number) ending (label_plain q.prefix.text q.prefix.width number named.prefix) is
+    ended_step (bates_label q.prefix.text q.prefix.width number) ending (label_plain q.prefix.text q.prefix.width number named.prefix) is
 
 -- ---- parts that differ
 
@@ -102,7 +102,7 @@ third_differs path other parts others is are differ same = differ (ap third (sam
 
 -- the path of an image or a text, under a label
 abbrev pub item_parts : Request → List ℕ → List ℕ → List ℕ → ℕ → List (List ℕ)
-item_parts q kind folder ending number = q.volume ∷ kind ∷ folder ∷ (label_of q.prefix.text q.prefix.width number ++ ending) ∷ []
+item_parts q kind folder ending number = q.volume ∷ kind ∷ folder ∷ (bates_label q.prefix.text q.prefix.width number ++ ending) ∷ []
 
 pub record IsItemPath (q : Request) (kind ending : List ℕ) (low high : ℕ) (path : List ℕ) : Type 0 where
   pub folder : List ℕ
@@ -135,12 +135,12 @@ numbers_differ q named kind ending low middle high path other most order is are 
     let good = IsGood-from_test q.prefix.text q.prefix.width named.prefix in
     let width = q.prefix.width in
     let text = q.prefix.text in
-    let names : label_of text width are.number ++ ending ≡ label_of text width is.number ++ ending =
+    let names : bates_label text width are.number ++ ending ≡ bates_label text width is.number ++ ending =
     ap fourth
     (same_parts other path (item_parts q kind are.folder ending are.number) (item_parts q kind is.folder ending is.number) are.is is.is same)
     in
-    let labels : label_of text width are.number ≡ label_of text width is.number =
-    append_cancel_right (label_of text width are.number) (label_of text width is.number) ending names in
+    let labels : bates_label text width are.number ≡ bates_label text width is.number =
+    append_cancel_right (bates_label text width are.number) (bates_label text width is.number) ending names in
     let number =
     (labels_same text text width width are.number is.number good good (small width are.number high are.to most) (small width is.number high (omega (arith, is.to)) most) labels).number
     in

@@ -15,7 +15,7 @@ use Rattle.bp_matter.specs.ValidProductions.{field_chosen, itself, production_fi
 use Rattle.bp_matter.specs.declared.rows.FieldRow.{FieldRow}
 use Rattle.bp_matter.specs.declared.rows.Production.{Production}
 use Rattle.bp_matter.specs.declared.rows.Request.{Request}
-use Rattle.bp_freeze.specs.Keeping.{Keeps}
+use Rattle.bp_freeze.specs.Keeping.{KeepsProduction}
 use Rattle.bp_press.proofs.KeptItemLemmas.{is_row_of, kept-numbers, kept-row}
 use Rattle.bp_press.proofs.KeptPageLemmas.{passes}
 use Rattle.bp_check.specs.Columns.{are_columns}
@@ -49,7 +49,7 @@ chooses fields docs q fit =
     let e = and_parts _ (is_volume q.volume) d.0 in
     record { volume = e.1; own = no_columns fields q.fields b.1; differ = a.1 }
 
-pub kept_fields : (m : Matter) → IsValid m → (f : Production) → Keeps m f → ChoosesFields f.request
+pub kept_fields : (m : Matter) → IsValid m → (f : Production) → KeepsProduction m f → ChoosesFields f.request
 kept_fields m valid f keeps =
     let kept = kept-row m f keeps in
     let three =
@@ -59,7 +59,7 @@ kept_fields m valid f keeps =
     let one = and_parts (request_fits m.fields (length m.docs) kept.row.production.request) _ two.0 in
     subst (λ (g : Production). ChoosesFields g.request) kept.same (chooses m.fields (length m.docs) kept.row.production.request one.0)
 
-pub kept_named : (m : Matter) → IsValid m → (f : Production) → Keeps m f → IsNamed f.request
+pub kept_named : (m : Matter) → IsValid m → (f : Production) → KeepsProduction m f → IsNamed f.request
 kept_named m valid f keeps = record { volume = (kept_fields m valid f keeps).volume; prefix = (kept-numbers m valid f keeps).good }
 
 -- ---- names that differ

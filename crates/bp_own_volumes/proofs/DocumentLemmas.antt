@@ -14,16 +14,16 @@ use Rattle.bp_core.specs.RuleSteps.{◌>>=◌}
 use Rattle.bp_core.specs.Rules.{rule_at_line}
 use Rattle.bp_core.specs.declared.rules.RuleKind.TheVariants.{CheckBreaks, CheckCount, CheckLabel}
 use Rattle.bp_load.specs.declared.opt.OptLine.{OptLine}
-use Rattle.bp_bates.specs.Labels.{label_of}
+use Rattle.bp_bates.specs.Labels.{bates_label}
 use Rattle.bp_bates.specs.Prefixes.{is_good_prefix}
-use Rattle.bp_check.specs.Breaks.{breaks_from, breaks_of, fits, has_record, last_image}
+use Rattle.bp_check.specs.Breaks.{breaks_from, breaks_hold, fits, has_record, last_image}
 use Rattle.bp_check.specs.Check.{agrees}
 use Rattle.bp_check.specs.Counts.{counts_from, counts_of, is_counted, is_decimal, record_says, says_number, without_zeros}
 use Rattle.bp_check.specs.Labels.{Label, follows, gap_rule, is_next, label_at, labels_from, labels_of}
 use Rattle.bp_check.specs.Labels as checked
 use Rattle.bp_check.specs.Columns.{is_enddoc, is_pagecount}
 use Rattle.bp_check.specs.Records.{record_of}
-use Rattle.bp_check.specs.Steps.{demand}
+use Rattle.bp_check.specs.Steps.{must_pass}
 use Rattle.bp_own_volumes.proofs.LabelBackLemmas.{label_back}
 use Rattle.bp_load.specs.Documents.{cell_under, docs_after, is_begdoc, until_break}
 
@@ -33,7 +33,7 @@ use Rattle.bp_load.specs.Documents.{cell_under, docs_after, is_begdoc, until_bre
 abbrev pub HaveLabels : List ℕ → ℕ → ℕ → List OptLine → Type 0
 HaveLabels text width number [] = Unit {0}
 HaveLabels text width number (line ∷ lines) =
-    (line.image ≡ label_of text width number) × HaveLabels text width (number + 1) lines
+    (line.image ≡ bates_label text width number) × HaveLabels text width (number + 1) lines
 
 -- a line that goes on with a document
 pub record GoesOn (line : OptLine) : Type 0 where
@@ -50,8 +50,8 @@ pub record IsDocument (columns : List (List ℕ)) (text : List ℕ) (width numbe
   pub go_on : AllByRecursion GoesOn others
   pub counted : line.pages ≡ decimal (length lines)
   pub few : length lines < 2 ^ 64
-  pub first : cell_under is_begdoc columns row ≡ label_of text width number
-  pub last : cell_under is_enddoc columns row ≡ label_of text width (number + length others)
+  pub first : cell_under is_begdoc columns row ≡ bates_label text width number
+  pub last : cell_under is_enddoc columns row ≡ bates_label text width (number + length others)
   pub pages : cell_under is_pagecount columns row ≡ decimal (length lines)
 
 -- documents that follow one another from a number on
@@ -95,16 +95,16 @@ next_follows text width number =
 one_label : (text : List ℕ) (width number n : ℕ) (before : Option Label) (line : OptLine)
     → is_good_prefix text width ≡ true
     → number < 10 ^ width
-    → line.image ≡ label_of text width number
+    → line.image ≡ bates_label text width number
     → is_next before (label text width number) ≡ true
     → label_at n before line ≡ Ok (label text width number)
 one_label text width number n before line good small image next =
     let found : checked.label_of (encode_utf8_all line.image) ≡ Some (label text width number) =
     ap (λ t. checked.label_of (encode_utf8_all t)) image ∙ label_back text width number good small in
     ap
-    (λ o. ok_or o (rule_at_line CheckLabel n) >>= (λ found. demand (is_next before found) (gap_rule n before found) >>= (λ _. Ok found)))
+    (λ o. ok_or o (rule_at_line CheckLabel n) >>= (λ found. must_pass (is_next before found) (gap_rule n before found) >>= (λ _. Ok found)))
     found
-    ∙ ap (λ b. demand b (gap_rule n before (label text width number)) >>= (λ _. Ok (label text width number))) next
+    ∙ ap (λ b. must_pass b (gap_rule n before (label text width number)) >>= (λ _. Ok (label text width number))) next
 
 labels_pass : (text : List ℕ) (width number n : ℕ) (before : Option Label) (lines : List OptLine)
     → is_good_prefix text width ≡ true
@@ -138,14 +138,14 @@ last_of : (text : List ℕ) (width number : ℕ) (line : OptLine) (others more :
     → HaveLabels text width number (line ∷ others)
     → AllByRecursion GoesOn others
     → BeginsAnew more
-    → last_image line (others ++ more) ≡ label_of text width (number + length others)
-last_of text width number line [] [] labels on anew = labels.0 ∙ ap (label_of text width) (omega arith)
+    → last_image line (others ++ more) ≡ bates_label text width (number + length others)
+last_of text width number line [] [] labels on anew = labels.0 ∙ ap (bates_label text width) (omega arith)
 last_of text width number line [] (next ∷ more) labels on anew =
-    ap (λ b. cond b line.image (last_image next more)) anew ∙ labels.0 ∙ ap (label_of text width) (omega arith)
+    ap (λ b. cond b line.image (last_image next more)) anew ∙ labels.0 ∙ ap (bates_label text width) (omega arith)
 last_of text width number line (next ∷ others) more labels on anew =
     ap (λ b. cond b line.image (last_image next (others ++ more))) on.0.no_break
     ∙ last_of text width (number + 1) next others more labels.1 on.1 anew
-    ∙ ap (label_of text width) (omega arith)
+    ∙ ap (bates_label text width) (omega arith)
 
 goes_on_fits : (n : ℕ) (columns : List (List ℕ)) (rows : List (List (List ℕ))) (line : OptLine)
     (lines : List OptLine)
@@ -308,7 +308,7 @@ pub documents_agree : {X : Type 0} (columns : List (List ℕ)) (lines : X → Li
 documents_agree columns lines row text width number xs good small are =
     let all = flat_map lines xs in
     let docs = map (record_of columns) (map row xs) in
-    ap (λ r. r >>= (λ _. breaks_of docs all >>= (λ _. counts_of docs all)))
+    ap (λ r. r >>= (λ _. breaks_hold docs all >>= (λ _. counts_of docs all)))
     (labels_pass text width number 1 None all good small (all_labels columns lines row text width number xs are) refl)
     ∙ ap (λ r. r >>= (λ _. counts_of docs all)) (documents_fit columns lines row text width number 1 xs (omega arith) are)
     ∙ documents_count columns lines row text width number 1 xs are

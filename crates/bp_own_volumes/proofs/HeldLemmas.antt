@@ -9,7 +9,7 @@ use Rattle.bp_core.specs.Paths.{path_in}
 use Rattle.bp_core.specs.declared.review.Basis.{Basis}
 use Rattle.bp_core.specs.declared.rules.Rule.{Rule}
 use Rattle.bp_load.specs.declared.opt.OptLine.{OptLine}
-use Rattle.bp_bates.specs.Labels.{label_of}
+use Rattle.bp_bates.specs.Labels.{bates_label}
 use Rattle.bp_outside.specs.Folder.{file}
 use Rattle.bp_outside.specs.Memory.{file_map, paths_differ}
 use Rattle.bp_outside.specs.declared.files.FileRow.{FileRow}
@@ -227,7 +227,7 @@ row_has f rows before p named is stands =
     record {
       path = path;
       bytes = bytes;
-      some = omega (arith, ap length (textpath_cell f p), text_some q.volume (join_with_byte reverse_solidus (codes "TEXT" ∷ folder_of p.place ∷ (label_of q.prefix.text q.prefix.width number ++ codes ".TXT") ∷ [])));
+      some = omega (arith, ap length (textpath_cell f p), text_some q.volume (join_with_byte reverse_solidus (codes "TEXT" ∷ folder_of p.place ∷ (bates_label q.prefix.text q.prefix.width number ++ codes ".TXT") ∷ [])));
       names = subst (λ t. Names (file_map rows) (map listed_of before) t path bytes) (sym (textpath_cell f p))
           (stands_named q rows before text path bytes is (steps_named reverse_solidus parts refl steps.some steps.steps) other stands);
     }

@@ -11,7 +11,7 @@ use Rattle.std.proofs.lemmas.List.{take_all, take_at, take_more}
 use Rattle.std.proofs.lemmas.List.Folds.{list_all-append}
 use Rattle.std.proofs.lemmas.Str.{digit_value_digit}
 use Rattle.bp_load.proofs.TextLemmas.{weaker}
-use Rattle.bp_bates.specs.Labels.{label_of, padded}
+use Rattle.bp_bates.specs.Labels.{bates_label, padded}
 use Rattle.bp_bates.specs.Prefixes.{is_allowed, is_good_prefix}
 use Rattle.bp_bates.proofs.LabelLemmas.{length-padded}
 use Rattle.bp_bates.proofs.PrefixLemmas.{IsGood-from_test, allowed_itself}
@@ -50,7 +50,7 @@ digit_allowed c is = grind (arith, nat_tests)
 
 pub all_allowed : (text : List ℕ) (width n : ℕ)
     → is_good_prefix text width ≡ true
-    → list_all is_allowed (label_of text width n) ≡ true
+    → list_all is_allowed (bates_label text width n) ≡ true
 all_allowed text width n good =
     list_all-append is_allowed text (padded width n)
     ∙ and_from _ _ (IsGood-from_test text width good).allowed
@@ -59,8 +59,8 @@ all_allowed text width n good =
 -- a label is ASCII
 pub label_bytes : (text : List ℕ) (width n : ℕ)
     → is_good_prefix text width ≡ true
-    → encode_utf8_all (label_of text width n) ≡ label_of text width n
-label_bytes text width n good = allowed_itself (label_of text width n) (all_allowed text width n good)
+    → encode_utf8_all (bates_label text width n) ≡ bates_label text width n
+label_bytes text width n good = allowed_itself (bates_label text width n) (all_allowed text width n good)
 
 -- a text and its last character
 last_apart : (text : List ℕ)
@@ -72,7 +72,7 @@ last_apart text some =
 
 digits_end : (text : List ℕ) (width n : ℕ)
     → is_good_prefix text width ≡ true
-    → end_digits (label_of text width n) ≡ padded width n
+    → end_digits (bates_label text width n) ≡ padded width n
 digits_end text width n good =
     let is = IsGood-from_test text width good in
     let front = take (length text - 1) text in
@@ -83,9 +83,9 @@ digits_end text width n good =
 
 with_digits : (text : List ℕ) (width n : ℕ)
     → n < 10 ^ width
-    → label_with (label_of text width n) (padded width n) ≡ record { head = text; width = width; number = n }
+    → label_with (bates_label text width n) (padded width n) ≡ record { head = text; width = width; number = n }
 with_digits text width n small =
-    let whole = label_of text width n in
+    let whole = bates_label text width n in
     let digits = padded width n in
     let wide : length digits ≡ width = length-padded width n in
     let head : take (length whole - length digits) whole ≡ text =
@@ -98,9 +98,9 @@ with_digits text width n small =
 pub label_back : (text : List ℕ) (width n : ℕ)
     → is_good_prefix text width ≡ true
     → n < 10 ^ width
-    → checked.label_of (encode_utf8_all (label_of text width n)) ≡ Some (record { head = text; width = width; number = n })
+    → checked.label_of (encode_utf8_all (bates_label text width n)) ≡ Some (record { head = text; width = width; number = n })
 label_back text width n good small =
-    let whole = label_of text width n in
+    let whole = bates_label text width n in
     let digits = padded width n in
     let is = IsGood-from_test text width good in
     let few : (nat_le 1 (length digits) && nat_le (length digits) MOST_LABEL_DIGITS) ≡ true =

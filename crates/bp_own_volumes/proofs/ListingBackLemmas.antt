@@ -10,7 +10,7 @@ use Rattle.bp_matter.specs.declared.rows.Request.{Request}
 use Rattle.bp_press.specs.Manifest.{manifest_line}
 use Rattle.bp_press.specs.Manifest as pressed
 use Rattle.bp_check.specs.Listing.{digest_text}
-use Rattle.bp_check.specs.Manifest.{manifest_of}
+use Rattle.bp_check.specs.Manifest.{listed_files}
 use Rattle.bp_own_volumes.proofs.DigestLemmas.{digest_hex, digest_long}
 use Rattle.bp_own_volumes.proofs.HeldLemmas.{IsVolume, stands_read}
 use Rattle.bp_own_volumes.proofs.ManifestBackLemmas.{CanBeListed, listed_line, manifest_back, stays_on_line}
@@ -50,8 +50,8 @@ all_listed (row ∷ rows) has = (can_be_listed row has.0, all_listed rows has.1)
 
 pub listing_back : (rows : List FileRow)
     → AllByRecursion HasParts rows
-    → manifest_of (pressed.manifest_of rows) ≡ Ok (map listed_of rows)
-listing_back rows has = ap manifest_of (lines_same rows) ∙ manifest_back (map listed_of rows) (all_listed rows has)
+    → listed_files (pressed.manifest_of rows) ≡ Ok (map listed_of rows)
+listing_back rows has = ap listed_files (lines_same rows) ∙ manifest_back (map listed_of rows) (all_listed rows has)
 
 -- ---- each file is there
 

@@ -27,10 +27,10 @@ use Rattle.bp_matter.specs.declared.rows.HeldRow.{HeldRow}
 use Rattle.bp_matter.specs.declared.rows.Item.{Item}
 use Rattle.bp_matter.specs.declared.rows.Production.{Production}
 use Rattle.bp_matter.specs.declared.rows.Request.{Request}
-use Rattle.bp_freeze.specs.Agree.{field_number, held_for, value_in}
-use Rattle.bp_freeze.specs.Keeping.{Keeps}
+use Rattle.bp_freeze.specs.Agree.{field_number, held_of_number, value_of_field}
+use Rattle.bp_freeze.specs.Keeping.{KeepsProduction}
 use Rattle.bp_freeze.specs.Log.{label_in}
-use Rattle.bp_freeze.specs.Selecting.{first_number, last_number}
+use Rattle.bp_freeze.specs.Selecting.{first_of_items, last_of_items}
 use Rattle.bp_press.specs.Contents.{content_by, ground_of, held_text, label_count, part_of, value_by, value_shown, value_unless}
 use Rattle.bp_press.specs.Files.{Placed, placed}
 use Rattle.bp_press.specs.LoadFiles.{dat_bytes, dat_row, dat_table, family_of, opt_bytes, opt_line, opt_lines, optional_code, own_values}
@@ -52,7 +52,7 @@ pub record IsWritten (f : Production) : Type 0 where
   pub request : request_written f.request ≡ true
   pub items : list_all item_written f.items ≡ true
 
-pub kept_written : (m : Matter) → IsValid m → (f : Production) → Keeps m f → IsWritten f
+pub kept_written : (m : Matter) → IsValid m → (f : Production) → KeepsProduction m f → IsWritten f
 kept_written m valid f keeps =
     let kept = kept-row m f keeps in
     let all = passes (is_row_of f) production_written m.productions kept.row kept.found valid.productions.written in
@@ -141,7 +141,7 @@ value_scalars : (m : Matter)
     → (i : Item)
     → ItemStands m i
     → (field : ℕ)
-    → all_scalars (unwrap_or (value_in m i.doc.0 field) []) ≡ true
+    → all_scalars (unwrap_or (value_of_field m i.doc.0 field) []) ≡ true
 value_scalars m valid i stands field =
     ap
     (λ (o : Option DocRow). all_scalars (unwrap_or (of_row (λ (row : DocRow). slice_index_or row.values (field - 1) []) o) []))
@@ -162,7 +162,7 @@ by_scalars : (m : Matter)
     → all_scalars (value_by m i field) ≡ true
 by_scalars m valid i stands None = refl
 by_scalars m valid i stands (Some field) =
-    unless_scalars (held_for i.held field) (value_in m i.doc.0 field) (value_scalars m valid i stands field)
+    unless_scalars (held_of_number i.held field) (value_of_field m i.doc.0 field) (value_scalars m valid i stands field)
 
 shown_scalars : (m : Matter)
     → IsValid m
@@ -202,7 +202,7 @@ own_scalars f named p written few =
     steps_scalars reverse_solidus (item_parts q (codes "TEXT") (folder_of p.place) (codes ".TXT") i.span.first) refl
     (text_steps q named p.place i.span.first).steps in
     and_from _ _ (label_scalars q named i.span.first) (and_from _ _ (label_scalars q named i.span.last)
-    (and_from _ _ (label_scalars q named (first_number family)) (and_from _ _ (label_scalars q named (last_number family))
+    (and_from _ _ (label_scalars q named (first_of_items family)) (and_from _ _ (label_scalars q named (last_of_items family))
     (and_from _ _ (decimal_scalars (label_count i) few) (and_from _ _ (designation_scalars i written)
     (and_from _ _ (optional_scalars (ground_of i.treatment)) (and_from _ true path refl)))))))
 
@@ -231,7 +231,7 @@ rows_scalars f named m valid place (i ∷ items) written stand fit =
 pub dat_back : (m : Matter)
     → IsValid m
     → (f : Production)
-    → Keeps m f
+    → KeepsProduction m f
     → IsNamed f.request
     → dat_of (dat_bytes f (placed_items f m)) ≡ Ok (dat_table f (placed_items f m))
 dat_back m valid f keeps named =
@@ -291,7 +291,7 @@ all_texts f named m place (i ∷ items) fit =
 pub opt_back : (m : Matter)
     → IsValid m
     → (f : Production)
-    → Keeps m f
+    → KeepsProduction m f
     → IsNamed f.request
     → opt_of (opt_bytes f.request (placed_items f m)) ≡ Ok (flat_map (opt_lines f.request) (placed_items f m))
 opt_back m valid f keeps named =

@@ -15,7 +15,7 @@ use Rattle.bp_core.specs.Rules.{rule_at_line}
 use Rattle.bp_core.specs.declared.rules.RuleKind.TheVariants.{ManifestShape}
 use Rattle.bp_load.proofs.JoinLemmas.{none_of}
 use Rattle.bp_load.proofs.TextLemmas.{weaker}
-use Rattle.bp_check.specs.Manifest.{Listed, between_newlines, is_lower_hex, listed_at, listed_behind, listed_from, listed_in, manifest_of}
+use Rattle.bp_check.specs.Manifest.{Listed, between_newlines, is_lower_hex, listed_at, listed_behind, listed_from, listed_in, listed_files}
 use Rattle.bp_check.proofs.ManifestLemmas.{first_then_rest}
 
 -- the line of a file, without its end
@@ -90,5 +90,5 @@ files_back n (file ∷ files) all =
 -- what is written is read back
 pub manifest_back : (files : List Listed)
     → AllByRecursion CanBeListed files
-    → manifest_of (flat_map listed_line files) ≡ Ok files
+    → listed_files (flat_map listed_line files) ≡ Ok files
 manifest_back files all = files_back 1 files all

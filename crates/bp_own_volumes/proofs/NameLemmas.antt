@@ -11,7 +11,7 @@ use Rattle.bp_core.specs.Characters.{full_stop, solidus}
 use Rattle.bp_core.specs.Paths.{is_slash, path_in}
 use Rattle.bp_load.proofs.JoinLemmas.{joined}
 use Rattle.bp_load.proofs.TextLemmas.{weaker}
-use Rattle.bp_bates.specs.Labels.{label_of, padded}
+use Rattle.bp_bates.specs.Labels.{bates_label, padded}
 use Rattle.bp_bates.specs.Prefixes.{is_allowed, is_good_prefix}
 use Rattle.bp_matter.specs.Texts.{is_volume, is_volume_character}
 use Rattle.bp_own_volumes.proofs.LabelBackLemmas.{all_allowed, digits_all}
@@ -113,8 +113,8 @@ plain_both xs ys one two = list_all-append is_name_character xs ys ∙ and_from 
 
 pub label_plain : (text : List ℕ) (width n : ℕ)
     → is_good_prefix text width ≡ true
-    → is_plain_name (label_of text width n) ≡ true
-label_plain text width n good = weaker is_allowed is_name_character allowed_name (label_of text width n) (all_allowed text width n good)
+    → is_plain_name (bates_label text width n) ≡ true
+label_plain text width n good = weaker is_allowed is_name_character allowed_name (bates_label text width n) (all_allowed text width n good)
 
 pub folder_plain : (width n : ℕ) → is_plain_name (padded width n) ≡ true
 folder_plain width n = weaker is_ascii_digit is_name_character digit_name (padded width n) (digits_all width n)

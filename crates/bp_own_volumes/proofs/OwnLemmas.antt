@@ -22,8 +22,8 @@ use Rattle.bp_matter.specs.Texts.{columns}
 use Rattle.bp_matter.specs.Valid.{IsValid}
 use Rattle.bp_matter.specs.declared.rows.Production.{Production}
 use Rattle.bp_matter.specs.declared.rows.Request.{Request}
-use Rattle.bp_freeze.specs.Keeping.{Keeps}
-use Rattle.bp_press.specs.Contents.{Part, part_of}
+use Rattle.bp_freeze.specs.Keeping.{KeepsProduction}
+use Rattle.bp_press.specs.Contents.{ItemShown, part_of}
 use Rattle.bp_press.specs.Files.{Placed, item_files, placed}
 use Rattle.bp_press.specs.LoadFiles.{dat_bytes, dat_row, dat_table, opt_bytes, opt_lines}
 use Rattle.bp_press.specs.Manifest as pressed
@@ -32,16 +32,16 @@ use Rattle.bp_press.specs.Pressing.{image_total}
 use Rattle.bp_press.specs.ReadBack.{HoldsItem, IsReadBack}
 use Rattle.bp_press.specs.Volume.{data_files, dat_file, file_at as bytes_at, files_before, files_of, log_file, opt_file, placed_items, volume_of, with_manifest}
 use Rattle.bp_check.specs.Check.{agrees, check_of, operand, optional_operand, paths_of}
-use Rattle.bp_check.specs.Checking.{ChecksAs, Gives}
-use Rattle.bp_check.specs.Files.{file_at}
+use Rattle.bp_check.specs.Checking.{ChecksAs, StepGives}
+use Rattle.bp_check.specs.Files.{file_there}
 use Rattle.bp_check.specs.Images.{IsTiff, Judging}
 use Rattle.bp_check.specs.Listing.{digest_text}
-use Rattle.bp_check.specs.Manifest.{manifest_of}
+use Rattle.bp_check.specs.Manifest.{listed_files}
 use Rattle.bp_check.specs.Records.{record_of, records_of}
 use Rattle.bp_check.specs.declared.checked.Checked.{Checked}
 use Rattle.bp_check.specs.declared.files.TheConstants.{DAT, FILE_LIMIT, MANIFEST, OPT}
 use Rattle.bp_check.specs.declared.refusals.ImportRefusal.{ImportRefusal}
-use Rattle.bp_own_volumes.specs.OwnVolumes.{AreShort, own_counts, own_operands}
+use Rattle.bp_own_volumes.specs.OwnVolumes.{AreShortFiles, own_counts, own_operands}
 use Rattle.bp_own_volumes.proofs.ApartLemmas.{IsNamed, IsPathOf}
 use Rattle.bp_own_volumes.proofs.ColumnLemmas.{columns_fit, kept_fields, kept_named}
 use Rattle.bp_own_volumes.proofs.DocumentLemmas.{documents_agree}
@@ -64,7 +64,7 @@ pub record KnowsTurn (f : Production) (m : Matter) : Type 0 where
   pub turn : AreInTurn 0 number (placed_items f m)
   pub most : number + total_of (placed_items f m) ≤ 10 ^ f.request.prefix.width
 
-knows_turn : (f : Production) (m : Matter) → IsValid m → Keeps m f → KnowsTurn f m
+knows_turn : (f : Production) (m : Matter) → IsValid m → KeepsProduction m f → KnowsTurn f m
 knows_turn f m valid keeps =
     let start = kept_starts m valid f keeps in
     let items = items_in_turn f m 0 start.number start.next f.items (kept_counts m valid f keeps) start.is in
@@ -79,7 +79,7 @@ volume_files f m = refl
 knows_volume : (f : Production) (m : Matter)
     → IsNamed f.request
     → KnowsTurn f m
-    → AreShort (volume_of f m)
+    → AreShortFiles (volume_of f m)
     → IsVolume f.request (volume_of f m) (files_before f (placed_items f m))
 knows_volume f m named knows short = record {
   rows_are = volume_files f m;
@@ -89,12 +89,12 @@ knows_volume f m named knows short = record {
 
 -- ---- no path stands twice
 
-pub volume_apart : (f : Production) (m : Matter) → IsValid m → Keeps m f → paths_differ (volume_of f m) ≡ true
+pub volume_apart : (f : Production) (m : Matter) → IsValid m → KeepsProduction m f → paths_differ (volume_of f m) ≡ true
 volume_apart f m valid keeps =
     let knows = knows_turn f m valid keeps in
     ap paths_differ (volume_files f m) ∙ volume_differ f 0 knows.number (placed_items f m) (kept_named m valid f keeps) knows.turn knows.most
 
-pub volume_found : (f : Production) (m : Matter) → IsValid m → Keeps m f → All (λ row. bytes_at row.path (volume_of f m) ≡ Some row.bytes) (volume_of f m)
+pub volume_found : (f : Production) (m : Matter) → IsValid m → KeepsProduction m f → All (λ row. bytes_at row.path (volume_of f m) ≡ Some row.bytes) (volume_of f m)
 volume_found f m valid keeps =
     All-from_recursion (λ (row : FileRow). bytes_at row.path (volume_of f m) ≡ Some row.bytes) (volume_of f m)
     (each_found [] (volume_of f m) (volume_apart f m valid keeps))
@@ -136,7 +136,7 @@ read_then : {V : Type 0} (files : FileMap) (which : ℕ) (path bytes : List ℕ)
     (value : V)
     → CanBeRead files path bytes
     → means bytes ≡ Ok value
-    → (file_at files which 0 path >>= means) ≡ Ok value
+    → (file_there files which 0 path >>= means) ≡ Ok value
 read_then files which path bytes means value can is = ap (λ r. r >>= means) (file_is_read files which 0 path bytes can) ∙ is
 
 -- ---- the operands
@@ -178,10 +178,10 @@ all_steps : (f : Production) (m : Matter) (tiff : Judging)
     → OneAnswer
     → IsReadBack f m
     → IsValid m
-    → Keeps m f
-    → AreShort (volume_of f m)
+    → KeepsProduction m f
+    → AreShortFiles (volume_of f m)
     → IsTiff tiff
-    → Passes digest_text (file_at (file_map (volume_of f m))) tiff (own_operands f.request) (data_path f.request (codes ".DAT")) (data_path f.request (codes ".OPT")) (manifest_path f.request)
+    → Passes digest_text (file_there (file_map (volume_of f m))) tiff (own_operands f.request) (data_path f.request (codes ".DAT")) (data_path f.request (codes ".OPT")) (manifest_path f.request)
     (dat_table f (placed_items f m)) (flat_map (opt_lines f.request) (placed_items f m)) (map listed_of (files_before f (placed_items f m)))
 all_steps f m tiff only back valid keeps short is_tiff =
     let q = f.request in
@@ -205,7 +205,7 @@ all_steps f m tiff only back valid keeps short is_tiff =
       paths = operands_are q named;
       table_is = read_then files DAT dat (dat_bytes f ps) dat_of (dat_table f ps) (before_reads q rows before dat (dat_bytes f ps) is (dat_stands f ps)) (dat_back m valid f keeps named);
       lines_are = read_then files OPT opt (opt_bytes q ps) opt_of lines (before_reads q rows before opt (opt_bytes q ps) is (opt_stands f ps)) (opt_back m valid f keeps named);
-      listed_are = read_then files MANIFEST (manifest_path q) (pressed.manifest_of before) manifest_of listed (manifest_reads q rows before is) (listing_back before (before_has f 0 knows.number ps named knows.turn));
+      listed_are = read_then files MANIFEST (manifest_path q) (pressed.manifest_of before) listed_files listed (manifest_reads q rows before is) (listing_back before (before_has f 0 knows.number ps named knows.turn));
       columns = columns_fit q (kept_fields m valid f keeps);
       agree = agree f m named knows;
       images_are = images.gives;
@@ -217,7 +217,7 @@ all_steps f m tiff only back valid keeps short is_tiff =
 
 -- ---- the three numbers
 
-placed_counted : (place : ℕ) (parts : List Part) → length (placed place parts) ≡ length parts
+placed_counted : (place : ℕ) (parts : List ItemShown) → length (placed place parts) ≡ length parts
 placed_counted place [] = refl
 placed_counted place (part ∷ parts) = ap (λ n. suc n) (placed_counted (place + length part.content.images) parts)
 
@@ -236,14 +236,14 @@ images_counted f m = lines_counted f.request (placed_items f m) ∙ total_is f m
 
 -- each image of a volume is read back, as bp_press says
 abbrev pub AreReadBack : Type 0
-AreReadBack = (f : Production) (m : Matter) → IsValid m → Keeps m f → IsReadBack f m
+AreReadBack = (f : Production) (m : Matter) → IsValid m → KeepsProduction m f → IsReadBack f m
 
 pub own_passes : OneAnswer
     → AreReadBack
     → (f : Production) (m : Matter) (tiff : Judging)
     → IsValid m
-    → Keeps m f
-    → AreShort (volume_of f m)
+    → KeepsProduction m f
+    → AreShortFiles (volume_of f m)
     → IsTiff tiff
     → check_of (file_map (volume_of f m)) tiff (own_operands f.request) ≡ Ok (own_counts f m)
 own_passes only reads f m tiff valid keeps short is_tiff =
@@ -252,7 +252,7 @@ own_passes only reads f m tiff valid keeps short is_tiff =
     let lines = flat_map (opt_lines q) ps in
     let before = files_before f ps in
     let listed = map listed_of before in
-    passes digest_text (file_at (file_map (volume_of f m))) tiff (own_operands q) (data_path q (codes ".DAT"))
+    passes digest_text (file_there (file_map (volume_of f m))) tiff (own_operands q) (data_path q (codes ".DAT"))
     (data_path q (codes ".OPT")) (manifest_path q) (dat_table f ps) lines listed
     (all_steps f m tiff only (reads f m valid keeps) valid keeps short is_tiff)
     ∙ ap (λ n. Ok (record { documents = n; images = length lines; files = length listed })) (documents_counted f m)
@@ -268,11 +268,11 @@ pub own_answered : OneAnswer
     → AreReadBack
     → (f : Production) (m : Matter) (result : Result Checked ImportRefusal)
     → IsValid m
-    → Keeps m f
-    → AreShort (volume_of f m)
+    → KeepsProduction m f
+    → AreShortFiles (volume_of f m)
     → ChecksAs (file_map (volume_of f m)) (own_operands f.request) result
-    → Gives (λ checked. checked) result (Ok (own_counts f m))
+    → StepGives (λ checked. checked) result (Ok (own_counts f m))
 own_answered only answers reads f m result valid keeps short checks =
     let tiff : Judging = λ bytes. (answers bytes).0 in
     let is_tiff : IsTiff tiff = λ bytes. (answers bytes).1 in
-    subst (Gives (λ checked. checked) result) (own_passes only reads f m tiff valid keeps short is_tiff) (checks tiff is_tiff)
+    subst (StepGives (λ checked. checked) result) (own_passes only reads f m tiff valid keeps short is_tiff) (checks tiff is_tiff)

@@ -4,7 +4,7 @@ use Rattle.std.specs.Fmt.{decimal}
 use Rattle.std.specs.List.{AllByRecursion, range_with_len}
 use Rattle.std.proofs.lemmas.Bool.{ne_eqb}
 use Rattle.std.proofs.lemmas.List.FromFn.{length-map-range_with_len}
-use Rattle.bp_bates.specs.Labels.{label_of}
+use Rattle.bp_bates.specs.Labels.{bates_label}
 use Rattle.bp_matter.specs.Texts.{columns}
 use Rattle.bp_matter.specs.declared.rows.Production.{Production}
 use Rattle.bp_matter.specs.declared.rows.Request.{Request}
@@ -31,7 +31,7 @@ have_labels : (q : Request) (p : Placed) (number k n : ℕ)
     → HaveLabels q.prefix.text q.prefix.width (number + k) (map (opt_line q p) (range_with_len k n))
 have_labels q p number k zero first = tt
 have_labels q p number k (suc n) first = (
-  ap (λ from. label_of q.prefix.text q.prefix.width (from + k)) first,
+  ap (λ from. bates_label q.prefix.text q.prefix.width (from + k)) first,
   subst (λ at. HaveLabels q.prefix.text q.prefix.width at (map (opt_line q p) (range_with_len (k + 1) n))) (omega arith)
       (have_labels q p number (k + 1) n first),
 )
@@ -45,7 +45,7 @@ document : (f : Production) (p : Placed) (place number more : ℕ)
     → IsDocument (columns ++ f.request.fields) f.request.prefix.text f.request.prefix.width number (dat_row f p) (opt_lines f.request p)
 document f p place number more is many =
     let q = f.request in
-    let label = label_of q.prefix.text q.prefix.width in
+    let label = bates_label q.prefix.text q.prefix.width in
     let others = map (opt_line q p) (range_with_len 1 more) in
     let long : length others ≡ more = length-map-range_with_len (opt_line q p) 1 more in
     let all : length (opt_lines q p) ≡ length p.content.images = counted q p in

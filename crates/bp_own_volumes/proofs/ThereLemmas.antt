@@ -17,12 +17,12 @@ use Rattle.bp_outside.specs.Folder.{file}
 use Rattle.bp_outside.specs.Source.{FileMap}
 use Rattle.bp_outside.specs.declared.files.FileRow.{FileRow}
 use Rattle.bp_check.specs.Columns.{is_textpath}
-use Rattle.bp_check.specs.Files.{file_at, file_read, file_rule}
-use Rattle.bp_check.specs.Images.{Judging, at_line, image_at, images_of, path_at, text_at, texts_from, texts_of}
+use Rattle.bp_check.specs.Files.{file_there, checked_file, file_rule}
+use Rattle.bp_check.specs.Images.{Judging, ok_at_line, judged_image, images_of, path_at, text_there, texts_from, texts_there}
 use Rattle.bp_check.specs.Listing.{digest_text, digests_by, listed_all, lists}
 use Rattle.bp_check.specs.Manifest.{Listed}
 use Rattle.bp_check.specs.Records.{record_of}
-use Rattle.bp_check.specs.Steps.{demand, each, in_turn}
+use Rattle.bp_check.specs.Steps.{must_pass, each, in_turn}
 use Rattle.bp_check.specs.declared.files.TheConstants.{FILE_LIMIT, IMAGE, LISTED, TEXT}
 use Rattle.bp_load.specs.Documents.{cell_under}
 
@@ -35,9 +35,9 @@ pub record CanBeRead (files : FileMap) (path bytes : List ℕ) : Type 0 where
 
 pub file_is_read : (files : FileMap) (which line : ℕ) (path bytes : List ℕ)
     → CanBeRead files path bytes
-    → file_at files which line path ≡ Ok bytes
+    → file_there files which line path ≡ Ok bytes
 file_is_read files which line path bytes can =
-    ap (file_read which line) can.there
+    ap (checked_file which line) can.there
     ∙ ap (λ b. cond b (Err (file_rule FileTooLong which line)) (Ok bytes)) (le-ltb FILE_LIMIT (length bytes) can.short)
 
 -- a text that names it, in a volume that lists it
@@ -67,12 +67,12 @@ AreListed listed paths = AllByRecursion (λ path. lists listed path ≡ true) pa
 
 image_passes : (files : FileMap) (listed : List Listed) (tiff : Judging) (n : ℕ) (line : OptLine)
     (has : HasPage files listed tiff line)
-    → image_at (file_at files) tiff n line ≡ Ok has.path
+    → judged_image (file_there files) tiff n line ≡ Ok has.path
 image_passes files listed tiff n line has =
-    ap (λ r. r >>= (λ path. file_at files IMAGE n path >>= (λ bytes. at_line n (tiff bytes) >>= (λ _. Ok path)))) (path_is n has.names)
-    ∙ ap (λ r. r >>= (λ bytes. at_line n (tiff bytes) >>= (λ _. Ok has.path)))
+    ap (λ r. r >>= (λ path. file_there files IMAGE n path >>= (λ bytes. ok_at_line n (tiff bytes) >>= (λ _. Ok path)))) (path_is n has.names)
+    ∙ ap (λ r. r >>= (λ bytes. ok_at_line n (tiff bytes) >>= (λ _. Ok has.path)))
     (file_is_read files IMAGE n has.path has.bytes has.names.reads)
-    ∙ ap (λ r. at_line n r >>= (λ _. Ok has.path)) has.is_page
+    ∙ ap (λ r. ok_at_line n r >>= (λ _. Ok has.path)) has.is_page
 
 -- the paths that a step gives, each of them listed
 pub record GivesListed (listed : List Listed) (given : Result (List (List ℕ)) Rule) : Type 0 where
@@ -82,20 +82,20 @@ pub record GivesListed (listed : List Listed) (given : Result (List (List ℕ)) 
 
 all_images : (files : FileMap) (listed : List Listed) (tiff : Judging) (n : ℕ) (lines : List OptLine)
     → AllByRecursion (HasPage files listed tiff) lines
-    → GivesListed listed (each (image_at (file_at files) tiff) n lines)
+    → GivesListed listed (each (judged_image (file_there files) tiff) n lines)
 all_images files listed tiff n [] has = record { paths = []; gives = refl; are_listed = tt }
 all_images files listed tiff n (line ∷ lines) has =
     let rest = all_images files listed tiff (n + 1) lines has.1 in
     let first = has.0 in
     record {
       paths = first.path ∷ rest.paths;
-      gives = ap (λ r. in_turn r (each (image_at (file_at files) tiff) (n + 1) lines)) (image_passes files listed tiff n line first) ∙ ap (in_turn (Ok first.path)) rest.gives;
+      gives = ap (λ r. in_turn r (each (judged_image (file_there files) tiff) (n + 1) lines)) (image_passes files listed tiff n line first) ∙ ap (in_turn (Ok first.path)) rest.gives;
       are_listed = (first.names.is_listed, rest.are_listed);
     }
 
 pub images_pass : (files : FileMap) (listed : List Listed) (tiff : Judging) (lines : List OptLine)
     → AllByRecursion (HasPage files listed tiff) lines
-    → GivesListed listed (images_of (file_at files) tiff lines)
+    → GivesListed listed (images_of (file_there files) tiff lines)
 images_pass files listed tiff lines has = all_images files listed tiff 1 lines has
 
 -- ---- texts
@@ -109,24 +109,24 @@ pub record HasText (files : FileMap) (listed : List Listed) (columns row : List 
 
 text_passes : (files : FileMap) (listed : List Listed) (columns : List (List ℕ)) (n : ℕ) (row : List (List ℕ))
     (has : HasText files listed columns row)
-    → text_at (file_at files) n (cell_under is_textpath columns row) ≡ Ok has.path
+    → text_there (file_there files) n (cell_under is_textpath columns row) ≡ Ok has.path
 text_passes files listed columns n row has =
-    ap (λ r. r >>= (λ path. file_at files TEXT n path >>= (λ _. Ok path))) (path_is n has.names)
+    ap (λ r. r >>= (λ path. file_there files TEXT n path >>= (λ _. Ok path))) (path_is n has.names)
     ∙ ap (λ r. r >>= (λ _. Ok has.path)) (file_is_read files TEXT n has.path has.bytes has.names.reads)
 
 all_texts : (files : FileMap) (listed : List Listed) (columns : List (List ℕ)) (n : ℕ)
     (rows : List (List (List ℕ)))
     → AllByRecursion (HasText files listed columns) rows
-    → GivesListed listed (texts_from (file_at files) n (map (record_of columns) rows))
+    → GivesListed listed (texts_from (file_there files) n (map (record_of columns) rows))
 all_texts files listed columns n [] has = record { paths = []; gives = refl; are_listed = tt }
 all_texts files listed columns n (row ∷ rows) has =
     let first = has.0 in
     let text = cell_under is_textpath columns row in
-    let others = texts_from (file_at files) (n + 1) (map (record_of columns) rows) in
+    let others = texts_from (file_there files) (n + 1) (map (record_of columns) rows) in
     let rest = all_texts files listed columns (n + 1) rows has.1 in
     record {
       paths = first.path ∷ rest.paths;
-      gives = ap (λ b. cond b others (in_turn (text_at (file_at files) n text) others)) (ne_eqb (length text) 0 (λ none. omega (arith, first.some)))
+      gives = ap (λ b. cond b others (in_turn (text_there (file_there files) n text) others)) (ne_eqb (length text) 0 (λ none. omega (arith, first.some)))
           ∙ ap (λ r. in_turn r others) (text_passes files listed columns n row first)
           ∙ ap (in_turn (Ok first.path)) rest.gives;
       are_listed = (first.names.is_listed, rest.are_listed);
@@ -135,7 +135,7 @@ all_texts files listed columns n (row ∷ rows) has =
 pub texts_pass : (files : FileMap) (listed : List Listed) (columns : List (List ℕ))
     (rows : List (List (List ℕ)))
     → AllByRecursion (HasText files listed columns) rows
-    → GivesListed listed (texts_of (file_at files) (map (record_of columns) rows))
+    → GivesListed listed (texts_there (file_there files) (map (record_of columns) rows))
 texts_pass files listed columns rows has = all_texts files listed columns 1 rows has
 
 -- ---- the listing
@@ -161,14 +161,14 @@ listed_of row = record { digest = digest_text row.bytes; path = row.path }
 
 pub digests_pass : (files : FileMap) (n : ℕ) (rows : List FileRow)
     → AllByRecursion (λ (row : FileRow). CanBeRead files row.path row.bytes) rows
-    → digests_by digest_text (file_at files) n (map listed_of rows) ≡ Ok tt
+    → digests_by digest_text (file_there files) n (map listed_of rows) ≡ Ok tt
 digests_pass files n [] can = refl
 digests_pass files n (row ∷ rows) can =
     let digest = digest_text row.bytes in
-    let rest = digests_by digest_text (file_at files) (n + 1) (map listed_of rows) in
-    ap (λ r. (r >>= (λ bytes. demand (bytes_eq digest (digest_text bytes)) (rule_at_line DigestDiffers n))) >>= (λ _. rest))
+    let rest = digests_by digest_text (file_there files) (n + 1) (map listed_of rows) in
+    ap (λ r. (r >>= (λ bytes. must_pass (bytes_eq digest (digest_text bytes)) (rule_at_line DigestDiffers n))) >>= (λ _. rest))
     (file_is_read files LISTED n row.path row.bytes can.0)
-    ∙ ap (λ b. demand b (rule_at_line DigestDiffers n) >>= (λ _. rest)) ((bytes_eq-Decides digest digest).1 refl)
+    ∙ ap (λ b. must_pass b (rule_at_line DigestDiffers n) >>= (λ _. rest)) ((bytes_eq-Decides digest digest).1 refl)
     ∙ digests_pass files (n + 1) rows can.1
 
 -- ---- files among files

@@ -16,7 +16,7 @@ use Rattle.bp_matter.specs.declared.rows.PrefixRow.{PrefixRow}
 use Rattle.bp_matter.specs.declared.rows.Production.{Production}
 use Rattle.bp_matter.specs.declared.rows.ProductionRow.{ProductionRow}
 use Rattle.bp_matter.specs.declared.rows.Request.{Request}
-use Rattle.bp_freeze.specs.Keeping.{Keeps}
+use Rattle.bp_freeze.specs.Keeping.{KeepsProduction}
 use Rattle.bp_press.specs.Contents.{part_of}
 use Rattle.bp_press.specs.Files.{Placed, placed}
 use Rattle.bp_press.specs.LoadFiles.{opt_line, opt_lines}
@@ -219,7 +219,7 @@ row_starts m valid f kept p found =
 pub kept_starts : (m : Matter)
     → IsValid m
     → (f : Production)
-    → Keeps m f
+    → KeepsProduction m f
     → StartsAt f.request.prefix.width f.items
 kept_starts m valid f keeps =
     let kept = kept-row m f keeps in
@@ -227,5 +227,5 @@ kept_starts m valid f keeps =
     let prefix = finds (is_prefix_of kept.row) m.prefixes has in
     subst (λ (g : Production). StartsAt g.request.prefix.width g.items) kept.same (row_starts m valid f kept prefix.0 prefix.1)
 
-pub kept_counts : (m : Matter) → IsValid m → (f : Production) → Keeps m f → All (CountFits m) f.items
+pub kept_counts : (m : Matter) → IsValid m → (f : Production) → KeepsProduction m f → All (CountFits m) f.items
 kept_counts m valid f keeps k d l = count_fits m valid (get_or f.items k d) (items-stand m valid f keeps k d l)

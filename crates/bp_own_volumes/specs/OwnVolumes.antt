@@ -13,8 +13,8 @@ use Rattle.bp_press.specs.Pressing.{image_total}
 use Rattle.bp_press.specs.Volume.{files_before, placed_items}
 
 -- no file is longer than a check reads
-abbrev pub AreShort : List FileRow → Type 0
-AreShort files = All (λ row. length row.bytes ≤ FILE_LIMIT) files
+abbrev pub AreShortFiles : List FileRow → Type 0
+AreShortFiles files = All (λ row. length row.bytes ≤ FILE_LIMIT) files
 
 -- the DAT, the OPT and the manifest of the volume of a request, by their paths
 abbrev pub own_operands : Request → Operands

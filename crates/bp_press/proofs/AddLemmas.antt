@@ -9,31 +9,31 @@ use Rattle.bp_outside.specs.declared.files.FileRow.{FileRow}
 use Rattle.bp_outside.specs.declared.refusals.FolderRefusal.{FolderRefusal}
 use Rattle.bp_outside.specs.declared.refusals.FolderRefusal.TheVariants.{OutOfMemory}
 use Rattle.bp_press.specs.Manifest.{manifest_line}
-use Rattle.bp_press.specs.Writing.{Adds, AddsAll, LeavesCut, ToCome}
+use Rattle.bp_press.specs.Writing.{AddsListed, AddsAll, LeavesCut, ToCome}
 use Rattle.bp_press.proofs.GatherLemmas.{onto}
 use Rattle.bp_press.proofs.WritingLemmas.{come_all, come_cut, come_end, come_next, cut_none, puts_cut}
 
 -- ---- what was added, as it is told
 
 pub adds_err : (rows : List FileRow) (before : FolderView) (lines : List ℕ) (result : Result (Unit {0}) FolderRefusal) (after : FolderView) (longer : List ℕ) (r : FolderRefusal) → result ≡ Err r
-    → LeavesCut before rows r after → Adds rows before lines result after longer
+    → LeavesCut before rows r after → AddsListed rows before lines result after longer
 adds_err rows before lines result after longer r is cut =
-    subst (λ (answer : Result (Unit {0}) FolderRefusal). Adds rows before lines answer after longer) (sym is) (record { files = tt; cut = cut; lines_are = tt })
+    subst (λ (answer : Result (Unit {0}) FolderRefusal). AddsListed rows before lines answer after longer) (sym is) (record { files = tt; cut = cut; lines_are = tt })
 
 -- what is known of files that were added, by the answer
 pub cut_of : (rows : List FileRow) (before : FolderView) (lines : List ℕ) (result : Result (Unit {0}) FolderRefusal) (after : FolderView) (longer : List ℕ) (r : FolderRefusal) → result ≡ Err r
-    → Adds rows before lines result after longer → LeavesCut before rows r after
-cut_of rows before lines result after longer r is added = (subst (λ (answer : Result (Unit {0}) FolderRefusal). Adds rows before lines answer after longer) is added).cut
+    → AddsListed rows before lines result after longer → LeavesCut before rows r after
+cut_of rows before lines result after longer r is added = (subst (λ (answer : Result (Unit {0}) FolderRefusal). AddsListed rows before lines answer after longer) is added).cut
 
 pub all_of : (rows : List FileRow) (before : FolderView) (lines : List ℕ) (result : Result (Unit {0}) FolderRefusal) (after : FolderView) (longer : List ℕ) (u : Unit {0}) → result ≡ Ok u
-    → Adds rows before lines result after longer → AddsAll before rows after × (longer ≡ lines ++ flat_map manifest_line rows)
+    → AddsListed rows before lines result after longer → AddsAll before rows after × (longer ≡ lines ++ flat_map manifest_line rows)
 all_of rows before lines result after longer u is added =
-    let done : Adds rows before lines (Ok u) after longer = subst (λ (answer : Result (Unit {0}) FolderRefusal). Adds rows before lines answer after longer) is added in
+    let done : AddsListed rows before lines (Ok u) after longer = subst (λ (answer : Result (Unit {0}) FolderRefusal). AddsListed rows before lines answer after longer) is added in
     (done.files, done.lines_are)
 
 -- one file was put, and its line is there
 pub adds_one : (path bytes : List ℕ) (before : FolderView) (lines : List ℕ) (result : Result (Unit {0}) FolderRefusal) (after : FolderView) (longer : List ℕ)
-    → longer ≡ lines ++ manifest_line (file path bytes) → PutsFile before path bytes result after → Adds (file path bytes ∷ []) before lines result after longer
+    → longer ≡ lines ++ manifest_line (file path bytes) → PutsFile before path bytes result after → AddsListed (file path bytes ∷ []) before lines result after longer
 adds_one path bytes before lines (Ok u) after longer grown put = record {
   files = record { there = put };
   cut = tt;
@@ -129,14 +129,14 @@ entries_piece_cut row all k end xs before folder after old new r order is h cut 
 
 -- none is left
 pub entries_end : {T : Type 0} (row : T → FileRow) (all : List T) (k : ℕ) (before folder : FolderView) (old new : List ℕ) (u : Unit {0}) → length all ≤ k
-    → AreEntriesFrom row all k before folder old new → Adds (map row all) before old (Ok u) folder new
+    → AreEntriesFrom row all k before folder old new → AddsListed (map row all) before old (Ok u) folder new
 entries_end row all k before folder old new u past h =
     let done = subst (λ (rest : List FileRow). AddsUpTo (map row all) rest before folder old new) (at_drop_all (map row) all k past) h.upto in
     record { files = adds_end (map row all) before folder old new done; cut = tt; lines_are = lines_end (map row all) before folder old new done }
 
 -- the last of them were added, or some of these
 pub entries_last : {T : Type 0} (row : T → FileRow) (all : List T) (k end : ℕ) (xs : List FileRow) (before folder : FolderView) (old new : List ℕ) (result : Result (Unit {0}) FolderRefusal) (after : FolderView) (newer : List ℕ)
-    → k ≤ end → length all ≤ end → xs ≡ map row (slice_range all k end) → AreEntriesFrom row all k before folder old new → Adds xs folder new result after newer → Adds (map row all) before old result after newer
+    → k ≤ end → length all ≤ end → xs ≡ map row (slice_range all k end) → AreEntriesFrom row all k before folder old new → AddsListed xs folder new result after newer → AddsListed (map row all) before old result after newer
 entries_last row all k end xs before folder old new (Ok u) after newer order past is h added =
     entries_end row all end before after old newer u past (entries_piece row all k end xs before folder after old new newer order is h added.files added.lines_are)
 entries_last row all k end xs before folder old new (Err r) after newer order past is h added =
@@ -144,7 +144,7 @@ entries_last row all k end xs before folder old new (Err r) after newer order pa
 
 -- a file that is lent was put, and its line is there
 pub adds_put : (row : FileRow) (path lent again : List ℕ) (before : FolderView) (lines : List ℕ) (result : Result (Unit {0}) FolderRefusal) (after : FolderView) (longer : List ℕ)
-    → path ≡ row.path → lent ≡ row.bytes → again ≡ row.bytes → longer ≡ lines ++ manifest_line (file row.path lent) → PutsFile before path again result after → Adds (row ∷ []) before lines result after longer
+    → path ≡ row.path → lent ≡ row.bytes → again ≡ row.bytes → longer ≡ lines ++ manifest_line (file row.path lent) → PutsFile before path again result after → AddsListed (row ∷ []) before lines result after longer
 adds_put row path lent again before lines result after longer named is same grown put =
     adds_one row.path row.bytes before lines result after longer
     (grown ∙ ap (λ (bytes : List ℕ). lines ++ manifest_line (file row.path bytes)) is)

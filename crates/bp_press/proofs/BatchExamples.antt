@@ -11,8 +11,8 @@ use Rattle.bp_matter.specs.Matter.{Matter}
 use Rattle.bp_matter.specs.declared.rows.Item.{Item}
 use Rattle.bp_matter.specs.declared.rows.Production.{Production}
 use Rattle.sha2.specs.Sha256.{compress, digest_bytes, first_words, hash_after, rounds, schedule, sha256}
-use Rattle.bp_press.specs.Batches.{HasImages, HasJob, IsCodedBatch, IsDigested, IsNamed, IsNamedPage, is_image, jobs_by, made_by}
-use Rattle.bp_press.specs.Jobs.{HasBand, HasPage, IsCodable, page_of, sheet_frame, strip_by}
+use Rattle.bp_press.specs.Batches.{HasImages, HasJob, IsCodedBatch, IsDigested, IsNamed, IsNamedPage, is_image, jobs_by, file_made_by}
+use Rattle.bp_press.specs.Jobs.{HasBand, HasPage, IsCodable, page_of_job, sheet_frame, strip_by}
 use Rattle.bp_press.specs.Shown.{IsOwnJob}
 use Rattle.bp_press.specs.declared.batches.MadeFile.{MadeFile}
 use Rattle.bp_press.specs.declared.batches.TheConstants.{BATCH_IMAGES}
@@ -107,7 +107,7 @@ tiny_job =
 abbrev pub tiny_rows : List (List Bool)
 tiny_rows = (false ∷ false ∷ true ∷ true ∷ true ∷ false ∷ false ∷ false ∷ []) ∷ replicate 32 (replicate 8 false)
 
-tiny_page : page_of tiny tiny_job ≡ record small { height = 33; rows = tiny_rows }
+tiny_page : page_of_job tiny tiny_job ≡ record small { height = 33; rows = tiny_rows }
 unfolding glyph_rows
 tiny_page = refl
 
@@ -164,7 +164,7 @@ second_codable = has_second_page
 none_of_another : IsCodable two_paged (bare_job 2 1) → ⊥
 none_of_another page = no_page_of_another page
 
-widths : ((page_of two_paged (bare_job 1 1)).width ∷ (page_of two_paged (bare_job 1 2)).width ∷ []) ≡ 8 ∷ 16 ∷ []
+widths : ((page_of_job two_paged (bare_job 1 1)).width ∷ (page_of_job two_paged (bare_job 1 2)).width ∷ []) ≡ 8 ∷ 16 ∷ []
 widths = refl
 
 tiny_codable : IsCodable tiny tiny_job
@@ -191,7 +191,7 @@ form_feed_digest =
 abbrev text_made : MadeFile
 text_made = record { row = file (codes "V1/TEXT/0002/AB-0001.TXT") (12 ∷ []); digest = form_feed_digest }
 
-made_text : made_by frozen smith (Text (lent redacted) 1000) ≡ text_made
+made_text : file_made_by frozen smith (Text (lent redacted) 1000) ≡ text_made
 unfolding sha256 first_words schedule rounds compress hash_after digest_bytes lib.Utf8.encode
 made_text = refl
 

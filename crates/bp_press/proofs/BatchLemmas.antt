@@ -22,10 +22,10 @@ use Rattle.bp_matter.specs.declared.rows.PageRow.{PageRow}
 use Rattle.bp_matter.specs.declared.rows.Production.{Production}
 use Rattle.bp_matter.specs.declared.rows.Request.{Request}
 use Rattle.bp_press.specs.Batches.{HasImages, HasJob, is_image, jobs_by, page_job, sheet_job}
-use Rattle.bp_press.specs.Contents.{image_in, produced_page, slip_sheet, stamps_on}
-use Rattle.bp_press.specs.Jobs.{IsCodable, page_of, strip_by}
+use Rattle.bp_press.specs.Contents.{page_image, produced_page, slip_sheet, stamps_on}
+use Rattle.bp_press.specs.Jobs.{IsCodable, page_of_job, strip_by}
 use Rattle.bp_press.specs.Shown.{IsOwnJob}
-use Rattle.bp_press.specs.VolumeFiles.{CanBeMade, bytes_in}
+use Rattle.bp_press.specs.VolumeFiles.{EntryCanBeMade, bytes_of_entry}
 use Rattle.bp_press.specs.declared.jobs.Job.{Job}
 use Rattle.bp_press.specs.declared.jobs.Job.TheVariants as jobs
 use Rattle.bp_press.specs.declared.volume_files.VolumeFile.{VolumeFile}
@@ -41,22 +41,22 @@ scan_there : (o : Option PageRow)
 scan_there None sides = absurd cc
 scan_there (Some row) sides = refl
 
-pub page_there : (m : Matter) (doc page : ℕ) → IsTrue (sides_are_imported (image_in m doc page).width (image_in m doc page).height) → IsTrue (is_some (page_with doc page m))
+pub page_there : (m : Matter) (doc page : ℕ) → IsTrue (sides_are_imported (page_image m doc page).width (page_image m doc page).height) → IsTrue (is_some (page_with doc page m))
 page_there m doc page sides = scan_there (page_with doc page m) sides
 
 -- it makes the page that goes out
-pub page_job_made : (f : Production) (m : Matter) (i : Item) (page : ℕ) → page_of m (page_job f i page) ≡ produced_page f m i (page + 1)
+pub page_job_made : (f : Production) (m : Matter) (i : Item) (page : ℕ) → page_of_job m (page_job f i page) ≡ produced_page f m i (page + 1)
 unfolding produced_page
 page_job_made f m i page =
     let number : i.span.first + page ≡ i.span.first + (page + 1) - 1 = omega arith in
-    ap (λ (n : ℕ). page_of m (jobs.Image f.ink i.doc (record { 0 = page + 1 }) (stamps_on i.boxes (page + 1)) (label_in f.request.prefix n) i.designation)) number
+    ap (λ (n : ℕ). page_of_job m (jobs.Image f.ink i.doc (record { 0 = page + 1 }) (stamps_on i.boxes (page + 1)) (label_in f.request.prefix n) i.designation)) number
 
-pub sheet_job_made : (q : Request) (m : Matter) (i : Item) (basis : Basis) (sheet : ℕ) → page_of m (sheet_job q i basis sheet) ≡ slip_sheet q i basis sheet
+pub sheet_job_made : (q : Request) (m : Matter) (i : Item) (basis : Basis) (sheet : ℕ) → page_of_job m (sheet_job q i basis sheet) ≡ slip_sheet q i basis sheet
 unfolding slip_sheet
 sheet_job_made q m i basis sheet = refl
 
 -- what an entry needs has what its job needs
-pub has_job : (f : Production) (m : Matter) (entry : VolumeFile) → CanBeMade f m entry → HasJob f entry
+pub has_job : (f : Production) (m : Matter) (entry : VolumeFile) → EntryCanBeMade f m entry → HasJob f entry
 has_job f m (Page item place page) made = record { named = record { prefix = made.named.prefix; label = made.named.label }; fits = made.filled.number }
 has_job f m (Sheet item place basis sheet) made = record { prefix = made.named.prefix; label = made.named.label }
 has_job f m (Text item place) made = tt
@@ -64,10 +64,10 @@ has_job f m Dat made = tt
 has_job f m Opt made = tt
 has_job f m Log made = tt
 
-pub have_jobs : (f : Production) (m : Matter) (list : List VolumeFile) → All (CanBeMade f m) list → All (HasJob f) list
-have_jobs f m list made = All-weaker (CanBeMade f m) (HasJob f) (has_job f m) list made
+pub have_jobs : (f : Production) (m : Matter) (list : List VolumeFile) → All (EntryCanBeMade f m) list → All (HasJob f) list
+have_jobs f m list made = All-weaker (EntryCanBeMade f m) (HasJob f) (has_job f m) list made
 
-codable_one : (f : Production) (m : Matter) (entry : VolumeFile) → CanBeMade f m entry → All (IsCodable m) (jobs_by f entry)
+codable_one : (f : Production) (m : Matter) (entry : VolumeFile) → EntryCanBeMade f m entry → All (IsCodable m) (jobs_by f entry)
 codable_one f m (Page item place page) made =
     let fit = made.filled in
     All-cons (IsCodable m) (page_job f item.now page) []
@@ -89,14 +89,14 @@ codable_one f m Dat made = All-nil (IsCodable m)
 codable_one f m Opt made = All-nil (IsCodable m)
 codable_one f m Log made = All-nil (IsCodable m)
 
-pub codable : (f : Production) (m : Matter) (entries : List VolumeFile) → All (CanBeMade f m) entries → All (IsCodable m) (flat_map (jobs_by f) entries)
+pub codable : (f : Production) (m : Matter) (entries : List VolumeFile) → All (EntryCanBeMade f m) entries → All (IsCodable m) (flat_map (jobs_by f) entries)
 codable f m [] made = All-nil (IsCodable m)
 codable f m (entry ∷ entries) made =
-    All-append (IsCodable m) (jobs_by f entry) (flat_map (jobs_by f) entries) (codable_one f m entry (All-head (CanBeMade f m) entry entries made))
-    (codable f m entries (All-tail (CanBeMade f m) entry entries made))
+    All-append (IsCodable m) (jobs_by f entry) (flat_map (jobs_by f) entries) (codable_one f m entry (All-head (EntryCanBeMade f m) entry entries made))
+    (codable f m entries (All-tail (EntryCanBeMade f m) entry entries made))
 
 -- the job of an entry is one of the production's
-own_one : (f : Production) (m : Matter) (entry : VolumeFile) → CanBeMade f m entry → All (IsOwnJob f) (jobs_by f entry)
+own_one : (f : Production) (m : Matter) (entry : VolumeFile) → EntryCanBeMade f m entry → All (IsOwnJob f) (jobs_by f entry)
 own_one f m (Page item place page) made =
     All-cons (IsOwnJob f) (page_job f item.now page) []
     (record { item = item.now; there = made.filled.own; shown = made.filled.shown; of = refl; boxed = refl })
@@ -107,16 +107,16 @@ own_one f m Dat made = All-nil (IsOwnJob f)
 own_one f m Opt made = All-nil (IsOwnJob f)
 own_one f m Log made = All-nil (IsOwnJob f)
 
-pub own_all : (f : Production) (m : Matter) (entries : List VolumeFile) → All (CanBeMade f m) entries → All (IsOwnJob f) (flat_map (jobs_by f) entries)
+pub own_all : (f : Production) (m : Matter) (entries : List VolumeFile) → All (EntryCanBeMade f m) entries → All (IsOwnJob f) (flat_map (jobs_by f) entries)
 own_all f m [] made = All-nil (IsOwnJob f)
 own_all f m (entry ∷ entries) made =
-    All-append (IsOwnJob f) (jobs_by f entry) (flat_map (jobs_by f) entries) (own_one f m entry (All-head (CanBeMade f m) entry entries made))
-    (own_all f m entries (All-tail (CanBeMade f m) entry entries made))
+    All-append (IsOwnJob f) (jobs_by f entry) (flat_map (jobs_by f) entries) (own_one f m entry (All-head (EntryCanBeMade f m) entry entries made))
+    (own_all f m entries (All-tail (EntryCanBeMade f m) entry entries made))
 
 -- ---- a piece of the list
 
-pub piece_made : (f : Production) (m : Matter) (list : List VolumeFile) (from end : ℕ) → All (CanBeMade f m) list → All (CanBeMade f m) (slice_range list from end)
-piece_made f m list from end made = All-take (CanBeMade f m) (end - from) (drop from list) (All-drop (CanBeMade f m) from list made)
+pub piece_made : (f : Production) (m : Matter) (list : List VolumeFile) (from end : ℕ) → All (EntryCanBeMade f m) list → All (EntryCanBeMade f m) (slice_range list from end)
+piece_made f m list from end made = All-take (EntryCanBeMade f m) (end - from) (drop from list) (All-drop (EntryCanBeMade f m) from list made)
 
 -- one more entry
 piece_more : {X : Type 0} (xs : List X) (from end : ℕ) (d : X) → from ≤ end → end < length xs → slice_range xs from (end + 1) ≡ slice_range xs from end ++ get_or xs end d ∷ []
@@ -206,12 +206,12 @@ image_first f m entry job jobs strips one has =
 
 -- the file of an entry is that of its job
 pub file_of_job : (f : Production) (m : Matter) (entry : VolumeFile) (job : Job) (jobs : List Job) (strips : List (List ℕ)) (image : Image) (r : Result (List ℕ) OutOfMemory) → jobs_by f entry ≡ job ∷ []
-    → HasImages f m entry jobs strips → page_of m job ≡ image → ((d : Job) → IfOk r (λ bytes. bytes ≡ tiff_of G4 (page_of m (get_or jobs 0 d)))) → IfOk r (λ bytes. bytes ≡ tiff_of G4 image)
+    → HasImages f m entry jobs strips → page_of_job m job ≡ image → ((d : Job) → IfOk r (λ bytes. bytes ≡ tiff_of G4 (page_of_job m (get_or jobs 0 d)))) → IfOk r (λ bytes. bytes ≡ tiff_of G4 image)
 file_of_job f m entry job jobs strips image r one has made h =
-    tiff_made r (page_of m (get_or jobs 0 job)) image (ap (page_of m) ((image_first f m entry job jobs strips one has).1 job) ∙ made) (h job)
+    tiff_made r (page_of_job m (get_or jobs 0 job)) image (ap (page_of_job m) ((image_first f m entry job jobs strips one has).1 job) ∙ made) (h job)
 
 pub made_as_listed : (f : Production) (m : Matter) (entry : VolumeFile) (jobs : List Job) (strips : List (List ℕ)) (r : Result (List ℕ) OutOfMemory) → is_image entry ≡ true → HasImages f m entry jobs strips
-    → ((d : Job) → IfOk r (λ bytes. bytes ≡ tiff_of G4 (page_of m (get_or jobs 0 d)))) → IfOk r (λ bytes. bytes ≡ bytes_in f m entry)
+    → ((d : Job) → IfOk r (λ bytes. bytes ≡ tiff_of G4 (page_of_job m (get_or jobs 0 d)))) → IfOk r (λ bytes. bytes ≡ bytes_of_entry f m entry)
 made_as_listed f m (Page item place page) jobs strips r image has h =
     file_of_job f m (Page item place page) (page_job f item.now page) jobs strips (produced_page f m item.now (page + 1)) r refl has (page_job_made f m item.now page) h
 made_as_listed f m (Sheet item place basis sheet) jobs strips r image has h =
@@ -222,7 +222,7 @@ made_as_listed f m Opt jobs strips r image has h = absurd cc
 made_as_listed f m Log jobs strips r image has h = absurd cc
 
 -- the jobs of one entry
-pub own_images : (f : Production) (m : Matter) (entry : VolumeFile) (jobs lent : List Job) (strips lent_strips : List (List ℕ)) → CanBeMade f m entry → jobs ≡ jobs_by f entry → lent ≡ jobs
+pub own_images : (f : Production) (m : Matter) (entry : VolumeFile) (jobs lent : List Job) (strips lent_strips : List (List ℕ)) → EntryCanBeMade f m entry → jobs ≡ jobs_by f entry → lent ≡ jobs
     → strips ≡ map (strip_by m) jobs → lent_strips ≡ strips → HasImages f m entry lent lent_strips
 own_images f m entry jobs lent strips lent_strips fit are same made same' =
     let is : lent ≡ jobs_by f entry = same ∙ are in
@@ -234,10 +234,10 @@ own_images f m entry jobs lent strips lent_strips fit are same made same' =
       made = same' ∙ made ∙ ap (map (strip_by m)) (sym same);
     }
 
-pub own_codable : (f : Production) (m : Matter) (entry : VolumeFile) (jobs : List Job) → CanBeMade f m entry → jobs ≡ jobs_by f entry → All (IsCodable m) jobs
+pub own_codable : (f : Production) (m : Matter) (entry : VolumeFile) (jobs : List Job) → EntryCanBeMade f m entry → jobs ≡ jobs_by f entry → All (IsCodable m) jobs
 own_codable f m entry jobs fit are = All-same (IsCodable m) jobs (jobs_by f entry) are (codable_one f m entry fit)
 
-pub own_own : (f : Production) (m : Matter) (entry : VolumeFile) (jobs : List Job) → CanBeMade f m entry → jobs ≡ jobs_by f entry → All (IsOwnJob f) jobs
+pub own_own : (f : Production) (m : Matter) (entry : VolumeFile) (jobs : List Job) → EntryCanBeMade f m entry → jobs ≡ jobs_by f entry → All (IsOwnJob f) jobs
 own_own f m entry jobs fit are = All-same (IsOwnJob f) jobs (jobs_by f entry) are (own_one f m entry fit)
 
 -- ---- how many jobs there are

@@ -8,7 +8,7 @@ use Rattle.std.proofs.lemmas.List.Folds.{list_all-append}
 use Rattle.std.proofs.lemmas.Fmt.{decimal_by_steps}
 use Rattle.bp_codes.specs.Glyphs.{glyph_rows}
 use Rattle.bp_burn.specs.Drawn.{has_glyph}
-use Rattle.bp_bates.specs.Labels.{label_of, padded}
+use Rattle.bp_bates.specs.Labels.{bates_label, padded}
 use Rattle.bp_bates.specs.Prefixes.{is_allowed, is_digit, is_good_prefix}
 use Rattle.bp_bates.proofs.PrefixLemmas.{IsGood-from_test}
 use Rattle.bp_load.specs.Dat.{is_cell, is_cell_character, is_name}
@@ -106,14 +106,14 @@ decimal_digits n l =
     decimal_by_steps (λ n ds. list_all is_digit ds ≡ true) one_digit
     (λ n ds many so_far. all-append is_digit ds ((48 + n % 10) ∷ []) so_far (one_digit (n % 10) (omega arith))) n l
 
-pub label_allowed : (text : List ℕ) (width n : ℕ) → is_good_prefix text width ≡ true → list_all is_allowed (label_of text width n) ≡ true
+pub label_allowed : (text : List ℕ) (width n : ℕ) → is_good_prefix text width ≡ true → list_all is_allowed (bates_label text width n) ≡ true
 label_allowed text width n good =
     all-append is_allowed text (padded width n) (IsGood-from_test text width good).allowed (all-wider is_digit is_allowed (padded width n) allowed-digit (padded_digits width n))
 
-pub label_clean : (text : List ℕ) (width n : ℕ) → is_good_prefix text width ≡ true → list_all is_clean (label_of text width n) ≡ true
-label_clean text width n good = all-wider is_allowed is_clean (label_of text width n) clean-allowed (label_allowed text width n good)
+pub label_clean : (text : List ℕ) (width n : ℕ) → is_good_prefix text width ≡ true → list_all is_clean (bates_label text width n) ≡ true
+label_clean text width n good = all-wider is_allowed is_clean (bates_label text width n) clean-allowed (label_allowed text width n good)
 
-pub label_some : (text : List ℕ) (width n : ℕ) → is_good_prefix text width ≡ true → 0 < length (label_of text width n)
+pub label_some : (text : List ℕ) (width n : ℕ) → is_good_prefix text width ≡ true → 0 < length (bates_label text width n)
 label_some text width n good = omega (arith, (IsGood-from_test text width good).some, length-append text (padded width n))
 
 -- ---- four steps of a path

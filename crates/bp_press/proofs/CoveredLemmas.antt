@@ -4,7 +4,7 @@ use Rattle.bp_core.specs.Rectangle.{has_pixel}
 use Rattle.bp_core.specs.declared.stamps.Ink.{Ink}
 use Rattle.bp_core.specs.declared.stamps.Ink.TheVariants.{Black, Lettered}
 use Rattle.bp_core.specs.declared.stamps.Stamp.{Stamp}
-use Rattle.bp_rows.specs.Burned.{AgreeOutside, covers}
+use Rattle.bp_rows.specs.Burned.{AgreeOutside, covers_pixel}
 use Rattle.bp_rows.specs.Image.{Image, grid_of, pixel}
 use Rattle.bp_rows.specs.declared.resolution.Res.{Res}
 use Rattle.bp_rows.specs.declared.resolution.Unit.{Unit as LengthUnit}
@@ -22,10 +22,10 @@ not_covered s None false rest others none = others refl
 not_covered s (Some t) has rest others none = cc
 
 -- where no stamp decides, no rectangle has the pixel
-none_covers : (stamps : List Stamp) (r c : ℕ) → last_with stamps r c ≡ None → covers (rects_of stamps) r c ≡ false
+none_covers : (stamps : List Stamp) (r c : ℕ) → last_with stamps r c ≡ None → covers_pixel (rects_of stamps) r c ≡ false
 none_covers [] r c none = refl
 none_covers (s ∷ stamps) r c none =
-    not_covered s (last_with stamps r c) (has_pixel s.rect r c) (covers (rects_of stamps) r c) (none_covers stamps r c) none
+    not_covered s (last_with stamps r c) (has_pixel s.rect r c) (covers_pixel (rects_of stamps) r c) (none_covers stamps r c) none
 
 or_alike : (b x y : Bool) → (b ≡ false → x ≡ y) → (b || x) ≡ (b || y)
 or_alike true x y same = refl
@@ -39,9 +39,9 @@ decided_alike r c x y None same = same refl
 decided_alike r c x y (Some s) same = refl
 
 -- what becomes of a pixel tells of it only where no rectangle has it
-covered_alike : (ink : Ink) (stamps : List Stamp) (r c : ℕ) (x y : Bool) → (covers (rects_of stamps) r c ≡ false → x ≡ y)
+covered_alike : (ink : Ink) (stamps : List Stamp) (r c : ℕ) (x y : Bool) → (covers_pixel (rects_of stamps) r c ≡ false → x ≡ y)
     → covered_pixel ink stamps r c x ≡ covered_pixel ink stamps r c y
-covered_alike Black stamps r c x y same = or_alike (covers (rects_of stamps) r c) x y same
+covered_alike Black stamps r c x y same = or_alike (covers_pixel (rects_of stamps) r c) x y same
 covered_alike Lettered stamps r c x y same = decided_alike r c x y (last_with stamps r c) (λ none. same (none_covers stamps r c none))
 
 -- ---- the page

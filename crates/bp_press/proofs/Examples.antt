@@ -30,7 +30,7 @@ use Rattle.bp_matter.specs.declared.rows.Request.{Request}
 use Rattle.bp_matter.specs.declared.rows.State.TheVariants.{Confirmed}
 use Rattle.bp_matter.specs.Treatments.{is_withheld}
 use Rattle.bp_matter.specs.Valid.{IsValid}
-use Rattle.bp_freeze.specs.Agree.{Agree, ItemAgrees, PageAgrees, ValueAgrees, field_number, value_in}
+use Rattle.bp_freeze.specs.Agree.{Agree, ItemAgrees, PageAgrees, ValueAgrees, field_number, value_of_field}
 use Rattle.bp_freeze.specs.Alike.{Alike, is_withheld_doc}
 use Rattle.bp_freeze.specs.Freezing.{freeze_of}
 use Rattle.bp_freeze.specs.Log.{log_of}
@@ -39,7 +39,7 @@ use Rattle.bp_rows.proofs.BurnedLemmas.{pixel-burned}
 use Rattle.hex.specs.Hex.{encode_with}
 use Rattle.sha2.specs.Sha256.{compress, digest_bytes, first_words, hash_after, rounds, schedule, sha256}
 use Rattle.bp_burn.specs.Band.{slip_of}
-use Rattle.bp_press.specs.Contents.{image_in, produced_page, slip_sheet, slip_sheets}
+use Rattle.bp_press.specs.Contents.{page_image, produced_page, slip_sheet, slip_sheets}
 use Rattle.bp_press.specs.Manifest.{manifest_line, manifest_of}
 use Rattle.bp_press.specs.Paths.{folder_of}
 use Rattle.bp_press.specs.declared.paths.TheConstants.{FOLDER_DIGITS, IMAGES_A_FOLDER}
@@ -202,7 +202,7 @@ jones_valid = record {
 
 -- they differ in a pixel under the box, in the words that it touches, in the value that is held, and
 -- in how many pages the withheld document has
-pixels_differ : (pixel (image_in smith 1 1) 8 8 ∷ pixel (image_in jones 1 1) 8 8 ∷ []) ≡ (false ∷ true ∷ [])
+pixels_differ : (pixel (page_image smith 1 1) 8 8 ∷ pixel (page_image jones 1 1) 8 8 ∷ []) ≡ (false ∷ true ∷ [])
 pixels_differ = refl
 
 abbrev texts_on : Matter → List (List ℕ)
@@ -211,7 +211,7 @@ texts_on m = map (λ (w : Word). w.text) (unwrap_or (of_row (λ row. row.words) 
 words_differ : (texts_on smith ∷ texts_on jones ∷ []) ≡ ((codes "Smith" ∷ []) ∷ (codes "Jo" ∷ codes "Hart" ∷ []) ∷ [])
 words_differ = refl
 
-values_differ : (value_in smith 1 1 ≡ Some (codes "Smith")) × (value_in jones 1 1 ≡ Some (codes "Jones"))
+values_differ : (value_of_field smith 1 1 ≡ Some (codes "Smith")) × (value_of_field jones 1 1 ≡ Some (codes "Jones"))
 values_differ = (refl, refl)
 
 counts_differ : (page_count smith 2 ∷ page_count jones 2 ∷ []) ≡ (1 ∷ 3 ∷ [])

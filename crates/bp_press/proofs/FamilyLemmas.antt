@@ -6,7 +6,7 @@ use Rattle.std.proofs.lemmas.List.Elements.{All-push, All-weaker}
 use Rattle.std.proofs.lemmas.Bool.{cases_Bool, eqb-false, eqb-true}
 use Rattle.std.proofs.lemmas.List.{get_or-set_other, get_or-set_same, get_or_append_left, get_or_push, take_all}
 use Rattle.bp_matter.specs.declared.rows.Item.{Item}
-use Rattle.bp_freeze.specs.Selecting.{first_number, last_number}
+use Rattle.bp_freeze.specs.Selecting.{first_of_items, last_of_items}
 use Rattle.bp_press.specs.Needs.{IsInFamily}
 use Rattle.bp_press.proofs.SpanLemmas.{SpanLies}
 
@@ -24,13 +24,13 @@ abbrev pub last_or : ℕ → ℕ → List Item → ℕ
 last_or n p [] = n
 last_or n p (i ∷ items) = last_or (cond (is_of p i) i.span.last n) p items
 
-pub first_is : (p : ℕ) (items : List Item) → first_or 0 p items ≡ first_number (filter (is_of p) items)
+pub first_is : (p : ℕ) (items : List Item) → first_or 0 p items ≡ first_of_items (filter (is_of p) items)
 first_is p [] = refl
 first_is p (i ∷ items) =
     elim (cases_Bool (is_of p i)) [
-      | inl own ↦ ap (λ (b : Bool). cond b i.span.first (first_or 0 p items)) own ∙ sym (ap (λ (b : Bool). first_number (cond b (i ∷ filter (is_of p) items) (filter (is_of p) items))) own)
+      | inl own ↦ ap (λ (b : Bool). cond b i.span.first (first_or 0 p items)) own ∙ sym (ap (λ (b : Bool). first_of_items (cond b (i ∷ filter (is_of p) items) (filter (is_of p) items))) own)
       | inr other ↦ ap (λ (b : Bool). cond b i.span.first (first_or 0 p items)) other ∙ first_is p items
-          ∙ sym (ap (λ (b : Bool). first_number (cond b (i ∷ filter (is_of p) items) (filter (is_of p) items))) other)
+          ∙ sym (ap (λ (b : Bool). first_of_items (cond b (i ∷ filter (is_of p) items) (filter (is_of p) items))) other)
     ]
 
 -- one item more at the end
@@ -41,7 +41,7 @@ first_end n p (first ∷ items) i = ap (cond (is_of p first) first.span.first) (
 -- the last number of some items, or this one
 abbrev last_of : ℕ → List Item → ℕ
 last_of n [] = n
-last_of n (i ∷ items) = last_number (i ∷ items)
+last_of n (i ∷ items) = last_of_items (i ∷ items)
 
 last_of_more : (n : ℕ) (i : Item) (items : List Item) → last_of n (i ∷ items) ≡ last_of i.span.last items
 last_of_more n i [] = refl
@@ -57,11 +57,11 @@ last_runs n p (i ∷ items) =
           ∙ sym (ap (λ (b : Bool). last_of n (cond b (i ∷ filter (is_of p) items) (filter (is_of p) items))) other)
     ]
 
-last_from : (items : List Item) → last_of 0 items ≡ last_number items
+last_from : (items : List Item) → last_of 0 items ≡ last_of_items items
 last_from [] = refl
 last_from (i ∷ items) = refl
 
-pub last_is : (p : ℕ) (items : List Item) → last_or 0 p items ≡ last_number (filter (is_of p) items)
+pub last_is : (p : ℕ) (items : List Item) → last_or 0 p items ≡ last_of_items (filter (is_of p) items)
 last_is p items = last_runs 0 p items ∙ last_from (filter (is_of p) items)
 
 -- ---- a step of each loop
@@ -86,11 +86,11 @@ pub last_step : (p : ℕ) (numbers : List ℕ) (rest others all : List Item) (i 
 last_step p numbers rest others all i is l so_far =
     ap (λ n. last_or n p others) (write_at numbers i.parent.0 p i.span.last l) ∙ sym (ap (last_or (slice_index numbers p) p) is) ∙ so_far
 
-pub first_done : (n p : ℕ) (rest all : List Item) → length rest ≡ 0 → first_or n p rest ≡ first_or 0 p all → n ≡ first_number (filter (is_of p) all)
+pub first_done : (n p : ℕ) (rest all : List Item) → length rest ≡ 0 → first_or n p rest ≡ first_or 0 p all → n ≡ first_of_items (filter (is_of p) all)
 first_done n p [] all none is = is ∙ first_is p all
 first_done n p (i ∷ rest) all none is = absurd (omega arith)
 
-pub last_done : (n p : ℕ) (rest all : List Item) → length rest ≡ 0 → last_or n p rest ≡ last_or 0 p all → n ≡ last_number (filter (is_of p) all)
+pub last_done : (n p : ℕ) (rest all : List Item) → length rest ≡ 0 → last_or n p rest ≡ last_or 0 p all → n ≡ last_of_items (filter (is_of p) all)
 last_done n p [] all none is = is ∙ last_is p all
 last_done n p (i ∷ rest) all none is = absurd (omega arith)
 
@@ -172,8 +172,8 @@ last_or_lies next n p (i ∷ items) lie any =
           last_or_lies next (cond (is_of p i) i.span.last n) p items (tail (SpanLies 1 next) i items lie) rest)
     ]
 
-pub family-first : (next p : ℕ) (items : List Item) → All (SpanLies 1 next) items → list_any (is_of p) items ≡ true → LiesBelow next (first_number (filter (is_of p) items))
+pub family-first : (next p : ℕ) (items : List Item) → All (SpanLies 1 next) items → list_any (is_of p) items ≡ true → LiesBelow next (first_of_items (filter (is_of p) items))
 family-first next p items lie any = subst (LiesBelow next) (first_is p items) (first_or_lies next 0 p items lie any)
 
-pub family-last : (next p : ℕ) (items : List Item) → All (SpanLies 1 next) items → list_any (is_of p) items ≡ true → LiesBelow next (last_number (filter (is_of p) items))
+pub family-last : (next p : ℕ) (items : List Item) → All (SpanLies 1 next) items → list_any (is_of p) items ≡ true → LiesBelow next (last_of_items (filter (is_of p) items))
 family-last next p items lie any = subst (LiesBelow next) (last_is p items) (last_or_lies next 0 p items lie any)

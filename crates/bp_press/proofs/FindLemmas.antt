@@ -11,7 +11,7 @@ use Rattle.std.specs.Borrow.{Bor}
 use Rattle.std.specs.Option.{MatchOption}
 use Rattle.std.specs.Cmp.Lexicographic.{pointwise}
 use Rattle.std.proofs.lemmas.Str.{encodes-append}
-use Rattle.bp_bates.specs.Labels.{label_of}
+use Rattle.bp_bates.specs.Labels.{bates_label}
 use Rattle.bp_bates.specs.Prefixes.{is_good_prefix}
 use Rattle.bp_bates.proofs.PrefixLemmas.{allowed_itself}
 use Rattle.bp_outside.specs.Folder.{file}
@@ -25,7 +25,7 @@ use Rattle.bp_freeze.specs.Log.{label_in}
 use Rattle.bp_press.specs.Manifest.{manifest_line, manifest_of}
 use Rattle.bp_press.specs.Paths.{folder_of, image_path, manifest_path, text_path}
 use Rattle.bp_press.specs.Volume.{file_at, files_before, files_of, placed_items, volume_of}
-use Rattle.bp_press.specs.VolumeFiles.{IsListed, bytes_in, entry_at, path_in, row_of}
+use Rattle.bp_press.specs.VolumeFiles.{IsListed, bytes_of_entry, entry_at, entry_path, file_of_entry}
 use Rattle.bp_press.specs.declared.volume_files.VolumeFile.{VolumeFile}
 use Rattle.bp_press.proofs.CharacterLemmas.{label_allowed}
 use Rattle.bp_press.proofs.GatherLemmas.{onto}
@@ -88,9 +88,9 @@ other_path own front tail path r is ends none =
 
 -- the bytes of a path that ends with a label and what stands behind it
 pub path_bytes : (front text end : List ℕ) (width number : ℕ) → is_good_prefix text width ≡ true → encode_utf8_all end ≡ end
-    → encode_utf8_all (front ++ (label_of text width number ++ end)) ≡ (encode_utf8_all front ++ label_of text width number) ++ end
+    → encode_utf8_all (front ++ (bates_label text width number ++ end)) ≡ (encode_utf8_all front ++ bates_label text width number) ++ end
 path_bytes front text end width number good ascii =
-    let label = label_of text width number in
+    let label = bates_label text width number in
     encodes-append front (label ++ end)
     ∙ ap (λ x. encode_utf8_all front ++ x)
     (encodes-append label end ∙ ap (λ x. x ++ encode_utf8_all end) (allowed_itself label (label_allowed text width number good)) ∙ ap (λ x. label ++ x) ascii)
@@ -149,18 +149,18 @@ found_has P p (y ∷ ys) x found all =
     ]
 
 -- the bytes at a path are those of the first entry there
-pub entry_bytes : (f : Production) (m : Matter) (path : List ℕ) (list : List VolumeFile) → file_at path (map (row_of f m) list) ≡ of_row (bytes_in f m) (entry_at f path list)
+pub entry_bytes : (f : Production) (m : Matter) (path : List ℕ) (list : List VolumeFile) → file_at path (map (file_of_entry f m) list) ≡ of_row (bytes_of_entry f m) (entry_at f path list)
 entry_bytes f m path [] = refl
 entry_bytes f m path (x ∷ list) =
-    let rows = find (λ (row : FileRow). bytes_eq row.path path) (map (row_of f m) list) in
-    elim (cases_Bool (bytes_eq (path_in f x) path)) [
+    let rows = find (λ (row : FileRow). bytes_eq row.path path) (map (file_of_entry f m) list) in
+    elim (cases_Bool (bytes_eq (entry_path f x) path)) [
       | inl here ↦
-          ap (λ (b : Bool). of_row (λ (row : FileRow). row.bytes) (cond b (Some (row_of f m x)) rows)) here
-          ∙ sym (ap (λ (b : Bool). of_row (bytes_in f m) (cond b (Some x) (entry_at f path list))) here)
+          ap (λ (b : Bool). of_row (λ (row : FileRow). row.bytes) (cond b (Some (file_of_entry f m x)) rows)) here
+          ∙ sym (ap (λ (b : Bool). of_row (bytes_of_entry f m) (cond b (Some x) (entry_at f path list))) here)
       | inr other ↦
-          ap (λ (b : Bool). of_row (λ (row : FileRow). row.bytes) (cond b (Some (row_of f m x)) rows)) other
+          ap (λ (b : Bool). of_row (λ (row : FileRow). row.bytes) (cond b (Some (file_of_entry f m x)) rows)) other
           ∙ entry_bytes f m path list
-          ∙ sym (ap (λ (b : Bool). of_row (bytes_in f m) (cond b (Some x) (entry_at f path list))) other)
+          ∙ sym (ap (λ (b : Bool). of_row (bytes_of_entry f m) (cond b (Some x) (entry_at f path list))) other)
     ]
 
 -- what is found from one of them on is what is found among all
@@ -210,16 +210,16 @@ unfolding volume_of files_of
 whole f m = refl
 
 pub listed_here : (path : List ℕ) (f : Production) (m : Matter) (list lent : List VolumeFile) (bytes : List ℕ) → lent ≡ list → IsListed f m list (files_before f (placed_items f m))
-    → Some bytes ≡ file_at path (map (row_of f m) lent) → Some bytes ≡ file_at path (volume_of f m)
+    → Some bytes ≡ file_at path (map (file_of_entry f m) lent) → Some bytes ≡ file_at path (volume_of f m)
 listed_here path f m list lent bytes same h found =
     earlier path (files_before f (placed_items f m)) (file (manifest_path f.request) (manifest_of (files_before f (placed_items f m))) ∷ []) bytes
-    (found ∙ ap (file_at path) (ap (map (row_of f m)) same ∙ h.files)) ∙ ap (file_at path) (whole f m)
+    (found ∙ ap (file_at path) (ap (map (file_of_entry f m)) same ∙ h.files)) ∙ ap (file_at path) (whole f m)
 
 pub listed_later : (path : List ℕ) (f : Production) (m : Matter) (list lent again : List VolumeFile) → lent ≡ list → again ≡ list → IsListed f m list (files_before f (placed_items f m))
-    → None ≡ file_at path (map (row_of f m) lent)
-    → file_at path (file (manifest_path f.request) (manifest_of (map (row_of f m) again)) ∷ []) ≡ file_at path (volume_of f m)
+    → None ≡ file_at path (map (file_of_entry f m) lent)
+    → file_at path (file (manifest_path f.request) (manifest_of (map (file_of_entry f m) again)) ∷ []) ≡ file_at path (volume_of f m)
 listed_later path f m list lent again same twice h none =
     let rows = files_before f (placed_items f m) in
-    ap (λ (files : List FileRow). file_at path (file (manifest_path f.request) (manifest_of files) ∷ [])) (ap (map (row_of f m)) twice ∙ h.files)
-    ∙ later path rows (file (manifest_path f.request) (manifest_of rows) ∷ []) (none ∙ ap (file_at path) (ap (map (row_of f m)) same ∙ h.files))
+    ap (λ (files : List FileRow). file_at path (file (manifest_path f.request) (manifest_of files) ∷ [])) (ap (map (file_of_entry f m)) twice ∙ h.files)
+    ∙ later path rows (file (manifest_path f.request) (manifest_of rows) ∷ []) (none ∙ ap (file_at path) (ap (map (file_of_entry f m)) same ∙ h.files))
     ∙ ap (file_at path) (whole f m)

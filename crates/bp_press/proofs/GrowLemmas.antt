@@ -21,7 +21,7 @@ use Rattle.bp_matter.specs.declared.rows.PageRow.{PageRow}
 use Rattle.bp_matter.specs.declared.rows.PageWords.{PageWords}
 use Rattle.bp_matter.specs.declared.rows.Production.{Production}
 use Rattle.bp_freeze.specs.Agree.{Agree, ItemAgrees, PagesAgree, field_number, rects_on}
-use Rattle.bp_freeze.specs.Keeping.{GrowsTo, Keeps}
+use Rattle.bp_freeze.specs.Keeping.{GrowsTo, KeepsProduction}
 use Rattle.bp_freeze.proofs.FrozenRangeLemmas.{page-counted}
 use Rattle.bp_press.proofs.KeptPageLemmas.{counted, finds, item-doc, kept-fields, kept-items, page-there}
 
@@ -93,7 +93,7 @@ grown_number : (m n : Matter) (name : List ℕ) → GrowsTo m n → has_field m.
 grown_number m n name grows has =
     ap (of_row (λ (row : FieldRow). row.field)) (same_find (λ (row : FieldRow). bytes_eq row.name name) m.fields grows.fields n.fields grows.more_fields has)
 
-pub grown-agrees : (f : Production) (m n : Matter) → IsValid m → Keeps m f → GrowsTo m n → Agree f m n
+pub grown-agrees : (f : Production) (m n : Matter) → IsValid m → KeepsProduction m f → GrowsTo m n → Agree f m n
 grown-agrees f m n valid kept grows = record {
   numbers = λ k d l. grown_number m n (get_or f.request.fields k d) grows (kept-fields m valid f kept k d l);
   items = λ k d l shown. grown_item f m n (get_or f.items k d) valid grows (kept-items m valid f kept k d l);

@@ -12,13 +12,13 @@ use Rattle.bp_burn.specs.Covered.{covered}
 use Rattle.bp_burn.proofs.BandLemmas.{band_fits, five}
 use Rattle.bp_burn.specs.RowsOut.{AreOf}
 use Rattle.bp_burn.specs.Strips.{HasStrip}
-use Rattle.bp_t6.specs.Written.{strip_of}
+use Rattle.bp_t6.specs.Written.{bits_strip}
 use Rattle.bp_matter.specs.LookUps.{of_row, page_with}
 use Rattle.bp_matter.specs.Matter.{Matter, page_key}
 use Rattle.bp_matter.specs.Valid.{IsValid}
 use Rattle.bp_matter.specs.ValidPages.{page_fits}
 use Rattle.bp_matter.specs.declared.rows.PageRow.{PageRow}
-use Rattle.bp_press.specs.Contents.{image_in}
+use Rattle.bp_press.specs.Contents.{page_image}
 use Rattle.bp_press.specs.Shown.{page_lent, rows_lent}
 use Rattle.bp_press.specs.declared.covered.CoveredPage.{CoveredPage}
 use Rattle.bp_press.proofs.KeptPageLemmas.{passes}
@@ -44,7 +44,7 @@ imported_width w h imported =
     (ltb-true 0 w parts.0, leb-true w 20000 parts.1)
 
 -- it is the page that the job is of
-pub kept_image : (m : Matter) (doc page : ℕ) (image : Image) → of_row (λ row. row.image) (page_with doc page m) ≡ Some image → image ≡ image_in m doc page
+pub kept_image : (m : Matter) (doc page : ℕ) (image : Image) → of_row (λ row. row.image) (page_with doc page m) ≡ Some image → image ≡ page_image m doc page
 kept_image m doc page image found = sym (ap (λ (o : Option Image). unwrap_or o (white_image 0 0 slip_resolution slip_resolution Inch)) found)
 
 -- the page that goes out is one
@@ -81,7 +81,7 @@ on_ok (Err e) so = tt
 -- ---- a strip that is lent
 
 -- the page has the strip that is lent
-pub own_strip : (p : Image) (width height : ℕ) (strip : List ℕ) → IsPage p → p.width ≡ width → p.height ≡ height → strip ≡ strip_of p → HasStrip width height strip p
+pub own_strip : (p : Image) (width height : ℕ) (strip : List ℕ) → IsPage p → p.width ≡ width → p.height ≡ height → strip ≡ bits_strip p → HasStrip width height strip p
 own_strip p width height strip page wide high codes = record { page = page; wide = wide; high = high; codes = codes }
 
 -- the rows that are lent are those of the page
@@ -89,5 +89,5 @@ pub own_rows : (p : CoveredPage) → IsPage p.page.now → AreOf (rows_lent p) p
 own_rows p page = record { page = page; wide = refl; high = refl; codes = refl }
 
 -- the strip of one page is that of the other where they are the same
-pub strip_made : {E : Type 0} (r : Result (List ℕ) E) (p q : Image) → p ≡ q → IfOk r (λ strip. strip ≡ strip_of p) → IfOk r (λ strip. strip ≡ strip_of q)
-strip_made r p q is h = subst (λ (page : Image). IfOk r (λ strip. strip ≡ strip_of page)) is h
+pub strip_made : {E : Type 0} (r : Result (List ℕ) E) (p q : Image) → p ≡ q → IfOk r (λ strip. strip ≡ bits_strip p) → IfOk r (λ strip. strip ≡ bits_strip q)
+strip_made r p q is h = subst (λ (page : Image). IfOk r (λ strip. strip ≡ bits_strip page)) is h

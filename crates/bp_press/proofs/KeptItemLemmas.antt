@@ -26,7 +26,7 @@ use Rattle.bp_matter.specs.declared.rows.PrefixRow.{PrefixRow}
 use Rattle.bp_matter.specs.declared.rows.Production.{Production}
 use Rattle.bp_matter.specs.declared.rows.ProductionRow.{ProductionRow}
 use Rattle.bp_matter.specs.declared.rows.Request.{Request}
-use Rattle.bp_freeze.specs.Keeping.{Keeps}
+use Rattle.bp_freeze.specs.Keeping.{KeepsProduction}
 use Rattle.bp_freeze.specs.Seeing.{page_count}
 use Rattle.bp_freeze.proofs.FrozenRangeLemmas.{page-counted}
 use Rattle.bp_press.proofs.KeptPageLemmas.{counted, finds, item-doc, kept-items, passes}
@@ -47,7 +47,7 @@ row_by : (m : Matter) (f : Production) (o : Option ProductionRow) → find (is_r
 row_by m f None is kept = absurd cc
 row_by m f (Some row) is kept = record { row = row; found = is; same = cc }
 
-pub kept-row : (m : Matter) (f : Production) → Keeps m f → KeptRow m f
+pub kept-row : (m : Matter) (f : Production) → KeepsProduction m f → KeptRow m f
 kept-row m f kept = row_by m f (find (is_row_of f) m.productions) refl kept
 
 -- what is found passes the test
@@ -95,7 +95,7 @@ numbers_under m valid f kept p found =
           (number_is (after_productions p.prefix.text (Some 1) m.productions) p.next reached);
     }
 
-pub kept-numbers : (m : Matter) → IsValid m → (f : Production) → Keeps m f → KeptNumbers f
+pub kept-numbers : (m : Matter) → IsValid m → (f : Production) → KeepsProduction m f → KeptNumbers f
 kept-numbers m valid f keeps =
     let kept = kept-row m f keeps in
     let has = passes (is_row_of f) (has_prefix m.prefixes) m.productions kept.row kept.found valid.productions.prefixes_kept in
@@ -228,7 +228,7 @@ item-stands m valid i fits =
       texts = four.1;
     }
 
-pub items-stand : (m : Matter) → IsValid m → (f : Production) → Keeps m f → All (ItemStands m) f.items
+pub items-stand : (m : Matter) → IsValid m → (f : Production) → KeepsProduction m f → All (ItemStands m) f.items
 items-stand m valid f kept k d l = item-stands m valid (get_or f.items k d) (kept-items m valid f kept k d l)
 
 -- ---- how many there are
@@ -246,7 +246,7 @@ whole_few m due low (i ∷ items) whole stand l =
       whole_few m (due_after (find_key doc_key (i.doc.0 + 1) m.docs) i) (i.doc.0 + 1) items parts.1 (λ k d b. stand (suc k) d (omega arith)) (omega (arith, here.there)),
     )
 
-pub items-few : (m : Matter) → IsValid m → (f : Production) → Keeps m f → length f.items ≤ length m.docs
+pub items-few : (m : Matter) → IsValid m → (f : Production) → KeepsProduction m f → length f.items ≤ length m.docs
 items-few m valid f keeps =
     let kept = kept-row m f keeps in
     let fits = and_parts _ (are_whole m.docs 0 1 kept.row.production.items) (passes (is_row_of f) (production_fits m.fields m.docs m.pages) m.productions kept.row kept.found valid.productions.fit) in

@@ -23,10 +23,10 @@ use Rattle.bp_matter.specs.declared.rows.PageRow.{PageRow}
 use Rattle.bp_matter.specs.declared.rows.Production.{Production}
 use Rattle.bp_matter.specs.declared.rows.ProductionRow.{ProductionRow}
 use Rattle.bp_matter.proofs.ImageLemmas.{plain_page}
-use Rattle.bp_freeze.specs.Keeping.{Keeps}
+use Rattle.bp_freeze.specs.Keeping.{KeepsProduction}
 use Rattle.bp_freeze.specs.Seeing.{page_count}
 use Rattle.bp_freeze.proofs.FrozenRangeLemmas.{page-counted}
-use Rattle.bp_press.specs.Contents.{image_in}
+use Rattle.bp_press.specs.Contents.{page_image}
 
 -- ---- lists
 
@@ -140,7 +140,7 @@ is_scan row fits written =
       sides = fits;
     }
 
-scan_found : (m : Matter) → IsValid m → (doc page : ℕ) (o : Option PageRow) → page_with doc page m ≡ o → list_any (λ other. eqb (page_key other) (two_keys doc page)) m.pages ≡ true → IsScan (image_in m doc page)
+scan_found : (m : Matter) → IsValid m → (doc page : ℕ) (o : Option PageRow) → page_with doc page m ≡ o → list_any (λ other. eqb (page_key other) (two_keys doc page)) m.pages ≡ true → IsScan (page_image m doc page)
 scan_found m valid doc page None is any = absurd (let found = finds (λ other. eqb (page_key other) (two_keys doc page)) m.pages any in cc)
 scan_found m valid doc page (Some row) is any =
     let test : PageRow → Bool = λ other. eqb (page_key other) (two_keys doc page) in
@@ -162,7 +162,7 @@ item-doc m i fits =
     doc_there m.docs i (find_key doc_key i.doc.0 m.docs) refl one.0
 
 item_found : (m : Matter) → IsValid m → (i : Item) → item_fits (length m.fields) m.docs m.pages i ≡ true
-    → (page : ℕ) → 1 ≤ page → page ≤ page_count m i.doc.0 → IsScan (image_in m i.doc.0 page)
+    → (page : ℕ) → 1 ≤ page → page ≤ page_count m i.doc.0 → IsScan (page_image m i.doc.0 page)
 item_found m valid i fits page low high =
     let found = item-doc m i fits in
     let many = counted 1 i.doc.0 found.0 m.docs valid.docs.numbered found.1 in
@@ -181,18 +181,18 @@ row_fits m valid f (Some row) is kept =
     let same : row.production ≡ f = cc in
     (row, same, passes (λ row. bytes_eq row.production.request.id f.request.id) (production_fits m.fields m.docs m.pages) m.productions row is valid.productions.fit)
 
-kept_row : (m : Matter) → IsValid m → (f : Production) → Keeps m f
+kept_row : (m : Matter) → IsValid m → (f : Production) → KeepsProduction m f
     → (row : ProductionRow) × (row.production ≡ f) × (production_fits m.fields m.docs m.pages row ≡ true)
 kept_row m valid f kept = row_fits m valid f (find (λ row. bytes_eq row.production.request.id f.request.id) m.productions) refl kept
 
-pub kept-items : (m : Matter) → IsValid m → (f : Production) → Keeps m f → All (λ i. item_fits (length m.fields) m.docs m.pages i ≡ true) f.items
+pub kept-items : (m : Matter) → IsValid m → (f : Production) → KeepsProduction m f → All (λ i. item_fits (length m.fields) m.docs m.pages i ≡ true) f.items
 kept-items m valid f kept =
     let found = kept_row m valid f kept in
     let three = and_parts _ _ found.2 in
     let two = and_parts _ (list_all (item_fits (length m.fields) m.docs m.pages) found.0.production.items) three.0 in
     all_at (item_fits (length m.fields) m.docs m.pages) f.items (sym (ap (λ (g : Production). list_all (item_fits (length m.fields) m.docs m.pages) g.items) found.1) ∙ two.1)
 
-pub kept-fields : (m : Matter) → IsValid m → (f : Production) → Keeps m f → All (λ name. has_field m.fields name ≡ true) f.request.fields
+pub kept-fields : (m : Matter) → IsValid m → (f : Production) → KeepsProduction m f → All (λ name. has_field m.fields name ≡ true) f.request.fields
 kept-fields m valid f kept =
     let found = kept_row m valid f kept in
     let three = and_parts _ _ found.2 in
@@ -204,6 +204,6 @@ kept-fields m valid f kept =
     λ k d l. (and_parts (has_field m.fields (get_or f.request.fields k d)) _ (all_at (field_chosen m.fields) f.request.fields fits k d l)).0
 
 -- each page of each item
-pub pages-there : (m : Matter) → IsValid m → (f : Production) → Keeps m f
-    → All (λ i. (page : ℕ) → 1 ≤ page → page ≤ page_count m i.doc.0 → IsScan (image_in m i.doc.0 page)) f.items
+pub pages-there : (m : Matter) → IsValid m → (f : Production) → KeepsProduction m f
+    → All (λ i. (page : ℕ) → 1 ≤ page → page ≤ page_count m i.doc.0 → IsScan (page_image m i.doc.0 page)) f.items
 pages-there m valid f kept k d l = item_found m valid (get_or f.items k d) (kept-items m valid f kept k d l)

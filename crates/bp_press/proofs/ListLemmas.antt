@@ -17,7 +17,7 @@ use Rattle.bp_press.specs.Files.{image_files, item_files, text_file}
 use Rattle.bp_press.specs.Needs.{CanBePressed}
 use Rattle.bp_press.specs.Pressing.{AreLabels, CanAllBePlaced, CanBePlaced, count_by, files_from, image_at, images_after, images_in, placed_at, sheet_at, sheets_after}
 use Rattle.bp_press.specs.Volume.{data_files, files_before, placed_items}
-use Rattle.bp_press.specs.VolumeFiles.{CanBeMade, HasName, IsListed, Lists, row_of}
+use Rattle.bp_press.specs.VolumeFiles.{EntryCanBeMade, HasName, IsListed, Lists, file_of_entry}
 use Rattle.bp_press.specs.declared.volume_files.VolumeFile.{VolumeFile}
 use Rattle.bp_press.specs.declared.volume_files.VolumeFile.TheVariants.{Dat, Log, Opt, Page, Sheet, Text}
 use Rattle.bp_press.proofs.FamilyLemmas.{all-others}
@@ -26,28 +26,28 @@ use Rattle.bp_press.proofs.ItemLemmas.{images_first, images_more, images_none, s
 pub lists_none : (f : Production) (m : Matter) (before : List VolumeFile) → Lists f m before [] before
 lists_none f m before = record { added = []; there = sym (append-nil before); files = refl; made = λ k d l. absurd (omega arith) }
 
-pub lists_one : (f : Production) (m : Matter) (before after : List VolumeFile) (entry : VolumeFile) (row : FileRow) → after ≡ before ++ entry ∷ [] → row_of f m entry ≡ row → CanBeMade f m entry
+pub lists_one : (f : Production) (m : Matter) (before after : List VolumeFile) (entry : VolumeFile) (row : FileRow) → after ≡ before ++ entry ∷ [] → file_of_entry f m entry ≡ row → EntryCanBeMade f m entry
     → Lists f m before (row ∷ []) after
 lists_one f m before after entry row grown is made = record {
   added = entry ∷ [];
   there = grown;
   files = ap (λ r. r ∷ []) is;
-  made = All-push (CanBeMade f m) [] entry (λ k d l. absurd (omega arith)) made;
+  made = All-push (EntryCanBeMade f m) [] entry (λ k d l. absurd (omega arith)) made;
 }
 
 pub lists_then : (f : Production) (m : Matter) (before mid after : List VolumeFile) (xs ys : List FileRow) → Lists f m before xs mid → Lists f m mid ys after → Lists f m before (xs ++ ys) after
 lists_then f m before mid after xs ys a b = record {
   added = a.added ++ b.added;
   there = b.there ∙ ap (λ l. l ++ b.added) a.there ∙ append_assoc before a.added b.added;
-  files = map-append (row_of f m) a.added b.added ∙ ap₂ (λ x y. x ++ y) a.files b.files;
-  made = All-append (CanBeMade f m) a.added b.added a.made b.made;
+  files = map-append (file_of_entry f m) a.added b.added ∙ ap₂ (λ x y. x ++ y) a.files b.files;
+  made = All-append (EntryCanBeMade f m) a.added b.added a.made b.made;
 }
 
 -- the entries that are added to no others are the list
 pub listed : (f : Production) (m : Matter) (none after : List VolumeFile) (rows : List FileRow) → none ≡ [] → Lists f m none rows after → IsListed f m after rows
 listed f m none after rows is h =
     let whole : after ≡ h.added = h.there ∙ ap (λ l. l ++ h.added) is in
-    record { files = ap (map (row_of f m)) whole ∙ h.files; made = subst (λ (l : List VolumeFile). All (CanBeMade f m) l) (sym whole) h.made }
+    record { files = ap (map (file_of_entry f m)) whole ∙ h.files; made = subst (λ (l : List VolumeFile). All (EntryCanBeMade f m) l) (sym whole) h.made }
 
 -- ---- some of the files, while others are to come
 
@@ -236,9 +236,9 @@ pub all_listed : (f : Production) (m : Matter) (none items dat opt log : List Vo
     → dat ≡ items ++ Dat ∷ [] → opt ≡ dat ++ Opt ∷ [] → log ≡ opt ++ Log ∷ [] → IsListed f m log (files_before f (placed_items f m))
 all_listed f m none items dat opt log fit is h a b c =
     let rows = placed_items f m in
-    let x = row_of f m Dat in
-    let y = row_of f m Opt in
-    let z = row_of f m Log in
+    let x = file_of_entry f m Dat in
+    let y = file_of_entry f m Opt in
+    let z = file_of_entry f m Log in
     listed f m none log (files_before f rows) is
     (lists_then f m none items log (files_from f m 0 f.items) (data_files f rows) h
     (lists_then f m items dat log (x ∷ []) (y ∷ z ∷ []) (lists_one f m items dat Dat x a refl (record { named = tt; filled = fit }))

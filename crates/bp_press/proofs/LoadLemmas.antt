@@ -25,10 +25,10 @@ use Rattle.bp_matter.specs.declared.rows.HeldRow.{HeldRow}
 use Rattle.bp_matter.specs.declared.rows.Item.{Item}
 use Rattle.bp_matter.specs.declared.rows.Production.{Production}
 use Rattle.bp_matter.specs.declared.rows.Request.{Request}
-use Rattle.bp_freeze.specs.Agree.{field_number, held_for, value_in}
-use Rattle.bp_freeze.specs.Keeping.{Keeps}
+use Rattle.bp_freeze.specs.Agree.{field_number, held_of_number, value_of_field}
+use Rattle.bp_freeze.specs.Keeping.{KeepsProduction}
 use Rattle.bp_freeze.specs.Log.{label_in}
-use Rattle.bp_freeze.specs.Selecting.{first_number, last_number}
+use Rattle.bp_freeze.specs.Selecting.{first_of_items, last_of_items}
 use Rattle.bp_press.specs.Contents.{content_by, ground_of, held_text, label_count, value_by, value_shown, value_unless}
 use Rattle.bp_press.specs.Files.{Placed}
 use Rattle.bp_press.specs.LoadFiles.{family_of, optional_code, own_values}
@@ -56,7 +56,7 @@ field_named m valid name has =
     let same : row.0.name ≡ name = (bytes_eq-Decides row.0.name name).0 (found_passes test m.fields row.0 row.1) in
     ap is_name (sym same) ∙ name_field row.0.name (passes test field_fits m.fields row.0 row.1 valid.fields.fit)
 
-pub kept-request : (m : Matter) → IsValid m → (f : Production) → Keeps m f → RequestWrites f.request
+pub kept-request : (m : Matter) → IsValid m → (f : Production) → KeepsProduction m f → RequestWrites f.request
 kept-request m valid f keeps =
     let kept = kept-row m f keeps in
     let three = and_parts _ _ (passes (is_row_of f) (production_fits m.fields m.docs m.pages) m.productions kept.row kept.found valid.productions.fit) in
@@ -111,7 +111,7 @@ value_cell [] are k = refl
 value_cell (value ∷ values) are zero = (and_parts (is_value value) (list_all is_value values) are).0
 value_cell (value ∷ values) are (suc k) = value_cell values (and_parts (is_value value) (list_all is_value values) are).1 k
 
-in_cell : (m : Matter) (i : Item) → ItemStands m i → (field : ℕ) → is_cell (unwrap_or (value_in m i.doc.0 field) []) ≡ true
+in_cell : (m : Matter) (i : Item) → ItemStands m i → (field : ℕ) → is_cell (unwrap_or (value_of_field m i.doc.0 field) []) ≡ true
 in_cell m i stands field =
     ap (λ (o : Option DocRow). is_cell (unwrap_or (of_row (λ (row : DocRow). slice_index_or row.values (field - 1) []) o) [])) stands.found
     ∙ value_cell stands.row.values stands.values (field - 1)
@@ -122,7 +122,7 @@ unless_cell None value h = h
 
 by_cell : (m : Matter) (i : Item) → ItemStands m i → (field : Option ℕ) → is_cell (value_by m i field) ≡ true
 by_cell m i stands None = refl
-by_cell m i stands (Some field) = unless_cell (held_for i.held field) (value_in m i.doc.0 field) (in_cell m i stands field)
+by_cell m i stands (Some field) = unless_cell (held_of_number i.held field) (value_of_field m i.doc.0 field) (in_cell m i stands field)
 
 shown_cells : (m : Matter) (i : Item) → ItemStands m i → (names : List (List ℕ)) → list_all is_cell (map (value_shown m i) names) ≡ true
 shown_cells m i stands [] = refl
@@ -148,5 +148,5 @@ own_cells f numbers writes m p stands few =
     let stamped : is_cell i.designation ≡ true = cell_clean i.designation (all-wider is_designation_character is_clean i.designation clean-designation (and_parts _ (list_all is_designation_character i.designation) stands.designation).1) in
     let why : is_cell (optional_code (ground_of i.treatment)) ≡ true = cell_clean (optional_code (ground_of i.treatment)) (optional_clean (ground_of i.treatment)) in
     let path : is_cell (text_path reverse_solidus q p.place i.span.first) ≡ true = cell_clean (text_path reverse_solidus q p.place i.span.first) (text_path_clean f numbers writes p.place i.span.first) in
-    and_from _ _ (label i.span.first) (and_from _ _ (label i.span.last) (and_from _ _ (label (first_number family)) (and_from _ _ (label (last_number family))
+    and_from _ _ (label i.span.first) (and_from _ _ (label i.span.last) (and_from _ _ (label (first_of_items family)) (and_from _ _ (label (last_of_items family))
     (and_from _ _ count (and_from _ _ stamped (and_from _ _ why (and_from _ true path refl)))))))

@@ -18,7 +18,7 @@ use Rattle.bp_matter.specs.Valid.{IsValid}
 use Rattle.bp_matter.specs.declared.rows.Item.{Item}
 use Rattle.bp_matter.specs.declared.rows.Production.{Production}
 use Rattle.bp_matter.specs.declared.rows.Request.{Request}
-use Rattle.bp_freeze.specs.Keeping.{Keeps}
+use Rattle.bp_freeze.specs.Keeping.{KeepsProduction}
 use Rattle.bp_freeze.specs.Log.{label_in}
 use Rattle.bp_press.specs.Contents.{content_by, ground_of, label_count, part_of, value_shown}
 use Rattle.bp_press.specs.Files.{Placed, placed}
@@ -77,7 +77,7 @@ dat-writable-by m valid f presses writes =
     and_from _ _ (and_from _ _ (some_columns f.request.fields) (all-append is_name columns f.request.fields refl writes.fields))
     (rows_cells f presses.numbers writes m 0 f.items presses.stand (λ k d l. count_fits m valid (get_or f.items k d) (presses.stand k d l)))
 
-pub dat-writable : (m : Matter) → IsValid m → (f : Production) → Keeps m f → is_writable (dat_table f (placed_items f m)) ≡ true
+pub dat-writable : (m : Matter) → IsValid m → (f : Production) → KeepsProduction m f → is_writable (dat_table f (placed_items f m)) ≡ true
 dat-writable m valid f kept = dat-writable-by m valid f (kept-presses m valid f kept) (kept-request m valid f kept)
 
 -- ---- the OPT
@@ -151,5 +151,5 @@ pub opt-writable-by : (m : Matter) → IsValid m → (f : Production) → Presse
 opt-writable-by m valid f presses writes =
     all_written f presses.numbers writes m 0 f.items (λ k d l. count_fits m valid (get_or f.items k d) (presses.stand k d l))
 
-pub opt-writable : (m : Matter) → IsValid m → (f : Production) → Keeps m f → are_opt_lines (flat_map (opt_lines f.request) (placed_items f m)) ≡ true
+pub opt-writable : (m : Matter) → IsValid m → (f : Production) → KeepsProduction m f → are_opt_lines (flat_map (opt_lines f.request) (placed_items f m)) ≡ true
 opt-writable m valid f kept = opt-writable-by m valid f (kept-presses m valid f kept) (kept-request m valid f kept)

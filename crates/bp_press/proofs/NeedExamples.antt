@@ -10,10 +10,10 @@ use Rattle.bp_outside.specs.Folder.{file}
 use Rattle.bp_matter.specs.declared.rows.Item.{Item}
 use Rattle.bp_matter.specs.declared.rows.Production.{Production}
 use Rattle.bp_freeze.specs.Log.{label_in}
-use Rattle.bp_freeze.specs.Selecting.{first_number, last_number}
+use Rattle.bp_freeze.specs.Selecting.{first_of_items, last_of_items}
 use Rattle.bp_press.specs.Needs.{AreFamilyNumbers, CanBeListed, CanBePressed, IsInFamily, IsLabelled}
 use Rattle.bp_press.specs.Pressing.{AreLabels, AreScans, AreSheetsFew, CanAllBePlaced, CanBePlaced, HasFewLabels, count_by, image_total}
-use Rattle.bp_press.specs.VolumeFiles.{CanBeImage, CanBeMade, CanBeNamed, CanBeSheet, HasName, IsListed, Lists}
+use Rattle.bp_press.specs.VolumeFiles.{CanBeImage, EntryCanBeMade, CanBeNamed, CanBeSheet, HasName, IsListed, Lists}
 use Rattle.bp_press.specs.declared.volume_files.VolumeFile.{VolumeFile}
 use Rattle.bp_press.specs.declared.volume_files.VolumeFile.TheVariants.{Dat, Page, Sheet, Text}
 use Rattle.bp_press.proofs.BatchExamples.{lent, tiny, tiny_item, tiny_production}
@@ -90,13 +90,13 @@ listed_item = record {
 no_listed_zero : CanBeListed frozen (record withheld { span = record { first = 0; last = 2 } }) → ⊥
 no_listed_zero listed = let from : 1 ≤ 0 = listed.first.from in omega arith
 
-own_firsts : (p : ℕ) → p ≤ 2 → slice_index (0 ∷ 1 ∷ 2 ∷ []) p ≡ first_number (filter (λ (i : Item). i.parent.0 == p) frozen.items)
+own_firsts : (p : ℕ) → p ≤ 2 → slice_index (0 ∷ 1 ∷ 2 ∷ []) p ≡ first_of_items (filter (λ (i : Item). i.parent.0 == p) frozen.items)
 own_firsts zero low = refl
 own_firsts (suc zero) low = refl
 own_firsts (suc (suc zero)) low = refl
 own_firsts (suc (suc (suc p))) low = absurd (omega arith)
 
-own_lasts : (p : ℕ) → p ≤ 2 → slice_index (0 ∷ 1 ∷ 2 ∷ []) p ≡ last_number (filter (λ (i : Item). i.parent.0 == p) frozen.items)
+own_lasts : (p : ℕ) → p ≤ 2 → slice_index (0 ∷ 1 ∷ 2 ∷ []) p ≡ last_of_items (filter (λ (i : Item). i.parent.0 == p) frozen.items)
 own_lasts zero low = refl
 own_lasts (suc zero) low = refl
 own_lasts (suc (suc zero)) low = refl
@@ -196,16 +196,16 @@ no_second_sheet sheet = let there : 1 < 1 = sheet.there in omega arith
 
 -- ---- an entry, and a list of them
 
-text_made : CanBeMade tiny_production tiny (Text (lent tiny_item) 0)
+text_made : EntryCanBeMade tiny_production tiny (Text (lent tiny_item) 0)
 text_made = record {
   named = record { prefix = refl; label = first_label; fits = omega arith };
   filled = record { own = (0, omega arith, refl); placed = tiny_placed };
 }
 
-no_text_past : CanBeMade tiny_production tiny (Text (lent tiny_item) (2 ^ 64)) → ⊥
+no_text_past : EntryCanBeMade tiny_production tiny (Text (lent tiny_item) (2 ^ 64)) → ⊥
 no_text_past made = no_place made.named
 
-one_made : (k : ℕ) (d : VolumeFile) → k < 1 → CanBeMade tiny_production tiny (get_or (Text (lent tiny_item) 0 ∷ []) k d)
+one_made : (k : ℕ) (d : VolumeFile) → k < 1 → EntryCanBeMade tiny_production tiny (get_or (Text (lent tiny_item) 0 ∷ []) k d)
 one_made zero d low = text_made
 one_made (suc k) d low = absurd (omega arith)
 

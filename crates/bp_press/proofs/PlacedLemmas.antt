@@ -18,10 +18,10 @@ use Rattle.bp_matter.specs.Treatments.{is_redact}
 use Rattle.bp_matter.specs.ValidItems.{has_marks, is_logged, item_texts_fit, optional_fits}
 use Rattle.bp_matter.specs.declared.rows.Item.{Item}
 use Rattle.bp_matter.specs.declared.rows.Production.{Production}
-use Rattle.bp_freeze.specs.Keeping.{Keeps}
+use Rattle.bp_freeze.specs.Keeping.{KeepsProduction}
 use Rattle.bp_freeze.specs.Log.{CanBeLogged, entry_stands, label_in, span_fits}
 use Rattle.bp_freeze.specs.Seeing.{page_count}
-use Rattle.bp_press.specs.Contents.{content_by, ground_of, image_in, label_count, part_of, produced_page, slip_sheet}
+use Rattle.bp_press.specs.Contents.{content_by, ground_of, page_image, label_count, part_of, produced_page, slip_sheet}
 use Rattle.bp_press.specs.Pressing.{AreLabels, AreSheetsFew, CanAllBePlaced, CanBePlaced, count_by}
 use Rattle.bp_press.proofs.CharacterLemmas.{all-wider, glyph-allowed, glyph-designation, label_allowed}
 use Rattle.bp_press.proofs.KeptItemLemmas.{ItemStands, KeptNumbers, items-few, items-stand, kept-numbers}
@@ -59,7 +59,7 @@ are_labels f numbers first count from to = record {
 
 -- the scans of an item
 abbrev pub AreSound : Matter → Item → Type 0
-AreSound m i = (page : ℕ) → 1 ≤ page → page ≤ page_count m i.doc.0 → IsScan (image_in m i.doc.0 page)
+AreSound m i = (page : ℕ) → 1 ≤ page → page ≤ page_count m i.doc.0 → IsScan (page_image m i.doc.0 page)
 
 -- the sheets of an item can be counted
 sheets_few : (m : Matter) (i : Item) (ground : Option Basis) → count_by m i ground ≤ 20000 → i.span.last + 1 < 2 ^ 64 → AreSheetsFew i ground
@@ -124,7 +124,7 @@ pub record Presses (m : Matter) (f : Production) : Type 0 where
   pub sound : All (AreSound m) f.items
   pub few : length f.items ≤ length m.docs
 
-pub kept-presses : (m : Matter) → IsValid m → (f : Production) → Keeps m f → Presses m f
+pub kept-presses : (m : Matter) → IsValid m → (f : Production) → KeepsProduction m f → Presses m f
 kept-presses m valid f kept = record {
   numbers = kept-numbers m valid f kept;
   stand = items-stand m valid f kept;

@@ -21,7 +21,7 @@ use Rattle.bp_press.specs.Paths.{manifest_path}
 use Rattle.bp_press.specs.Pressed.{last_bytes, pressed_of}
 use Rattle.bp_press.specs.Pressing.{files_from, image_total, images_in, placed_at}
 use Rattle.bp_press.specs.Volume.{data_files, files_before, files_of, placed_items, volume_of}
-use Rattle.bp_press.specs.VolumeFiles.{IsListed, row_of}
+use Rattle.bp_press.specs.VolumeFiles.{IsListed, file_of_entry}
 use Rattle.bp_press.specs.Writing.{AddsAll, LeavesCut}
 use Rattle.bp_press.proofs.WritingLemmas.{cut_none, pair_end, pair_first, pair_second}
 
@@ -51,18 +51,18 @@ pub nothing_pressed : (f : Production) (m : Matter) (before : FolderView) (r : F
 nothing_pressed f m before r is = subst (λ (files : List FileRow). LeavesCut before files r before) (volume-is f m) (none_before (rows_before f m) (manifest_row f m) before r is)
 
 pub files_cut : (f : Production) (m : Matter) (list : List VolumeFile) (before : FolderView) (r : FolderRefusal) (after : FolderView) → IsListed f m list (files_before f (placed_items f m))
-    → LeavesCut before (map (row_of f m) list) r after → LeavesCut before (volume_of f m) r after
+    → LeavesCut before (map (file_of_entry f m) list) r after → LeavesCut before (volume_of f m) r after
 files_cut f m list before r after h cut =
     subst (λ (files : List FileRow). LeavesCut before files r after) (volume-is f m)
     (pair_first before (rows_before f m) (manifest_row f m ∷ []) r after (subst (λ (files : List FileRow). LeavesCut before files r after) h.files cut))
 
 -- the manifest's bytes, gathered with the files
 pub gathered : (f : Production) (m : Matter) (list : List VolumeFile) (none text : List ℕ) → IsListed f m list (files_before f (placed_items f m)) → none ≡ []
-    → text ≡ none ++ flat_map manifest_line (map (row_of f m) list) → text ≡ manifest_of (files_before f (placed_items f m))
-gathered f m list none text h is grown = grown ∙ ap (λ t. t ++ flat_map manifest_line (map (row_of f m) list)) is ∙ ap (flat_map manifest_line) h.files
+    → text ≡ none ++ flat_map manifest_line (map (file_of_entry f m) list) → text ≡ manifest_of (files_before f (placed_items f m))
+gathered f m list none text h is grown = grown ∙ ap (λ t. t ++ flat_map manifest_line (map (file_of_entry f m) list)) is ∙ ap (flat_map manifest_line) h.files
 
 pub manifest_cut : (f : Production) (m : Matter) (list : List VolumeFile) (before one : FolderView) (text : List ℕ) (r : FolderRefusal) (after : FolderView) → IsListed f m list (files_before f (placed_items f m))
-    → AddsAll before (map (row_of f m) list) one → text ≡ manifest_of (files_before f (placed_items f m)) → LeavesCut one (file (manifest_path f.request) text ∷ []) r after
+    → AddsAll before (map (file_of_entry f m) list) one → text ≡ manifest_of (files_before f (placed_items f m)) → LeavesCut one (file (manifest_path f.request) text ∷ []) r after
     → LeavesCut before (volume_of f m) r after
 manifest_cut f m list before one text r after h put is cut =
     subst (λ (files : List FileRow). LeavesCut before files r after) (volume-is f m)
@@ -70,7 +70,7 @@ manifest_cut f m list before one text r after h put is cut =
     (subst (λ (t : List ℕ). LeavesCut one (file (manifest_path f.request) t ∷ []) r after) is cut))
 
 pub volume_end : (f : Production) (m : Matter) (list : List VolumeFile) (before one : FolderView) (text : List ℕ) (after : FolderView) → IsListed f m list (files_before f (placed_items f m))
-    → AddsAll before (map (row_of f m) list) one → text ≡ manifest_of (files_before f (placed_items f m)) → AddsAll one (file (manifest_path f.request) text ∷ []) after
+    → AddsAll before (map (file_of_entry f m) list) one → text ≡ manifest_of (files_before f (placed_items f m)) → AddsAll one (file (manifest_path f.request) text ∷ []) after
     → AddsAll before (volume_of f m) after
 volume_end f m list before one text after h put is last =
     subst (λ (files : List FileRow). AddsAll before files after) (volume-is f m)
@@ -100,7 +100,7 @@ length-before : (f : Production) (m : Matter) → length (rows_before f m) ≡ i
 length-before f m = omega (arith, length-append (files_from f m 0 f.items) (data_files f (placed_items f m)), length-files f m 0 f.items)
 
 length-list : (f : Production) (m : Matter) (list : List VolumeFile) → IsListed f m list (files_before f (placed_items f m)) → length list ≡ length (rows_before f m)
-length-list f m list h = sym (length-map list (row_of f m)) ∙ ap length h.files
+length-list f m list h = sym (length-map list (file_of_entry f m)) ∙ ap length h.files
 
 -- there are some
 pub some_listed : (f : Production) (m : Matter) (list : List VolumeFile) → IsListed f m list (files_before f (placed_items f m)) → 0 < length list

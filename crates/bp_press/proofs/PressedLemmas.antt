@@ -7,7 +7,7 @@ use Rattle.bp_matter.specs.Matter.{Matter}
 use Rattle.bp_matter.specs.Valid.{IsValid}
 use Rattle.bp_matter.specs.declared.rows.Item.{Item}
 use Rattle.bp_matter.specs.declared.rows.Production.{Production}
-use Rattle.bp_freeze.specs.Keeping.{Keeps}
+use Rattle.bp_freeze.specs.Keeping.{KeepsProduction}
 use Rattle.bp_press.specs.Needs.{CanBeListed, CanBePressed, IsLabelled}
 use Rattle.bp_press.specs.Pressing.{image_total}
 use Rattle.bp_press.proofs.FamilyLemmas.{LiesBelow, family-first, family-last, is_of}
@@ -54,5 +54,5 @@ pressed-by m valid f presses writes =
       files = omega (arith, presses.few, docs, images_few f m f.items (λ k d l. count_fits m valid (get_or f.items k d) (presses.stand k d l)));
     }
 
-pub kept-pressed : (m : Matter) → IsValid m → (f : Production) → Keeps m f → CanBePressed f m
+pub kept-pressed : (m : Matter) → IsValid m → (f : Production) → KeepsProduction m f → CanBePressed f m
 kept-pressed m valid f kept = pressed-by m valid f (kept-presses m valid f kept) (kept-request m valid f kept)

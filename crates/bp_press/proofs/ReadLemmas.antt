@@ -16,7 +16,7 @@ use Rattle.bp_rows.specs.Limits.{sides_are_allowed}
 use Rattle.bp_rows.specs.declared.resolution.Unit.TheVariants.{Inch}
 use Rattle.bp_burn.proofs.BandLemmas.{band_fits}
 use Rattle.bp_tiff.specs.Read.{TiffReads}
-use Rattle.bp_tiff.specs.Tiff.{fields_of, tiff_of}
+use Rattle.bp_tiff.specs.Tiff.{tiff_fields, tiff_of}
 use Rattle.bp_tiff.specs.declared.fields.Fields.{Fields}
 use Rattle.bp_tiff.specs.declared.form.Form.{Form}
 use Rattle.bp_tiff.specs.declared.form.Form.TheVariants.{G4}
@@ -29,10 +29,10 @@ use Rattle.bp_matter.specs.Valid.{IsValid}
 use Rattle.bp_matter.specs.declared.rows.Item.{Item}
 use Rattle.bp_matter.specs.declared.rows.Production.{Production}
 use Rattle.bp_matter.specs.declared.rows.Request.{Request}
-use Rattle.bp_freeze.specs.Keeping.{Keeps}
+use Rattle.bp_freeze.specs.Keeping.{KeepsProduction}
 use Rattle.bp_freeze.specs.Log.{label_in}
 use Rattle.bp_freeze.specs.Seeing.{page_count}
-use Rattle.bp_press.specs.Contents.{Content, content_by, ground_of, image_in, label_count, pages_of, part_of, produced_page, slip_sheet, slip_sheets, stamps_on}
+use Rattle.bp_press.specs.Contents.{Content, content_by, ground_of, page_image, label_count, pages_of, part_of, produced_page, slip_sheet, slip_sheets, stamps_on}
 use Rattle.bp_press.specs.Files.{Placed, image_files, item_files, placed, text_file}
 use Rattle.bp_press.specs.Paths.{image_path, manifest_path}
 use Rattle.bp_press.specs.Manifest.{manifest_of}
@@ -66,7 +66,7 @@ produced_is_page ink p stamps label designation scan = banded_is_page (covered i
 
 -- what its file says beside the pixels, from the frame of the page
 pub banded_fields : (ink : Ink) (p : Image) (frame : Frame) (stamps : List Stamp) (label designation : List ℕ) → p ≡ in_frame frame p.rows
-    → fields_of (produced_of ink p stamps label designation)
+    → tiff_fields (produced_of ink p stamps label designation)
     ≡ record { width = frame.width; height = frame.height + 32; xres = frame.xres; yres = frame.yres; unit = frame.unit }
 banded_fields ink p frame stamps label designation is =
     let below : Image → Fields = λ q. record { width = q.width; height = q.height + 32; xres = q.xres; yres = q.yres; unit = q.unit } in
@@ -76,11 +76,11 @@ pub slip_is_page : (basis : Basis) (label designation : List ℕ) → IsPage (sl
 slip_is_page basis label designation =
     banded_is_page (inked paper (is_drawn (slip_text basis) 1000 200 0)) label designation refl (record { num = omega arith; den = omega arith }) (record { num = omega arith; den = omega arith })
 
-page_is_read : ReadLaw → (f : Production) (m : Matter) (i : Item) (page : ℕ) → IsScan (image_in m i.doc.0 page) → CanBeRead (produced_page f m i page)
+page_is_read : ReadLaw → (f : Production) (m : Matter) (i : Item) (page : ℕ) → IsScan (page_image m i.doc.0 page) → CanBeRead (produced_page f m i page)
 unfolding produced_page
 page_is_read law f m i page scan p =
     law G4 (produced_page f m i page) p
-    (produced_is_page f.ink (image_in m i.doc.0 page) (stamps_on i.boxes page) (label_in f.request.prefix (i.span.first + page - 1)) i.designation scan)
+    (produced_is_page f.ink (page_image m i.doc.0 page) (stamps_on i.boxes page) (label_in f.request.prefix (i.span.first + page - 1)) i.designation scan)
 
 slip_is_read : ReadLaw → (q : Request) (i : Item) (basis : Basis) (k : ℕ) → CanBeRead (slip_sheet q i basis k)
 unfolding slip_sheet
@@ -194,7 +194,7 @@ in_volume f m path page h =
     holds_left (files_before f (placed_items f m)) (file (manifest_path f.request) (manifest_of (files_before f (placed_items f m))) ∷ []) path page
     (holds_left (flat_map (item_files f.request) (placed_items f m)) (data_files f (placed_items f m)) path page h)
 
-pub read-back : ReadLaw → (f : Production) (m : Matter) → IsValid m → Keeps m f → IsReadBack f m
+pub read-back : ReadLaw → (f : Production) (m : Matter) → IsValid m → KeepsProduction m f → IsReadBack f m
 read-back law f m valid kept k d l =
     let q : Request = f.request in
     let p : Placed = get_or (placed_items f m) k d in

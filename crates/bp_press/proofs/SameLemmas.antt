@@ -18,7 +18,7 @@ use Rattle.bp_matter.specs.declared.rows.BoxRow.{BoxRow}
 use Rattle.bp_matter.specs.declared.rows.HeldRow.{HeldRow}
 use Rattle.bp_matter.specs.declared.rows.Item.{Item}
 use Rattle.bp_matter.specs.declared.rows.Production.{Production}
-use Rattle.bp_freeze.specs.Agree.{Agree, ItemAgrees, PagesAgree, ValueAgrees, field_number, held_for, rects_on, value_in}
+use Rattle.bp_freeze.specs.Agree.{Agree, ItemAgrees, PagesAgree, ValueAgrees, field_number, held_of_number, rects_on, value_of_field}
 use Rattle.bp_freeze.specs.Log.{label_in}
 use Rattle.bp_freeze.specs.Seeing.{page_count}
 use Rattle.bp_freeze.proofs.AlikeLemmas.{map_over_range}
@@ -84,9 +84,9 @@ same_unless : (held : Option HeldRow) (o p : Option (List ℕ)) → (held ≡ No
 same_unless (Some held) o p h = refl
 same_unless None o p h = ap (λ value. unwrap_or value []) (h refl)
 
-same_by : (m n : Matter) (i : Item) (o : Option ℕ) → ((field : ℕ) → o ≡ Some field → held_for i.held field ≡ None → value_in m i.doc.0 field ≡ value_in n i.doc.0 field) → value_by m i o ≡ value_by n i o
+same_by : (m n : Matter) (i : Item) (o : Option ℕ) → ((field : ℕ) → o ≡ Some field → held_of_number i.held field ≡ None → value_of_field m i.doc.0 field ≡ value_of_field n i.doc.0 field) → value_by m i o ≡ value_by n i o
 same_by m n i None h = refl
-same_by m n i (Some field) h = same_unless (held_for i.held field) (value_in m i.doc.0 field) (value_in n i.doc.0 field) (h field refl)
+same_by m n i (Some field) h = same_unless (held_of_number i.held field) (value_of_field m i.doc.0 field) (value_of_field n i.doc.0 field) (h field refl)
 
 same_value : (m n : Matter) (i : Item) (name : List ℕ) → field_number m name ≡ field_number n name → ValueAgrees m n i name → value_shown m i name ≡ value_shown n i name
 same_value m n i name number agree = same_by m n i (field_number m name) agree ∙ ap (value_by n i) number

@@ -2,7 +2,7 @@
 use Rattle.std.proofs.Common.{◌≡◌, ℕ, suc, zero, ◌+◌, ◌≤◌, ◌&&◌, Bool, true, cond, List, [], ◌∷◌, All, Option, Some, None, nat_le, refl, sym, ap, ◌∙◌, subst, arith, inl, inr, eqb}
 use Rattle.std.specs.List.{find}
 use Rattle.std.proofs.lemmas.Bool.{and_parts, cases_Bool, eqb-true, leb-true}
-use Rattle.bp_matter.specs.ValidPrefixes.{after_items, after_productions, is_number, is_under}
+use Rattle.bp_matter.specs.ValidPrefixes.{after_items, after_productions, was_reached, is_under}
 use Rattle.bp_matter.specs.declared.rows.Item.{Item}
 use Rattle.bp_matter.specs.declared.rows.ProductionRow.{ProductionRow}
 
@@ -113,6 +113,6 @@ found_lies text n (first ∷ rows) next from test row found under low is =
           found_lies text past.0 rows next from test row rest under (omega (arith, low, row_grows text n first past.0 past.1)) past.2)
     ]
 
-pub number_is : (o : Option ℕ) (n : ℕ) → is_number o n ≡ true → o ≡ Some n
+pub number_is : (o : Option ℕ) (n : ℕ) → was_reached o n ≡ true → o ≡ Some n
 number_is None n is = absurd cc
 number_is (Some m) n is = ap Some (eqb-true m n is)

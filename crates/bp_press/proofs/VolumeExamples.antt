@@ -11,7 +11,7 @@ use Rattle.bp_press.specs.Contents.{ground_of, held_text, label_count, pages_of,
 use Rattle.bp_press.specs.Files.{Placed, placed}
 use Rattle.bp_press.specs.LoadFiles.{family_of, opt_line, optional_code}
 use Rattle.bp_press.specs.Pressing.{image_at, images_after, placed_at, sheet_at, sheets_after}
-use Rattle.bp_press.specs.VolumeFiles.{bytes_in, path_in, row_of}
+use Rattle.bp_press.specs.VolumeFiles.{bytes_of_entry, entry_path, file_of_entry}
 use Rattle.bp_press.specs.declared.volume_files.VolumeFile.TheVariants.{Dat, Log, Opt, Page, Sheet, Text}
 use Rattle.bp_press.proofs.BatchExamples.{lent}
 use Rattle.bp_press.proofs.Examples.{area, asked, frozen, redacted, smith, withheld}
@@ -64,16 +64,16 @@ author_in_column = refl
 -- ---- paths and bytes of entries
 
 -- image 1,000 lies in the second folder, under the second label of its item
-paths_of_entries : map (path_in frozen) (Page (lent redacted) 999 1 ∷ Sheet (lent withheld) 1999 Wp 1 ∷ Text (lent withheld) 1000 ∷ Dat ∷ Opt ∷ Log ∷ [])
+paths_of_entries : map (entry_path frozen) (Page (lent redacted) 999 1 ∷ Sheet (lent withheld) 1999 Wp 1 ∷ Text (lent withheld) 1000 ∷ Dat ∷ Opt ∷ Log ∷ [])
     ≡ codes "V1/IMAGES/0002/AB-0002.TIF" ∷ codes "V1/IMAGES/0003/AB-0003.TIF" ∷ codes "V1/TEXT/0002/AB-0002.TXT"
     ∷ codes "V1/DATA/V1.DAT" ∷ codes "V1/DATA/V1.OPT" ∷ codes "V1/DATA/V1-LOG.CSV" ∷ []
 paths_of_entries = refl
 
-text_entry : row_of frozen smith (Text (lent redacted) 0) ≡ file (codes "V1/TEXT/0001/AB-0001.TXT") (12 ∷ [])
+text_entry : file_of_entry frozen smith (Text (lent redacted) 0) ≡ file (codes "V1/TEXT/0001/AB-0001.TXT") (12 ∷ [])
 unfolding lib.Utf8.encode
 text_entry = refl
 
-opt_entry : bytes_in frozen smith Opt
+opt_entry : bytes_of_entry frozen smith Opt
     ≡ codes "AB-0001,V1,V1\\IMAGES\\0001\\AB-0001.TIF,Y,,,1\r\nAB-0002,V1,V1\\IMAGES\\0001\\AB-0002.TIF,Y,,,1\r\n"
 unfolding digits lib.Utf8.encode
 opt_entry = refl

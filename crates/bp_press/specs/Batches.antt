@@ -15,7 +15,7 @@ use Rattle.bp_press.specs.Jobs.{IsCodable, strip_by}
 use Rattle.bp_press.specs.Needs.{IsLabelled}
 use Rattle.bp_press.specs.Shown.{IsOwnJob}
 use Rattle.bp_press.specs.declared.batches.MadeFile.{MadeFile}
-use Rattle.bp_press.specs.VolumeFiles.{row_of}
+use Rattle.bp_press.specs.VolumeFiles.{file_of_entry}
 use Rattle.bp_press.specs.declared.jobs.Job.{Job}
 use Rattle.bp_press.specs.declared.jobs.Job.TheVariants as jobs
 use Rattle.bp_press.specs.declared.made_files.CodedBatch.{CodedBatch}
@@ -95,8 +95,8 @@ pub record HasImages (f : Production) (m : Matter) (entry : VolumeFile) (jobs : 
 
 -- the file that an entry stands for, with its digest
 -- by FIPS 180-4
-abbrev pub made_by : Production → Matter → VolumeFile → MadeFile
-made_by f m entry = made_of (row_of f m entry)
+abbrev pub file_made_by : Production → Matter → VolumeFile → MadeFile
+file_made_by f m entry = made_of (file_of_entry f m entry)
 
 -- the jobs of some entries of a list, from a place on, with the strips of their images
 pub record IsCodedBatch (f : Production) (m : Matter) (list : List VolumeFile) (from : ℕ)

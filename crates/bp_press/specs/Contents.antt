@@ -19,7 +19,7 @@ use Rattle.bp_matter.specs.declared.rows.HeldRow.{HeldRow}
 use Rattle.bp_matter.specs.declared.rows.Item.{Item}
 use Rattle.bp_matter.specs.declared.rows.Production.{Production}
 use Rattle.bp_matter.specs.declared.rows.Request.{Request}
-use Rattle.bp_freeze.specs.Agree.{field_number, held_for, kept_words, rects_on, value_in}
+use Rattle.bp_freeze.specs.Agree.{field_number, held_of_number, kept_words, rects_on, value_of_field}
 use Rattle.bp_freeze.specs.Log.{label_in}
 use Rattle.bp_freeze.specs.Seeing.{page_count}
 
@@ -64,8 +64,8 @@ withheld_content q i basis = record {
 -- ---- of an item that isn't
 
 -- a page of a document; one that isn't there has no pixels
-abbrev pub image_in : Matter → ℕ → ℕ → Image
-image_in m doc page =
+abbrev pub page_image : Matter → ℕ → ℕ → Image
+page_image m doc page =
     unwrap_or (of_row (λ row. row.image) (page_with doc page m))
     (white_image 0 0 slip_resolution slip_resolution Inch)
 
@@ -81,7 +81,7 @@ stamps_on boxes page = map stamp_of (filter (λ box. box.page.0 == page) boxes)
 -- by FRCP 26(b)(5)(A)
 unfoldable pub produced_page : Production → Matter → Item → ℕ → Image
 produced_page f m i page =
-    produced_of f.ink (image_in m i.doc.0 page) (stamps_on i.boxes page)
+    produced_of f.ink (page_image m i.doc.0 page) (stamps_on i.boxes page)
     (label_in f.request.prefix (i.span.first + page - 1)) i.designation
 
 -- the words of that page which no box touches
@@ -104,7 +104,8 @@ value_unless None value = unwrap_or value []
 -- by FRCP 26(b)(5)(A)
 abbrev pub value_by : Matter → Item → Option ℕ → List ℕ
 value_by m i None = []
-value_by m i (Some field) = value_unless (held_for i.held field) (value_in m i.doc.0 field)
+value_by m i (Some field) =
+    value_unless (held_of_number i.held field) (value_of_field m i.doc.0 field)
 
 -- what is shown of the field of a name
 -- by FRCP 26(b)(5)(A)
@@ -146,11 +147,11 @@ value_in_column m i None name = value_shown m i name
 
 -- an item, and what a volume shows of it
 -- by FRCP 26(b)(5)(A)
-pub record Part : Type 0 where
+pub record ItemShown : Type 0 where
   pub item : Item
   pub content : Content
 
 -- an item and its content
 -- by FRCP 26(b)(5)(A)
-abbrev pub part_of : Production → Matter → Item → Part
+abbrev pub part_of : Production → Matter → Item → ItemShown
 part_of f m i = record { item = i; content = content_by f m i (ground_of i.treatment) }

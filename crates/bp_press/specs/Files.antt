@@ -8,7 +8,7 @@ use Rattle.bp_outside.specs.Folder.{file}
 use Rattle.bp_outside.specs.declared.files.FileRow.{FileRow}
 use Rattle.bp_matter.specs.declared.rows.Item.{Item}
 use Rattle.bp_matter.specs.declared.rows.Request.{Request}
-use Rattle.bp_press.specs.Contents.{Content, Part}
+use Rattle.bp_press.specs.Contents.{Content, ItemShown}
 use Rattle.bp_press.specs.Paths.{image_path, text_path}
 
 -- a part, and the place of its first image in the volume, where images are counted from 0
@@ -18,7 +18,7 @@ pub record Placed : Type 0 where
   pub content : Content
 
 -- parts that follow one another from a place on
-abbrev pub placed : ℕ → List Part → List Placed
+abbrev pub placed : ℕ → List ItemShown → List Placed
 placed place [] = []
 placed place (part ∷ parts) =
     record { place = place; item = part.item; content = part.content }

@@ -6,13 +6,13 @@ use Rattle.bp_matter.specs.Matter.{Matter}
 use Rattle.bp_matter.specs.declared.rows.Production.{Production}
 use Rattle.bp_press.specs.Manifest.{manifest_of}
 use Rattle.bp_press.specs.Paths.{manifest_path}
-use Rattle.bp_press.specs.VolumeFiles.{row_of}
+use Rattle.bp_press.specs.VolumeFiles.{file_of_entry}
 use Rattle.bp_press.specs.declared.batches.MadeFile.{MadeFile}
 use Rattle.bp_press.specs.declared.volume_files.VolumeFile.{VolumeFile}
 
 -- the files of a list from a place on
 abbrev pub rows_ahead : Production → Matter → List VolumeFile → ℕ → List FileRow
-rows_ahead f m list next = map (row_of f m) (drop next list)
+rows_ahead f m list next = map (file_of_entry f m) (drop next list)
 
 -- what is still to be given: those, and the manifest, which has lines so far and theirs; nothing more
 -- when it was given

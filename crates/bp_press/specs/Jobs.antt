@@ -1,7 +1,7 @@
 -- The images that jobs make.
 use Rattle.std.specs.Prelude.{◌+◌, ℕ, IsTrue, List, is_some}
 use Rattle.bp_rows.specs.Image.{Image}
-use Rattle.bp_t6.specs.Written.{strip_of}
+use Rattle.bp_t6.specs.Written.{bits_strip}
 use Rattle.bp_rows.specs.declared.resolution.Unit.TheVariants.{Inch}
 use Rattle.bp_burn.specs.Band.{produced_of, slip_of, slip_resolution}
 use Rattle.bp_burn.specs.Drawn.{has_glyphs}
@@ -10,19 +10,19 @@ use Rattle.bp_burn.specs.declared.slips.TheConstants.{SLIP_HEIGHT, SLIP_WIDTH}
 use Rattle.bp_matter.specs.declared.kept_page.Frame.{Frame}
 use Rattle.bp_matter.specs.LookUps.{page_with}
 use Rattle.bp_matter.specs.Matter.{Matter}
-use Rattle.bp_press.specs.Contents.{image_in}
+use Rattle.bp_press.specs.Contents.{page_image}
 use Rattle.bp_press.specs.declared.jobs.Job.{Job}
 use Rattle.bp_press.specs.declared.jobs.Job.TheVariants as jobs
 
 -- the page or the sheet that a job makes
-abbrev pub page_of : Matter → Job → Image
-page_of m (jobs.Image ink doc page stamps label designation) =
-    produced_of ink (image_in m doc.0 page.0) stamps label designation
-page_of m (jobs.Slip basis label designation) = slip_of basis label designation
+abbrev pub page_of_job : Matter → Job → Image
+page_of_job m (jobs.Image ink doc page stamps label designation) =
+    produced_of ink (page_image m doc.0 page.0) stamps label designation
+page_of_job m (jobs.Slip basis label designation) = slip_of basis label designation
 
 -- its strip
 abbrev pub strip_by : Matter → Job → List ℕ
-strip_by m job = strip_of (page_of m job)
+strip_by m job = bits_strip (page_of_job m job)
 
 -- what stands in its band is drawn with the glyphs that there are
 pub record HasBand (label designation : List ℕ) : Type 0 where

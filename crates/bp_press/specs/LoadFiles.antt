@@ -14,7 +14,7 @@ use Rattle.bp_matter.specs.declared.rows.Item.{Item}
 use Rattle.bp_matter.specs.declared.rows.Production.{Production}
 use Rattle.bp_matter.specs.declared.rows.Request.{Request}
 use Rattle.bp_freeze.specs.Log.{label_in}
-use Rattle.bp_freeze.specs.Selecting.{first_number, last_number}
+use Rattle.bp_freeze.specs.Selecting.{first_of_items, last_of_items}
 use Rattle.bp_press.specs.Contents.{ground_of, label_count}
 use Rattle.bp_press.specs.Files.{Placed}
 use Rattle.bp_press.specs.Paths.{image_path, text_path}
@@ -37,7 +37,7 @@ abbrev pub own_values : Production → Placed → List (List ℕ)
 own_values f p =
     let prefix = f.request.prefix in let i = p.item in let family = family_of f i in
     label_in prefix i.span.first ∷ label_in prefix i.span.last
-    ∷ label_in prefix (first_number family) ∷ label_in prefix (last_number family)
+    ∷ label_in prefix (first_of_items family) ∷ label_in prefix (last_of_items family)
     ∷ decimal (label_count i) ∷ i.designation ∷ optional_code (ground_of i.treatment)
     ∷ text_path reverse_solidus f.request p.place i.span.first ∷ []
 

@@ -9,7 +9,7 @@ use Rattle.bp_matter.specs.Matter.{Matter}
 use Rattle.bp_matter.specs.declared.rows.Item.{Item}
 use Rattle.bp_matter.specs.declared.rows.Production.{Production}
 use Rattle.bp_freeze.specs.Log.{CanBeLogged}
-use Rattle.bp_freeze.specs.Selecting.{first_number, last_number}
+use Rattle.bp_freeze.specs.Selecting.{first_of_items, last_of_items}
 use Rattle.bp_press.specs.LoadFiles.{dat_table, family_of, opt_lines}
 use Rattle.bp_press.specs.Pressing.{CanAllBePlaced, image_total}
 use Rattle.bp_press.specs.Volume.{placed_items}
@@ -23,8 +23,8 @@ pub record IsLabelled (width number : ℕ) : Type 0 where
 pub record CanBeListed (f : Production) (i : Item) : Type 0 where
   pub first : IsLabelled f.request.prefix.width i.span.first
   pub last : IsLabelled f.request.prefix.width i.span.last
-  pub family_first : IsLabelled f.request.prefix.width (first_number (family_of f i))
-  pub family_last : IsLabelled f.request.prefix.width (last_number (family_of f i))
+  pub family_first : IsLabelled f.request.prefix.width (first_of_items (family_of f i))
+  pub family_last : IsLabelled f.request.prefix.width (last_of_items (family_of f i))
 
 -- the number of the first document of its family is one of so many
 abbrev pub IsInFamily : ℕ → Item → Type 0
@@ -35,9 +35,9 @@ pub record AreFamilyNumbers (f : Production) (documents : ℕ) (firsts lasts : L
   pub many_firsts : length firsts ≡ documents + 1
   pub many_lasts : length lasts ≡ documents + 1
   pub first : (p : ℕ) → p ≤ documents
-      → slice_index firsts p ≡ first_number (filter (λ other. other.parent.0 == p) f.items)
+      → slice_index firsts p ≡ first_of_items (filter (λ other. other.parent.0 == p) f.items)
   pub last : (p : ℕ) → p ≤ documents
-      → slice_index lasts p ≡ last_number (filter (λ other. other.parent.0 == p) f.items)
+      → slice_index lasts p ≡ last_of_items (filter (λ other. other.parent.0 == p) f.items)
 
 -- what the files of a volume need
 pub record CanBePressed (f : Production) (m : Matter) : Type 0 where

@@ -17,7 +17,7 @@ use Rattle.bp_matter.specs.declared.rows.Production.{Production}
 use Rattle.bp_matter.specs.declared.rows.Request.{Request}
 use Rattle.bp_freeze.specs.Log.{label_in}
 use Rattle.bp_freeze.specs.Seeing.{page_count}
-use Rattle.bp_press.specs.Contents.{ground_of, image_in, label_count, part_of, produced_page, slip_sheet}
+use Rattle.bp_press.specs.Contents.{ground_of, page_image, label_count, part_of, produced_page, slip_sheet}
 use Rattle.bp_press.specs.Files.{Placed, image_files, item_files, placed}
 use Rattle.bp_press.specs.Paths.{image_path}
 
@@ -62,7 +62,7 @@ pub record AreLabels (q : Request) (first count : ℕ) : Type 0 where
 abbrev pub AreScans : Matter → ℕ → Type 0
 AreScans m doc =
     (page : ℕ) → 1 ≤ page → page ≤ page_count m doc
-    → IsTrue (sides_are_imported (image_in m doc page).width (image_in m doc page).height)
+    → IsTrue (sides_are_imported (page_image m doc page).width (page_image m doc page).height)
 
 -- how many images an item has
 abbrev pub count_by : Matter → Item → Option Basis → ℕ

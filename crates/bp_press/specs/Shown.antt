@@ -9,7 +9,7 @@ use Rattle.bp_codes.specs.Bits.{bits_of}
 use Rattle.bp_codes.specs.declared.span.Fill.TheVariants.{High}
 use Rattle.bp_rows.specs.Image.{Image}
 use Rattle.bp_rows.specs.Limits.{sides_are_imported}
-use Rattle.bp_t6.specs.Written.{strip_of}
+use Rattle.bp_t6.specs.Written.{bits_strip}
 use Rattle.bp_text.specs.Kept.{kept_of}
 use Rattle.bp_text.specs.declared.words.Word.{Word}
 use Rattle.bp_burn.specs.Band.{produced_of, slip_of}
@@ -103,7 +103,7 @@ CanBeCoded (images.Sheet basis label designation) = HasBand label.now designatio
 -- its rows, of which none was read
 abbrev pub rows_lent : CoveredPage → RowsOut
 rows_lent p = record {
-  bits = bits_of High (strip_of p.page.now);
+  bits = bits_of High (bits_strip p.page.now);
   width = p.page.now.width;
   height = p.page.now.height;
   ink = p.ink;

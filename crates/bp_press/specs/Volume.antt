@@ -10,7 +10,7 @@ use Rattle.bp_matter.specs.Matter.{Matter}
 use Rattle.bp_matter.specs.declared.rows.Production.{Production}
 use Rattle.bp_matter.specs.declared.rows.Request.{Request}
 use Rattle.bp_freeze.specs.Log.{log_of}
-use Rattle.bp_press.specs.Contents.{Part, part_of}
+use Rattle.bp_press.specs.Contents.{ItemShown, part_of}
 use Rattle.bp_press.specs.Files.{Placed, item_files, placed}
 use Rattle.bp_press.specs.LoadFiles.{dat_bytes, opt_bytes}
 use Rattle.bp_press.specs.Manifest.{manifest_of}
@@ -41,20 +41,20 @@ abbrev pub with_manifest : Request → List FileRow → List FileRow
 with_manifest q files = files ++ file (manifest_path q) (manifest_of files) ∷ []
 
 -- the files of a production whose items show this
-unfoldable pub files_of : Production → List Part → List FileRow
+unfoldable pub files_of : Production → List ItemShown → List FileRow
 files_of f parts = with_manifest f.request (files_before f (placed 0 parts))
 
 -- what a matter shows of the items of a production
-abbrev pub parts_of : Production → Matter → List Part
-parts_of f m = map (part_of f m) f.items
+abbrev pub items_shown : Production → Matter → List ItemShown
+items_shown f m = map (part_of f m) f.items
 
 -- the same, each part at its place in the volume
 abbrev pub placed_items : Production → Matter → List Placed
-placed_items f m = placed 0 (parts_of f m)
+placed_items f m = placed 0 (items_shown f m)
 
 -- Volume: the files of a production, with what a matter shows of its items
 unfoldable pub volume_of : Production → Matter → List FileRow
-volume_of f m = files_of f (parts_of f m)
+volume_of f m = files_of f (items_shown f m)
 
 -- the bytes of the file of a path, if there is one
 abbrev pub file_at : List ℕ → List FileRow → Option (List ℕ)

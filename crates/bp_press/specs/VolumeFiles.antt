@@ -26,33 +26,33 @@ use Rattle.bp_press.specs.declared.volume_files.VolumeFile.{VolumeFile}
 use Rattle.bp_press.specs.declared.volume_files.VolumeFile.TheVariants.{Dat, Log, Opt, Page, Sheet, Text}
 
 -- where its file lies
-abbrev pub path_in : Production → VolumeFile → List ℕ
-path_in f (Page item place page) =
+abbrev pub entry_path : Production → VolumeFile → List ℕ
+entry_path f (Page item place page) =
     image_path solidus f.request (place + page) (item.now.span.first + page)
-path_in f (Sheet item place basis sheet) =
+entry_path f (Sheet item place basis sheet) =
     image_path solidus f.request (place + sheet) (item.now.span.first + sheet)
-path_in f (Text item place) = text_path solidus f.request place item.now.span.first
-path_in f Dat = data_path f.request (codes ".DAT")
-path_in f Opt = data_path f.request (codes ".OPT")
-path_in f Log = data_path f.request (codes "-LOG.CSV")
+entry_path f (Text item place) = text_path solidus f.request place item.now.span.first
+entry_path f Dat = data_path f.request (codes ".DAT")
+entry_path f Opt = data_path f.request (codes ".OPT")
+entry_path f Log = data_path f.request (codes "-LOG.CSV")
 
 -- the first entry whose file lies at the path
 abbrev pub entry_at : Production → List ℕ → List VolumeFile → Option VolumeFile
-entry_at f path list = find (λ entry. bytes_eq (path_in f entry) path) list
+entry_at f path list = find (λ entry. bytes_eq (entry_path f entry) path) list
 
 -- what its file holds
-abbrev pub bytes_in : Production → Matter → VolumeFile → List ℕ
-bytes_in f m (Page item place page) = tiff_of G4 (produced_page f m item.now (page + 1))
-bytes_in f m (Sheet item place basis sheet) =
+abbrev pub bytes_of_entry : Production → Matter → VolumeFile → List ℕ
+bytes_of_entry f m (Page item place page) = tiff_of G4 (produced_page f m item.now (page + 1))
+bytes_of_entry f m (Sheet item place basis sheet) =
     tiff_of G4 (slip_sheet f.request item.now basis sheet)
-bytes_in f m (Text item place) = encode_utf8_all (part_of f m item.now).content.text
-bytes_in f m Dat = dat_bytes f (placed_items f m)
-bytes_in f m Opt = opt_bytes f.request (placed_items f m)
-bytes_in f m Log = log_of f
+bytes_of_entry f m (Text item place) = encode_utf8_all (part_of f m item.now).content.text
+bytes_of_entry f m Dat = dat_bytes f (placed_items f m)
+bytes_of_entry f m Opt = opt_bytes f.request (placed_items f m)
+bytes_of_entry f m Log = log_of f
 
 -- its file
-abbrev pub row_of : Production → Matter → VolumeFile → FileRow
-row_of f m entry = file (path_in f entry) (bytes_in f m entry)
+abbrev pub file_of_entry : Production → Matter → VolumeFile → FileRow
+file_of_entry f m entry = file (entry_path f entry) (bytes_of_entry f m entry)
 
 -- ---- what making it needs
 
@@ -104,7 +104,7 @@ CanBeFilled f m Opt = CanBePressed f m
 CanBeFilled f m Log = CanBePressed f m
 
 -- what the file of an entry needs
-pub record CanBeMade (f : Production) (m : Matter) (entry : VolumeFile) : Type 0 where
+pub record EntryCanBeMade (f : Production) (m : Matter) (entry : VolumeFile) : Type 0 where
   pub named : CanBeNamed f entry
   pub filled : CanBeFilled f m entry
 
@@ -115,11 +115,11 @@ pub record Lists (f : Production) (m : Matter) (before : List VolumeFile) (rows 
     (after : List VolumeFile) : Type 0 where
   pub added : List VolumeFile
   pub there : after ≡ before ++ added
-  pub files : map (row_of f m) added ≡ rows
-  pub made : All (CanBeMade f m) added
+  pub files : map (file_of_entry f m) added ≡ rows
+  pub made : All (EntryCanBeMade f m) added
 
 -- the list of all files of a production before the manifest
 pub record IsListed (f : Production) (m : Matter) (list : List VolumeFile) (rows : List FileRow)
     : Type 0 where
-  pub files : map (row_of f m) list ≡ rows
-  pub made : All (CanBeMade f m) list
+  pub files : map (file_of_entry f m) list ≡ rows
+  pub made : All (EntryCanBeMade f m) list

@@ -1,7 +1,7 @@
 // Files added to a folder, each with its line of the manifest.
 ghost use Rattle.std.specs.Prelude.{◌∷◌, []};
 ghost use Rattle.bp_press.specs.Batches.{IsDigested};
-ghost use Rattle.bp_press.specs.Writing.{Adds};
+ghost use Rattle.bp_press.specs.Writing.{AddsListed};
 
 use crate::batches::MadeFile;
 use crate::manifest::add_line;
@@ -16,7 +16,7 @@ pub(crate) fn add_file<F: Folder>(
     manifest: &mut Vec<u8>,
 ) -> Result<(), FolderRefusal>
     requires { IsDigested file.now }
-    ensures { Adds (file.now.row ∷ []) (F.shows folder.old) manifest.old.items result
+    ensures { AddsListed (file.now.row ∷ []) (F.shows folder.old) manifest.old.items result
         (F.shows folder.new) manifest.new.items }
 {
     add_line(manifest, &file.row.path, file.digest)?;

@@ -8,11 +8,11 @@ ghost use Rattle.std.specs.Option.{option_copied};
 ghost use Rattle.bp_rows.specs.Image.{IsPage};
 ghost use Rattle.bp_rows.specs.Limits.{sides_are_imported};
 ghost use Rattle.bp_text.specs.Kept.{is_touched};
-ghost use Rattle.bp_freeze.specs.Agree.{held_for, rects_on, value_in};
+ghost use Rattle.bp_freeze.specs.Agree.{held_of_number, rects_on, value_of_field};
 ghost use Rattle.bp_matter.specs.Images.{in_frame};
 ghost use Rattle.bp_matter.specs.Valid.{IsValid};
 ghost use Rattle.bp_press.specs.Contents.{value_by};
-ghost use Rattle.bp_press.specs.Jobs.{IsCodable, page_of, sheet_frame};
+ghost use Rattle.bp_press.specs.Jobs.{IsCodable, page_of_job, sheet_frame};
 ghost use Rattle.bp_press.specs.Shown.{CanBeCoded, Lends, covers, image_lent, matter_behind, production_shown, rows_lent, shown_words, value_lent, words_left};
 ghost use Rattle.bp_press.specs.declared.jobs.Job.{Job as AnyJob};
 
@@ -170,14 +170,14 @@ fn value_of<'v>(tables: &'v Tables, item: &'v Item, field: u32) -> ShownValue<'v
 
 // The held field of that number.
 fn held_for(held: &HeldList, field: u32) -> Option<&HeldRow>
-    ensures { option_copied result ≡ held_for held.now field }
+    ensures { option_copied result ≡ held_of_number held.now field }
 {
     held.as_slice().iter().find(|row| row.field == field)
 }
 
 // The value of a document in a field, if there is one.
 fn own_value(tables: &Tables, doc: DocNo, field: u32) -> ShownValue<'_>
-    ensures { value_lent result ≡ unwrap_or (value_in tables.now.matter doc.0 field) [] }
+    ensures { value_lent result ≡ unwrap_or (value_of_field tables.now.matter doc.0 field) [] }
 {
     let Some(row) = tables.doc_with(doc) else {
         return ShownValue::Nothing;
@@ -222,7 +222,7 @@ impl<'a> CoveredJobs<'a> {
         requires job { job < length self.now.jobs.now }
         requires codable { All (IsCodable self.now.tables.now.matter) self.now.jobs.now }
         ensures is { (d : AnyJob) → image_lent result
-            ≡ page_of self.now.tables.now.matter (slice_index_or self.now.jobs.now job d) }
+            ≡ page_of_job self.now.tables.now.matter (slice_index_or self.now.jobs.now job d) }
         ensures can { CanBeCoded result }
         ensures entered { G.entered gate.now job }
     {
@@ -256,7 +256,7 @@ pub(crate) struct CoveredPage<'a> {
 // The image of a job, its page covered.
 fn image_of<'a>(tables: &'a Tables, job: &'a Job) -> CoveredImage<'a>
     requires { IsCodable tables.now.matter job.now }
-    ensures is { image_lent result ≡ page_of tables.now.matter job.now }
+    ensures is { image_lent result ≡ page_of_job tables.now.matter job.now }
     ensures can { CanBeCoded result }
 {
     tables.know_valid();

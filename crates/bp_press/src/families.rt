@@ -2,7 +2,7 @@
 ghost use Rattle.std.specs.Prelude.{◌≡◌, ◌≤◌, ◌<◌, ◌+◌, ◌==◌, ◌^◌, ℕ, All, IfOk, slice_index, vec_len};
 ghost use Rattle.std.specs.List.{filter};
 ghost use Rattle.bp_matter.specs.declared.rows.Item.{Item};
-ghost use Rattle.bp_freeze.specs.Selecting.{first_number, last_number};
+ghost use Rattle.bp_freeze.specs.Selecting.{first_of_items, last_of_items};
 ghost use Rattle.bp_press.specs.Needs.{IsInFamily};
 
 use bp_core::OutOfMemory;
@@ -39,7 +39,7 @@ pub(crate) fn first_numbers(
     requires families { All (IsInFamily documents) items.now }
     ensures many { IfOk result (λ numbers. vec_len numbers ≡ documents + 1) }
     ensures tell { IfOk result (λ numbers. (p : ℕ) → p ≤ documents → slice_index numbers.items p
-        ≡ first_number (filter (λ item. item.parent.0 == p) items.now)) }
+        ≡ first_of_items (filter (λ item. item.parent.0 == p) items.now)) }
 {
     let mut numbers = vec![in alloc; 0u64; documents + 1]?;
     let mut rest = items;
@@ -60,7 +60,7 @@ pub(crate) fn last_numbers(
     requires families { All (IsInFamily documents) items.now }
     ensures many { IfOk result (λ numbers. vec_len numbers ≡ documents + 1) }
     ensures tell { IfOk result (λ numbers. (p : ℕ) → p ≤ documents → slice_index numbers.items p
-        ≡ last_number (filter (λ item. item.parent.0 == p) items.now)) }
+        ≡ last_of_items (filter (λ item. item.parent.0 == p) items.now)) }
 {
     let mut numbers = vec![in alloc; 0u64; documents + 1]?;
     let mut rest = items;

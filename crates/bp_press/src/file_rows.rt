@@ -1,9 +1,9 @@
 // The files of a volume's list: of each its path and its bytes.
 ghost use Rattle.std.specs.Prelude.{◌≡◌, ◌<◌, All, IfOk, length, map, slice_index_or};
 ghost use Rattle.bp_press.specs.Batches.{HasImages, HasJob, jobs_by, made_of};
-ghost use Rattle.bp_press.specs.Jobs.{IsCodable, page_of, strip_by};
+ghost use Rattle.bp_press.specs.Jobs.{IsCodable, page_of_job, strip_by};
 ghost use Rattle.bp_press.specs.Shown.{IsOwnJob};
-ghost use Rattle.bp_press.specs.VolumeFiles.{CanBeFilled, CanBeMade, CanBeNamed, bytes_in, path_in, row_of};
+ghost use Rattle.bp_press.specs.VolumeFiles.{CanBeFilled, EntryCanBeMade, CanBeNamed, bytes_of_entry, entry_path, file_of_entry};
 ghost use Rattle.bp_press.specs.declared.jobs.Job.{Job as AnyJob};
 ghost use Rattle.bp_outside.specs.Folder.{file};
 ghost use Rattle.bp_tiff.specs.Tiff.{tiff_of};
@@ -32,7 +32,7 @@ pub(crate) fn file_path(
     file: &VolumeFile,
 ) -> Result<Text, OutOfMemory>
     requires { CanBeNamed production.now file.now }
-    ensures { IfOk result (λ path. path ≡ path_in production.now file.now) }
+    ensures { IfOk result (λ path. path ≡ entry_path production.now file.now) }
 {
     let request = &production.request;
     match *file {
@@ -68,7 +68,7 @@ fn first_file<P: Shows>(
     requires codable { All (IsCodable (P.matter shown.now)) jobs.now }
     requires strips { strips.now ≡ map (strip_by (P.matter shown.now)) jobs.now }
     ensures { (d : AnyJob) → IfOk result (λ bytes.
-        bytes ≡ tiff_of Form.G4 (page_of (P.matter shown.now) (slice_index_or jobs.now 0 d))) }
+        bytes ≡ tiff_of Form.G4 (page_of_job (P.matter shown.now) (slice_index_or jobs.now 0 d))) }
 {
     image_file(alloc, shown.image(&jobs[0]), strips[0].as_slice())
 }
@@ -86,7 +86,7 @@ fn bytes_with<P: Shows>(
     requires made { CanBeFilled production.now (P.matter shown.now) file.now }
     requires images { HasImages production.now (P.matter shown.now) file.now jobs.now strips.now }
     ensures { IfOk result (λ bytes.
-        bytes ≡ bytes_in production.now (P.matter shown.now) file.now) }
+        bytes ≡ bytes_of_entry production.now (P.matter shown.now) file.now) }
 {
     match *file {
         VolumeFile::Page { .. } => first_file(alloc, shown, jobs, strips),
@@ -108,10 +108,10 @@ pub(crate) fn made_file<P: Shows>(
     strips: &[Bytes],
 ) -> Result<MadeFile, OutOfMemory>
     requires same { P.production shown.now ≡ production.now }
-    requires made { CanBeMade production.now (P.matter shown.now) file.now }
+    requires made { EntryCanBeMade production.now (P.matter shown.now) file.now }
     requires images { HasImages production.now (P.matter shown.now) file.now jobs.now strips.now }
     ensures { IfOk result (λ made.
-        made ≡ made_of (row_of production.now (P.matter shown.now) file.now)) }
+        made ≡ made_of (file_of_entry production.now (P.matter shown.now) file.now)) }
 {
     let path = file_path(alloc, production, file)?;
     let bytes = bytes_with(alloc, shown, production, file, jobs, strips)?;
@@ -170,9 +170,9 @@ pub(crate) fn file_bytes<P: Shows>(
     file: &VolumeFile,
 ) -> Result<Bytes, OutOfMemory>
     requires same { P.production shown.now ≡ production.now }
-    requires made { CanBeMade production.now (P.matter shown.now) file.now }
+    requires made { EntryCanBeMade production.now (P.matter shown.now) file.now }
     ensures { IfOk result (λ bytes.
-        bytes ≡ bytes_in production.now (P.matter shown.now) file.now) }
+        bytes ≡ bytes_of_entry production.now (P.matter shown.now) file.now) }
 {
     let jobs = own_jobs(alloc, production, file)?;
     let strips = strips_in_turn(alloc, shown, jobs.as_slice())?;
@@ -194,9 +194,9 @@ pub(crate) fn file_made<P: Shows>(
     file: &VolumeFile,
 ) -> Result<MadeFile, OutOfMemory>
     requires same { P.production shown.now ≡ production.now }
-    requires made { CanBeMade production.now (P.matter shown.now) file.now }
+    requires made { EntryCanBeMade production.now (P.matter shown.now) file.now }
     ensures { IfOk result (λ made.
-        made ≡ made_of (row_of production.now (P.matter shown.now) file.now)) }
+        made ≡ made_of (file_of_entry production.now (P.matter shown.now) file.now)) }
 {
     let path = file_path(alloc, production, file)?;
     let bytes = file_bytes(alloc, shown, production, file)?;

@@ -3,7 +3,7 @@ ghost use Rattle.std.specs.Prelude.{◌≡◌, ◌++◌, ◌∷◌, [], ℕ, All
 ghost use Rattle.std.specs.Str.{bytes_eq};
 ghost use Rattle.bp_bates.specs.Prefixes.{is_good_prefix};
 ghost use Rattle.bp_core.specs.Answers.{Answers};
-ghost use Rattle.bp_freeze.specs.Keeping.{Keeps};
+ghost use Rattle.bp_freeze.specs.Keeping.{KeepsProduction};
 ghost use Rattle.bp_freeze.specs.Log.{label_in};
 ghost use Rattle.bp_press.specs.Answering.{file_answer};
 ghost use Rattle.bp_press.specs.Manifest.{manifest_line, manifest_of};
@@ -11,7 +11,7 @@ ghost use Rattle.bp_press.specs.Needs.{CanBePressed, IsLabelled};
 ghost use Rattle.bp_press.specs.Paths.{manifest_path};
 ghost use Rattle.bp_press.specs.Shown.{matter_behind, production_shown};
 ghost use Rattle.bp_press.specs.Volume.{file_at, volume_of};
-ghost use Rattle.bp_press.specs.VolumeFiles.{CanBeMade, CanBeNamed, entry_at, path_in, row_of};
+ghost use Rattle.bp_press.specs.VolumeFiles.{EntryCanBeMade, CanBeNamed, entry_at, entry_path, file_of_entry};
 ghost use Rattle.bp_outside.specs.Folder.{file};
 
 use crate::covered::Covered;
@@ -49,7 +49,7 @@ fn ends_with_label(path: &Text, prefix: &Prefix, number: u64, end: &[u8; 4]) -> 
 // Whether a file may have the path, by its label: a file of all items may.
 fn may_have(production: &Production, file: &VolumeFile, path: &Text) -> bool
     requires { CanBeNamed production.now file.now }
-    ensures { result ≡ false → bytes_eq (path_in production.now file.now) path.now ≡ false }
+    ensures { result ≡ false → bytes_eq (entry_path production.now file.now) path.now ≡ false }
 {
     let prefix = &production.request.prefix;
     match *file {
@@ -79,7 +79,7 @@ fn has_path(
     path: &Text,
 ) -> Result<bool, OutOfMemory>
     requires { CanBeNamed production.now file.now }
-    ensures { IfOk result (λ is. is ≡ bytes_eq (path_in production.now file.now) path.now) }
+    ensures { IfOk result (λ is. is ≡ bytes_eq (entry_path production.now file.now) path.now) }
 {
     if !may_have(production, file, path) {
         return Ok(false);
@@ -115,8 +115,8 @@ fn add_line_of<P: Shows>(
     manifest: &mut Vec<u8>,
 ) -> Result<(), OutOfMemory>
     requires same { P.production shown.now ≡ production.now }
-    requires made { CanBeMade production.now (P.matter shown.now) file.now }
-    ensures { let row = row_of production.now (P.matter shown.now) file.now in
+    requires made { EntryCanBeMade production.now (P.matter shown.now) file.now }
+    ensures { let row = file_of_entry production.now (P.matter shown.now) file.now in
         OnOk result (manifest.new.items ≡ manifest.old.items ++ manifest_line row) }
 {
     let made = file_made(alloc, shown, production, file)?;
@@ -131,8 +131,8 @@ fn manifest_bytes<P: Shows>(
     list: &[VolumeFile],
 ) -> Result<Bytes, OutOfMemory>
     requires same { P.production shown.now ≡ production.now }
-    requires made { All (CanBeMade production.now (P.matter shown.now)) list.now }
-    ensures { let rows = map (row_of production.now (P.matter shown.now)) list.now in
+    requires made { All (EntryCanBeMade production.now (P.matter shown.now)) list.now }
+    ensures { let rows = map (file_of_entry production.now (P.matter shown.now)) list.now in
         IfOk result (λ bytes. bytes ≡ manifest_of rows) }
 {
     let mut manifest = Vec::new(alloc);
@@ -151,8 +151,8 @@ fn manifest_if<P: Shows>(
     path: &Text,
 ) -> Result<Option<Bytes>, OutOfMemory>
     requires same { P.production shown.now ≡ production.now }
-    requires made { All (CanBeMade production.now (P.matter shown.now)) list.now }
-    ensures { let rows = map (row_of production.now (P.matter shown.now)) list.now in
+    requires made { All (EntryCanBeMade production.now (P.matter shown.now)) list.now }
+    ensures { let rows = map (file_of_entry production.now (P.matter shown.now)) list.now in
         let row = file (manifest_path production.now.request) (manifest_of rows) in
         IfOk result (λ found. found ≡ file_at path.now (row ∷ [])) }
 {
@@ -189,7 +189,7 @@ fn find_file<P: Shows>(
 ///
 ///     let bytes = file_of(alloc, &Covered::of(&tables, &production), &path)?;
 pub fn file_of(alloc: Global, shown: &Covered<'_>, path: &Text) -> Result<Bytes, Refusal>
-    requires { Keeps (matter_behind shown.now) (production_shown shown.now) }
+    requires { KeepsProduction (matter_behind shown.now) (production_shown shown.now) }
     ensures { let files = volume_of (production_shown shown.now) (matter_behind shown.now) in
         Answers (λ bytes. bytes) result (file_answer path.now files) }
 {

@@ -1,14 +1,14 @@
 // The files of a volume, one after another.
 ghost use Rattle.std.specs.Prelude.{◌≡◌, ◌<◌, ◌^◌, ◌++◌, All, IfOk, IfSome, OnErr, OnOk, length, slice_index_or};
 ghost use Rattle.bp_outside.specs.Folder.{file};
-ghost use Rattle.bp_press.specs.Batches.{IsDigested, made_by, made_of};
+ghost use Rattle.bp_press.specs.Batches.{IsDigested, file_made_by, made_of};
 ghost use Rattle.bp_press.specs.InTurn.{TakesMade};
 ghost use Rattle.bp_press.specs.Manifest.{manifest_line};
 ghost use Rattle.bp_press.specs.Needs.{CanBePressed};
 ghost use Rattle.bp_press.specs.Paths.{manifest_path};
 ghost use Rattle.bp_press.specs.Shown.{matter_behind, production_shown};
 ghost use Rattle.bp_press.specs.Volume.{volume_of};
-ghost use Rattle.bp_press.specs.VolumeFiles.{CanBeMade, row_of};
+ghost use Rattle.bp_press.specs.VolumeFiles.{EntryCanBeMade, file_of_entry};
 ghost use Rattle.bp_press.specs.declared.volume_files.VolumeFile.{VolumeFile as Entry};
 
 use crate::batches::MadeFile;
@@ -39,7 +39,7 @@ impl<'w> Model for FilesInTurn<'w> {
     ghost use Rattle.bp_outside.specs.declared.files.FileRow.{FileRow as Row};
     ghost use Rattle.bp_press.specs.InTurn.{files_left};
     ghost use Rattle.bp_press.specs.Shown.{matter_behind, production_shown};
-    ghost use Rattle.bp_press.specs.VolumeFiles.{CanBeMade};
+    ghost use Rattle.bp_press.specs.VolumeFiles.{EntryCanBeMade};
 
     ghost Value = { List Row };
 
@@ -47,7 +47,8 @@ impl<'w> Model for FilesInTurn<'w> {
         r.list.items r.next r.manifest.items r.ended };
 
     ghost invariant = { λ r.
-        All (CanBeMade (production_shown r.shown.now) (matter_behind r.shown.now)) r.list.items };
+        All (EntryCanBeMade (production_shown r.shown.now) (matter_behind r.shown.now))
+        r.list.items };
 }
 
 impl<'w> FilesInTurn<'w> {
@@ -105,11 +106,12 @@ fn listed_file(
     manifest: &mut Vec<u8>,
 ) -> Result<MadeFile, OutOfMemory>
     requires place { place < length list.now }
-    requires made { All (CanBeMade (production_shown shown.now) (matter_behind shown.now)) list.now }
-    ensures made { (d : Entry) → IfOk result (λ made. made ≡ made_by (production_shown shown.now)
-        (matter_behind shown.now) (slice_index_or list.now place d)) }
+    requires made { All (EntryCanBeMade (production_shown shown.now) (matter_behind shown.now))
+        list.now }
+    ensures made { (d : Entry) → IfOk result (λ made. made
+        ≡ file_made_by (production_shown shown.now) (matter_behind shown.now) (slice_index_or list.now place d)) }
     ensures line { (d : Entry) → OnOk result (manifest.new.items ≡ manifest.old.items
-        ++ manifest_line (row_of (production_shown shown.now) (matter_behind shown.now)
+        ++ manifest_line (file_of_entry (production_shown shown.now) (matter_behind shown.now)
         (slice_index_or list.now place d))) }
     ensures stays { OnErr result (manifest.new.items ≡ manifest.old.items) }
 {

@@ -7,7 +7,7 @@ ghost use Rattle.bp_matter.specs.declared.rows.Request.{Request};
 ghost use Rattle.bp_freeze.specs.Agree.{Agree};
 ghost use Rattle.bp_freeze.specs.Alike.{Alike};
 ghost use Rattle.bp_freeze.specs.Freezing.{freeze_of};
-ghost use Rattle.bp_freeze.specs.Keeping.{GrowsTo, Keeps};
+ghost use Rattle.bp_freeze.specs.Keeping.{GrowsTo, KeepsProduction};
 ghost use Rattle.bp_press.specs.ReadBack.{IsReadBack};
 ghost use Rattle.bp_press.specs.Volume.{volume_of};
 
@@ -37,7 +37,7 @@ pub fn same_product()
 pub fn volume_stays()
     ensures { (f : Production) (m n : Matter)
         → IsValid m
-        → Keeps m f
+        → KeepsProduction m f
         → GrowsTo m n
         → volume_of f n ≡ volume_of f m }
 {}
@@ -45,7 +45,7 @@ pub fn volume_stays()
 /// Each image of the volume of a production that a valid matter keeps is read as the page, burned
 /// and with its band, or the slip sheet that it was made of, and as no other page.
 pub fn images_are_read()
-    ensures { (f : Production) (m : Matter) → IsValid m → Keeps m f → IsReadBack f m }
+    ensures { (f : Production) (m : Matter) → IsValid m → KeepsProduction m f → IsReadBack f m }
 {
     written_is_read();
 }

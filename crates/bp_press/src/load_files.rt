@@ -2,7 +2,7 @@
 ghost use Rattle.std.specs.Prelude.{◌≡◌, ◌<◌, ◌+◌, ◌-◌, ◌++◌, ◌∷◌, [], All, IfOk, IsTrue, OnOk, length, map};
 ghost use Rattle.std.specs.Char.{is_ascii};
 ghost use Rattle.std.specs.List.{flat_map, list_all};
-ghost use Rattle.bp_freeze.specs.Selecting.{first_number, last_number};
+ghost use Rattle.bp_freeze.specs.Selecting.{first_of_items, last_of_items};
 ghost use Rattle.bp_matter.specs.Texts.{columns};
 ghost use Rattle.bp_press.specs.LoadFiles.{dat_bytes, dat_row, family_of, opt_bytes, opt_lines};
 ghost use Rattle.bp_press.specs.Needs.{AreFamilyNumbers, CanBePressed, IsInFamily};
@@ -103,8 +103,8 @@ fn family_of(production: &Production, item: &Item, firsts: &[u64], lasts: &[u64]
     requires numbers { AreFamilyNumbers production.now (length firsts.now - 1)
         firsts.now lasts.now }
     requires family { IsInFamily (length firsts.now - 1) item.now }
-    ensures first { result.first ≡ first_number (family_of production.now item.now) }
-    ensures last { result.last ≡ last_number (family_of production.now item.now) }
+    ensures first { result.first ≡ first_of_items (family_of production.now item.now) }
+    ensures last { result.last ≡ last_of_items (family_of production.now item.now) }
 {
     let _production = production;
     let parent = item.parent.0 as usize;

@@ -5,7 +5,7 @@ ghost use Rattle.std.specs.List.{Contains};
 ghost use Rattle.bp_bates.specs.Prefixes.{is_good_prefix};
 ghost use Rattle.bp_core.specs.Characters.{reverse_solidus};
 ghost use Rattle.bp_freeze.specs.Log.{label_in};
-ghost use Rattle.bp_freeze.specs.Selecting.{first_number, last_number};
+ghost use Rattle.bp_freeze.specs.Selecting.{first_of_items, last_of_items};
 ghost use Rattle.bp_press.specs.Contents.{Content, ground_of, label_count, part_of, value_in_column};
 ghost use Rattle.bp_press.specs.Files.{Placed};
 ghost use Rattle.bp_press.specs.LoadFiles.{dat_row, family_of, opt_line, opt_lines, optional_code};
@@ -231,8 +231,8 @@ pub(crate) fn dat_row<P: Shows>(
         IsTrue (is_good_prefix prefix.text prefix.width) }
     requires listed { CanBeListed production.now item.now }
     requires last { item.now.span.last + 1 < 2 ^ 64 }
-    requires family_first { family.first ≡ first_number (family_of production.now item.now) }
-    requires family_last { family.last ≡ last_number (family_of production.now item.now) }
+    requires family_first { family.first ≡ first_of_items (family_of production.now item.now) }
+    requires family_last { family.last ≡ last_of_items (family_of production.now item.now) }
     ensures { let f = production.now in
         let p = placed_at f (P.matter shown.now) item.now place in
         IfOk result (λ row. row ≡ dat_row f p) }

@@ -3,11 +3,11 @@
 ghost use Rattle.std.specs.Prelude.{◌≡◌, ◌≤◌, ◌<◌, All, IfOk, drop, length, map, slice_index_or, slice_range, take};
 ghost use denote.Param.Send.{IsSync};
 ghost use Rattle.std.specs.List.{filter, flat_map};
-ghost use Rattle.bp_press.specs.Batches.{IsCodedBatch, is_image, jobs_by, made_by};
+ghost use Rattle.bp_press.specs.Batches.{IsCodedBatch, is_image, jobs_by, file_made_by};
 ghost use Rattle.bp_press.specs.Jobs.{IsCodable, strip_by};
 ghost use Rattle.bp_press.specs.Shown.{IsOwnJob};
-ghost use Rattle.bp_press.specs.VolumeFiles.{CanBeMade, row_of};
-ghost use Rattle.bp_press.specs.Writing.{Adds};
+ghost use Rattle.bp_press.specs.VolumeFiles.{EntryCanBeMade, file_of_entry};
+ghost use Rattle.bp_press.specs.Writing.{AddsListed};
 ghost use Rattle.bp_press.specs.declared.volume_files.VolumeFile.{VolumeFile as Entry};
 
 use crate::adding::add_file;
@@ -96,14 +96,14 @@ fn file_at<P: Shows, R, G>(
     requires same { P.production maker.now.shown.now ≡ maker.now.production.now }
     requires place { place < length files.now }
     requires made { let m = P.matter maker.now.shown.now in
-        All (CanBeMade maker.now.production.now m) files.now }
+        All (EntryCanBeMade maker.now.production.now m) files.now }
     requires jobs { let jobs = coded.now.batch.jobs in
         jobs ≡ flat_map (jobs_by maker.now.production.now) files.now }
     requires strips { let m = P.matter maker.now.shown.now in
         coded.now.strips ≡ map (strip_by m) coded.now.batch.jobs }
     ensures { (d : Entry) → let m = P.matter maker.now.shown.now in
         IfOk result (λ file.
-        file ≡ made_by maker.now.production.now m (slice_index_or files.now place d)) }
+        file ≡ file_made_by maker.now.production.now m (slice_index_or files.now place d)) }
 {
     let first = images_before(files, place);
     made_file(
@@ -125,7 +125,7 @@ pub(crate) fn coded_batch<P: Shows + Sync, R: Threads + Sync, G: Gate + Sync>(
     requires same { P.production maker.now.shown.now ≡ maker.now.production.now }
     requires some { from < length maker.now.list.now }
     requires made { let m = P.matter maker.now.shown.now in
-        All (CanBeMade maker.now.production.now m) maker.now.list.now }
+        All (EntryCanBeMade maker.now.production.now m) maker.now.list.now }
     ensures { let m = P.matter maker.now.shown.now in
         IfOk result (IsCodedBatch maker.now.production.now m maker.now.list.now from) }
 {
@@ -146,12 +146,12 @@ pub(crate) fn add_batch<P: Shows, R, F: Folder, G>(
 ) -> Result<(), FolderRefusal>
     requires same { P.production maker.now.shown.now ≡ maker.now.production.now }
     requires made { let m = P.matter maker.now.shown.now in
-        All (CanBeMade maker.now.production.now m) maker.now.list.now }
+        All (EntryCanBeMade maker.now.production.now m) maker.now.list.now }
     requires coded { let m = P.matter maker.now.shown.now in
         IsCodedBatch maker.now.production.now m maker.now.list.now from coded.now }
-    ensures { let row = row_of maker.now.production.now (P.matter maker.now.shown.now) in
+    ensures { let row = file_of_entry maker.now.production.now (P.matter maker.now.shown.now) in
         let rows = map row (slice_range maker.now.list.now from coded.now.batch.end) in
-        Adds rows (F.shows folder.old) manifest.old.items result
+        AddsListed rows (F.shows folder.old) manifest.old.items result
         (F.shows folder.new) manifest.new.items }
 {
     let files = &maker.list[from..coded.batch.end];
@@ -176,15 +176,15 @@ pub(crate) fn add_beside<P: Shows + Sync, R: Threads + Sync, F: Folder, G: Gate 
     requires same { P.production maker.now.shown.now ≡ maker.now.production.now }
     requires some { coded.now.batch.end < length maker.now.list.now }
     requires made { let m = P.matter maker.now.shown.now in
-        All (CanBeMade maker.now.production.now m) maker.now.list.now }
+        All (EntryCanBeMade maker.now.production.now m) maker.now.list.now }
     requires coded { let m = P.matter maker.now.shown.now in
         IsCodedBatch maker.now.production.now m maker.now.list.now from coded.now }
     ensures coded { let m = P.matter maker.now.shown.now in
         let end = coded.now.batch.end in
         IfOk result.0 (IsCodedBatch maker.now.production.now m maker.now.list.now end) }
-    ensures added { let row = row_of maker.now.production.now (P.matter maker.now.shown.now) in
+    ensures added { let row = file_of_entry maker.now.production.now (P.matter maker.now.shown.now) in
         let rows = map row (slice_range maker.now.list.now from coded.now.batch.end) in
-        Adds rows (F.shows folder.old) manifest.old.items result.1
+        AddsListed rows (F.shows folder.old) manifest.old.items result.1
         (F.shows folder.new) manifest.new.items }
 {
     let end = coded.batch.end;
@@ -192,21 +192,22 @@ pub(crate) fn add_beside<P: Shows + Sync, R: Threads + Sync, F: Folder, G: Gate 
         requires { IsSync R.row × IsSync P.row × IsSync G.row
             × (P.production maker.now.shown.now ≡ maker.now.production.now)
             × (end < length maker.now.list.now)
-            × All (CanBeMade maker.now.production.now (P.matter maker.now.shown.now))
+            × All (EntryCanBeMade maker.now.production.now (P.matter maker.now.shown.now))
             maker.now.list.now }
         ensures { IfOk result (IsCodedBatch maker.entry.now.production.now
             (P.matter maker.entry.now.shown.now) maker.entry.now.list.now end) }
     { coded_batch(maker, alloc, end) };
     let mut add = || -> Result<(), FolderRefusal>
         requires { (P.production maker.now.shown.now ≡ maker.now.production.now)
-            × All (CanBeMade maker.now.production.now (P.matter maker.now.shown.now))
+            × All (EntryCanBeMade maker.now.production.now (P.matter maker.now.shown.now))
             maker.now.list.now
             × IsCodedBatch maker.now.production.now (P.matter maker.now.shown.now)
             maker.now.list.now from coded.now }
         ensures { let m = P.matter maker.entry.now.shown.now in
             let list = maker.entry.now.list.now in
             let piece = slice_range list from coded.entry.now.batch.end in
-            Adds (map (row_of maker.entry.now.production.now m) piece) (F.shows folder.entry.now)
+            AddsListed (map (file_of_entry maker.entry.now.production.now m) piece)
+            (F.shows folder.entry.now)
             manifest.entry.now.items result (F.shows folder.exit.now) manifest.exit.now.items }
     { add_batch(maker, alloc, from, coded, folder, manifest) };
     join_mut(maker.rt, &mut code, &mut add)

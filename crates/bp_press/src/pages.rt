@@ -2,7 +2,7 @@
 ghost use Rattle.std.specs.Prelude.{◌≡◌, IfOk};
 ghost use Rattle.bp_press.specs.Contents.{stamps_on};
 ghost use Rattle.bp_press.specs.Shown.{CanBeCoded, image_lent};
-ghost use Rattle.bp_t6.specs.Written.{strip_of};
+ghost use Rattle.bp_t6.specs.Written.{bits_strip};
 ghost use Rattle.bp_tiff.specs.Tiff.{tiff_of};
 
 use crate::covered::CoveredImage;
@@ -39,7 +39,7 @@ pub(crate) fn image_file(
     strip: &[u8],
 ) -> Result<Bytes, OutOfMemory>
     requires can { CanBeCoded image }
-    requires strip { strip.now ≡ strip_of (image_lent image) }
+    requires strip { strip.now ≡ bits_strip (image_lent image) }
     ensures { IfOk result (λ bytes. bytes ≡ tiff_of Form.G4 (image_lent image.entry)) }
 {
     strip_size();

@@ -4,14 +4,14 @@ ghost use Rattle.std.specs.Result.{OnOk, IfErr};
 ghost use Rattle.bp_matter.specs.Matter.{Matter};
 ghost use Rattle.bp_outside.specs.Folder.{after_refusal, file};
 ghost use Rattle.bp_freeze.specs.Agree.{Agree};
-ghost use Rattle.bp_freeze.specs.Keeping.{Keeps};
+ghost use Rattle.bp_freeze.specs.Keeping.{KeepsProduction};
 ghost use Rattle.bp_press.specs.Needs.{CanBePressed};
 ghost use Rattle.bp_press.specs.Paths.{manifest_path};
 ghost use Rattle.bp_press.specs.Pressed.{folder_refusal_of, pressed_of};
 ghost use Rattle.bp_press.specs.ReadBack.{IsReadBack};
 ghost use Rattle.bp_press.specs.Volume.{volume_of};
-ghost use Rattle.bp_press.specs.VolumeFiles.{CanBeMade, row_of};
-ghost use Rattle.bp_press.specs.Writing.{Adds, AddsAll, AddsPart, LeavesCut, with_files};
+ghost use Rattle.bp_press.specs.VolumeFiles.{EntryCanBeMade, file_of_entry};
+ghost use Rattle.bp_press.specs.Writing.{AddsListed, AddsAll, AddsPart, LeavesCut, with_files};
 
 use crate::covered::Covered;
 use crate::gate::Gate;
@@ -73,10 +73,10 @@ fn add_listed<P: Shows + Sync, R: Threads + Sync, F: Folder, G: Gate + Sync>(
     requires same { P.production maker.now.shown.now ≡ maker.now.production.now }
     requires some { 0 < length maker.now.list.now }
     requires made { let m = P.matter maker.now.shown.now in
-        All (CanBeMade maker.now.production.now m) maker.now.list.now }
+        All (EntryCanBeMade maker.now.production.now m) maker.now.list.now }
     ensures { let m = P.matter maker.now.shown.now in
-        let rows = map (row_of maker.now.production.now m) maker.now.list.now in
-        Adds rows (F.shows folder.old) manifest.old.items result
+        let rows = map (file_of_entry maker.now.production.now m) maker.now.list.now in
+        AddsListed rows (F.shows folder.old) manifest.old.items result
         (F.shows folder.new) manifest.new.items }
 {
     let mut from = 0;
@@ -165,7 +165,7 @@ pub fn press<R: Threads + Sync, F: Folder, G: Gate + Sync>(
     folder: &mut F,
     gate: &G,
 ) -> Result<Pressed, PressRefusal>
-    requires { Keeps tables.now.matter production.now }
+    requires { KeepsProduction tables.now.matter production.now }
     ensures told { let files = volume_of production.now tables.now.matter in
         IfOk result (λ pressed. pressed ≡ pressed_of files) }
     ensures files { let files = volume_of production.now tables.now.matter in
@@ -175,12 +175,12 @@ pub fn press<R: Threads + Sync, F: Folder, G: Gate + Sync>(
         AddsPart (after_refusal (F.shows folder.old) (folder_refusal_of refusal)) files
         (F.shows folder.new)) }
     ensures alike { (other : Matter)
-        → Keeps other production.now
+        → KeepsProduction other production.now
         → Agree production.now tables.now.matter other
         → OnOk result
         (F.shows folder.new ≡ with_files (F.shows folder.old) (volume_of production.now other)) }
     ensures told_alike { (other : Matter)
-        → Keeps other production.now
+        → KeepsProduction other production.now
         → Agree production.now tables.now.matter other
         → IfOk result (λ pressed. pressed ≡ pressed_of (volume_of production.now other)) }
     ensures read_back { IsReadBack production.now tables.now.matter }

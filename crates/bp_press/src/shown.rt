@@ -6,7 +6,7 @@ ghost use Rattle.bp_matter.specs.Matter.{Matter};
 ghost use Rattle.bp_matter.specs.declared.rows.Production.{Production as Whole};
 ghost use Rattle.bp_freeze.specs.Seeing.{page_count};
 ghost use Rattle.bp_press.specs.Contents.{ground_of, value_shown};
-ghost use Rattle.bp_press.specs.Jobs.{IsCodable, page_of};
+ghost use Rattle.bp_press.specs.Jobs.{IsCodable, page_of_job};
 ghost use Rattle.bp_press.specs.Shown.{CanBeCoded, IsOwnJob, image_lent, shown_words, value_lent, words_left};
 
 use crate::covered::{CoveredImage, CoveredJobs, KeptWords, ShownValue};
@@ -50,7 +50,7 @@ pub(crate) trait Shows {
     fn image<'j>(&'j self, job: &'j Job) -> CoveredImage<'j>
         requires own { IsOwnJob (production self.now) job.now }
         requires codable { IsCodable (matter self.now) job.now }
-        ensures is { image_lent result ≡ page_of (matter self.now) job.now }
+        ensures is { image_lent result ≡ page_of_job (matter self.now) job.now }
         ensures can { CanBeCoded result };
 
     // The images of jobs of the production, as `image` lends each.

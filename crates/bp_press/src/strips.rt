@@ -1,6 +1,6 @@
 // The strips of images, made on threads.
 ghost use Rattle.std.specs.Prelude.{◌≡◌, ◌<◌, ◌≤◌, ℕ, All, IfOk, OnOk, Ok, length, map, slice_index_or};
-ghost use Rattle.bp_t6.specs.Written.{strip_of};
+ghost use Rattle.bp_t6.specs.Written.{bits_strip};
 ghost use Rattle.bp_press.specs.Jobs.{IsCodable, strip_by};
 ghost use Rattle.bp_press.specs.Shown.{CanBeCoded, CanBeCovered, image_lent, page_lent};
 ghost use Rattle.bp_press.specs.declared.jobs.Job.{Job};
@@ -101,7 +101,7 @@ fn all_strips(
 // The strip of an image that is lent.
 pub(crate) fn image_strip(alloc: Global, image: CoveredImage<'_>) -> Result<Bytes, OutOfMemory>
     requires { CanBeCoded image }
-    ensures { IfOk result (λ strip. strip ≡ strip_of (image_lent image.entry)) }
+    ensures { IfOk result (λ strip. strip ≡ bits_strip (image_lent image.entry)) }
 {
     match image {
         CoveredImage::Page(page) => page_strip(alloc, page),
@@ -117,7 +117,7 @@ pub(crate) fn image_strip(alloc: Global, image: CoveredImage<'_>) -> Result<Byte
 // that reading and covering them takes is taken before, by the width alone.
 fn page_strip(alloc: Global, page: CoveredPage<'_>) -> Result<Bytes, OutOfMemory>
     requires { CanBeCovered page }
-    ensures { IfOk result (λ strip. strip ≡ strip_of (page_lent page.entry)) }
+    ensures { IfOk result (λ strip. strip ≡ bits_strip (page_lent page.entry)) }
 {
     let frame = page.frame();
     let room = OutRoom::take(alloc, frame.width)?;

@@ -11,7 +11,7 @@ use Rattle.bp_core.specs.Rules.{bare_rule}
 use Rattle.bp_core.specs.declared.rules.RuleKind.{RuleKind}
 use Rattle.bp_core.specs.declared.rules.RuleKind.TheVariants.{TermRefused}
 use Rattle.bp_matter.specs.Confirming.{boxes_on, confirm_rule, held_on, is_entered}
-use Rattle.bp_matter.specs.Fields.{editor_of}
+use Rattle.bp_matter.specs.Fields.{editor_number}
 use Rattle.bp_matter.specs.LookUps.{call_with, doc_with, field_with, of_row, page_with, staff_with}
 use Rattle.bp_matter.specs.Matter.{Matter}
 use Rattle.bp_matter.specs.Texts.{is_designation}
@@ -36,7 +36,7 @@ use Rattle.bp_matter.specs.declared.rows.StaffRow.{StaffRow}
 use Rattle.bp_matter.specs.declared.rows.State.TheVariants.{First}
 use Rattle.bp_freeze.specs.Freezing.{freeze_of, kept_production}
 use Rattle.bp_freeze.specs.Keeping.{after_freeze}
-use Rattle.bp_looks.specs.Finding.{find_from, pages_of}
+use Rattle.bp_looks.specs.Finding.{find_from, page_count_of}
 use Rattle.bp_looks.specs.Refusing as looks
 use Rattle.bp_looks.specs.States.{see_states, states_of}
 use Rattle.bp_looks.specs.Terms.{are_terms}
@@ -44,7 +44,7 @@ use Rattle.bp_looks.specs.Values.{see_values, values_if}
 use Rattle.bp_rules.specs.Calling.{box_with, confirmed_by, edited, held_with, next_staff, with_box, with_call, with_entry, with_held, with_staff, without_box, without_call, without_held}
 use Rattle.bp_rules.specs.Refusing.{has_marks, is_box, is_called_redact, is_staff_name, on_doc, on_page}
 use Rattle.bp_rules.specs.Roles.{may}
-use Rattle.bp_rules.specs.Stepping.{Stepped, answered, confirm, confirm_unless, drop_box, free_field, freeze, get_production, hold_field, is_member, put_box, put_entry, set_call, staff_by, step_by, step_for, step_of}
+use Rattle.bp_rules.specs.Stepping.{Stepped, quiet_answer, confirm, confirm_unless, drop_box, free_field, freeze, get_production, hold_field, is_member, put_box, put_entry, set_call, staff_by, step_by, step_for, step_of}
 use Rattle.bp_receiver.specs.Contents.{CallStays}
 use Rattle.bp_receiver.specs.Outlines.{doc_outline, outline_of, page_outline}
 use Rattle.bp_receiver.proofs.OutlineLemmas.{doc-found, freeze-outline, page-found, relaid, with_those_of}
@@ -201,7 +201,7 @@ confirm-follows : (m : Matter) (caller : StaffNo) (doc : ℕ) (found : Option Ca
 confirm-follows m caller doc None = broken m _
 confirm-follows m caller doc (Some row) =
     confirm-unless-follows m caller row
-    (confirm_rule row (editor_of row.state) (boxes_on doc m.boxes) (held_on doc m.held)
+    (confirm_rule row (editor_number row.state) (boxes_on doc m.boxes) (held_on doc m.held)
     (is_entered doc m.entries) caller.0)
 
 -- where the id is kept nothing changes, and else a production comes
@@ -237,49 +237,49 @@ get-production-follows m (Some f) = tells m _ _
 
 -- an answer that changes nothing
 answered-follows : {A : Type 0} (m : Matter) (reply : A → Reply) (b : Bool) (x y : A) (rule : Rule)
-    → Follows m (answered m reply (if b then Ok x else Err rule))
-    (answered (outline_of m) reply (if b then Ok y else Err rule))
+    → Follows m (quiet_answer m reply (if b then Ok x else Err rule))
+    (quiet_answer (outline_of m) reply (if b then Ok y else Err rule))
 answered-follows m reply true x y rule = tells m _ _
 answered-follows m reply false x y rule = broken m rule
 
 -- the same, where the rule comes first
 refused-or-follows : {A : Type 0} (m : Matter) (reply : A → Reply) (b : Bool) (x y : A) (rule : Rule)
-    → Follows m (answered m reply (if b then Err rule else Ok x))
-    (answered (outline_of m) reply (if b then Err rule else Ok y))
+    → Follows m (quiet_answer m reply (if b then Err rule else Ok x))
+    (quiet_answer (outline_of m) reply (if b then Err rule else Ok y))
 refused-or-follows m reply true x y rule = broken m rule
 refused-or-follows m reply false x y rule = tells m _ _
 
 states-follow : (m : Matter) (from : ℕ)
-    → Follows m (answered m replies.States (see_states m from))
-    (answered (outline_of m) replies.States (see_states (outline_of m) from))
+    → Follows m (quiet_answer m replies.States (see_states m from))
+    (quiet_answer (outline_of m) replies.States (see_states (outline_of m) from))
 states-follow m from =
     let o = outline_of m in
-    subst (λ (count : ℕ). Follows m (answered m replies.States (see_states m from))
-    (answered o replies.States
+    subst (λ (count : ℕ). Follows m (quiet_answer m replies.States (see_states m from))
+    (quiet_answer o replies.States
     (if names count from then Ok (states_of o from) else Err (looks.no_document from))))
     (sym (length-map m.docs doc_outline))
     (answered-follows m replies.States (names (length m.docs) from) (states_of m from)
     (states_of o from) (looks.no_document from))
 
 values-if-follow : (m : Matter) (doc : ℕ) (found : Option DocRow)
-    → Follows m (answered m replies.Values (values_if m doc found))
-    (answered (outline_of m) replies.Values (values_if (outline_of m) doc (of_row doc_outline found)))
+    → Follows m (quiet_answer m replies.Values (values_if m doc found))
+    (quiet_answer (outline_of m) replies.Values (values_if (outline_of m) doc (of_row doc_outline found)))
 values-if-follow m doc None = broken m _
 values-if-follow m doc (Some row) = tells m _ _
 
 values-follow : (m : Matter) (doc : ℕ)
-    → Follows m (answered m replies.Values (see_values m doc))
-    (answered (outline_of m) replies.Values (see_values (outline_of m) doc))
+    → Follows m (quiet_answer m replies.Values (see_values m doc))
+    (quiet_answer (outline_of m) replies.Values (see_values (outline_of m) doc))
 values-follow m doc =
     let o = outline_of m in
-    subst (λ (found : Option DocRow). Follows m (answered m replies.Values (see_values m doc))
-    (answered o replies.Values (values_if o doc found)))
+    subst (λ (found : Option DocRow). Follows m (quiet_answer m replies.Values (see_values m doc))
+    (quiet_answer o replies.Values (values_if o doc found)))
     (sym (doc-found doc m)) (values-if-follow m doc (doc_with doc m))
 
 found-follows : (m : Matter) (terms : List (List ℕ)) (from page : ℕ) (found : Option DocRow)
     → Follows m
-    (answered m replies.Found (find_from m terms from page (of_row (λ row. row.pages) found)))
-    (answered (outline_of m) replies.Found (find_from (outline_of m) terms from page
+    (quiet_answer m replies.Found (find_from m terms from page (of_row (λ row. row.pages) found)))
+    (quiet_answer (outline_of m) replies.Found (find_from (outline_of m) terms from page
     (of_row (λ row. row.pages) (of_row doc_outline found))))
 found-follows m terms from page None = broken m _
 found-follows m terms from page (Some row) =
@@ -287,28 +287,28 @@ found-follows m terms from page (Some row) =
 
 asked-follows : (m : Matter) (terms : List (List ℕ)) (from page : ℕ) (b : Bool)
     → Follows m
-    (answered m replies.Found (if b then Err (bare_rule TermRefused)
-    else find_from m terms from page (pages_of m from)))
-    (answered (outline_of m) replies.Found (if b then Err (bare_rule TermRefused)
-    else find_from (outline_of m) terms from page (pages_of (outline_of m) from)))
+    (quiet_answer m replies.Found (if b then Err (bare_rule TermRefused)
+    else find_from m terms from page (page_count_of m from)))
+    (quiet_answer (outline_of m) replies.Found (if b then Err (bare_rule TermRefused)
+    else find_from (outline_of m) terms from page (page_count_of (outline_of m) from)))
 asked-follows m terms from page true = broken m _
 asked-follows m terms from page false =
     let o = outline_of m in
     subst (λ (found : Option DocRow). Follows m
-    (answered m replies.Found (find_from m terms from page (pages_of m from)))
-    (answered o replies.Found (find_from o terms from page (of_row (λ row. row.pages) found))))
+    (quiet_answer m replies.Found (find_from m terms from page (page_count_of m from)))
+    (quiet_answer o replies.Found (find_from o terms from page (of_row (λ row. row.pages) found))))
     (sym (doc-found from m)) (found-follows m terms from page (doc_with from m))
 
 planned-follows : (m : Matter) (answer other : Result Production Rule)
     → answer ≡ other
-    → Follows m (answered m replies.Produced answer)
-    (answered (outline_of m) replies.Produced other)
+    → Follows m (quiet_answer m replies.Produced answer)
+    (quiet_answer (outline_of m) replies.Produced other)
 planned-follows m (Ok f) other same =
-    subst (λ (o : Result Production Rule). Follows m (answered m replies.Produced (Ok f))
-    (answered (outline_of m) replies.Produced o)) same (tells m _ _)
+    subst (λ (o : Result Production Rule). Follows m (quiet_answer m replies.Produced (Ok f))
+    (quiet_answer (outline_of m) replies.Produced o)) same (tells m _ _)
 planned-follows m (Err rule) other same =
-    subst (λ (o : Result Production Rule). Follows m (answered m replies.Produced (Err rule))
-    (answered (outline_of m) replies.Produced o)) same (broken m rule)
+    subst (λ (o : Result Production Rule). Follows m (quiet_answer m replies.Produced (Err rule))
+    (quiet_answer (outline_of m) replies.Produced o)) same (broken m rule)
 
 -- ---- each call
 

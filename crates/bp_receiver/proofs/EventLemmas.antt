@@ -22,7 +22,7 @@ use Rattle.bp_rules.specs.Refusing.{refused}
 use Rattle.bp_rules.specs.Roles.{may}
 use Rattle.bp_rules.specs.Stepping.{Stepped, step_by, step_for, step_of}
 use Rattle.bp_receiver.specs.Contents.{CallStays}
-use Rattle.bp_receiver.specs.Events.{Holding, event_of, key_of, run_of, to_grant, to_review}
+use Rattle.bp_receiver.specs.Events.{Holding, event_of, key_of, event_run, to_grant, to_review}
 use Rattle.bp_receiver.specs.Granting.{grant_by, grant_for, grant_of, granted_more, grants_full, is_receiver_row}
 use Rattle.bp_receiver.specs.Laws.{EventsLaw}
 use Rattle.bp_receiver.specs.Outlines.{SameOutline, outline_of}
@@ -105,12 +105,12 @@ event-alike h k (events.Want key wanted) alike = alike
 
 run-alike : (h k : Holding) (list : List Event)
     → AreAlike h k
-    → AreAlike (run_of h list) (run_of k list)
+    → AreAlike (event_run h list) (event_run k list)
 run-alike h k [] alike = alike
 run-alike h k (event ∷ more) alike =
     run-alike (event_of h event).after (event_of k event).after more (event-alike h k event alike)
 
-run-behind : (h : Holding) (xs ys : List Event) → run_of h (xs ++ ys) ≡ run_of (run_of h xs) ys
+run-behind : (h : Holding) (xs ys : List Event) → event_run h (xs ++ ys) ≡ event_run (event_run h xs) ys
 run-behind h [] ys = refl
 run-behind h (x ∷ xs) ys = run-behind (event_of h x).after xs ys
 
@@ -208,10 +208,10 @@ desk-then h k l r s =
       grants = record { still = λ x id granted. s.grants.still x id (r.grants.still x id granted) };
     }
 
-run-stays : (h : Holding) (list : List Event) → DeskStays h (run_of h list)
+run-stays : (h : Holding) (list : List Event) → DeskStays h (event_run h list)
 run-stays h [] = desk-itself h
 run-stays h (event ∷ more) =
-    desk-then h (event_of h event).after (run_of h (event ∷ more)) (event-stays h event)
+    desk-then h (event_of h event).after (event_run h (event ∷ more)) (event-stays h event)
     (run-stays (event_of h event).after more)
 
 -- ---- what a receiver asks
@@ -351,19 +351,19 @@ events-alike m n grants list same =
     let h : Holding = over m grants in
     let k : Holding = over n grants in
     let alike : AreAlike h k = record { matters = same; grants = refl } in
-    let whole : AreAlike (run_of h list) (run_of k list) = run-alike h k list alike in
+    let whole : AreAlike (event_run h list) (event_run k list) = run-alike h k list alike in
     record {
       grants_alike = whole.grants;
       matters_alike = whole.matters;
       answers_alike = λ s first more event parts all is.
-          let a : Holding = run_of h first in
-          let b : Holding = run_of k first in
-          let parted : run_of h list ≡ run_of a (event ∷ more) =
-          ap (run_of h) parts ∙ run-behind h first (event ∷ more) in
-          let rest : DeskStays a (run_of h list) =
+          let a : Holding = event_run h first in
+          let b : Holding = event_run k first in
+          let parted : event_run h list ≡ event_run a (event ∷ more) =
+          ap (event_run h) parts ∙ run-behind h first (event ∷ more) in
+          let rest : DeskStays a (event_run h list) =
           subst (λ (l : Holding). DeskStays a l) (sym parted) (run-stays a (event ∷ more)) in
           let agree = λ (f : Production) (g : Grants a s f).
-          all f (granted-on a (run_of h list) s f rest g) in
+          all f (granted-on a (event_run h list) s f rest g) in
           given-alike a b s m n event (run-alike h k first alike) (run-stays h first).matter
           (run-stays k first).matter agree is;
     }

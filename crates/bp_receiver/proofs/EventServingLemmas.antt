@@ -30,11 +30,11 @@ use Rattle.bp_receiver.specs.Delivered.TextOfNoEvent.{fault, no_memory, no_read,
 use Rattle.bp_receiver.specs.Delivering.{EventGives, EventLacked, EventMade, KeeperFailed}
 use Rattle.bp_receiver.specs.EventReplies.{event_text}
 use Rattle.bp_receiver.specs.EventRequests.{EventReadAlike, EventReads, IsWholeEvent}
-use Rattle.bp_receiver.specs.EventServing.{AnswersEvent, Delivers, DeliversDoor, DeskView, EventDeals, KeepsOn, MayCommit, ReadsEvent, commits_at, desk_view, is_made, text_for, told-itself}
+use Rattle.bp_receiver.specs.EventServing.{AnswersEvent, Delivers, DeliversDoor, EventDesk, EventDeals, KeepsOn, MayCommit, ReadsEvent, commits_at, desk_view, is_made, text_for, told-itself}
 use Rattle.bp_receiver.specs.EventServing.EventDeals.{made_none, made_one}
 use Rattle.bp_receiver.specs.EventServing.MayCommit.{at_call, no_call}
 use Rattle.bp_receiver.specs.EventServing.MayCommitIn.{no_exchange, one_more}
-use Rattle.bp_receiver.specs.Events.{AltersBehind, AltersDesk, Evented, Holding, event_of, run_of, to_grant}
+use Rattle.bp_receiver.specs.Events.{AltersBehind, AltersDesk, Evented, Holding, event_of, event_run, to_grant}
 use Rattle.bp_receiver.specs.Granting.{grant_by}
 use Rattle.bp_receiver.specs.declared.events.Event.{Event}
 use Rattle.bp_receiver.specs.declared.events.Event.TheVariants as events
@@ -43,7 +43,7 @@ use Rattle.bp_receiver.specs.declared.grants.Grant.{Grant}
 
 -- ---- the keeper
 
-keeps-itself : (most : ℕ) (d : DeskView) → KeepsOn most d d
+keeps-itself : (most : ℕ) (d : EventDesk) → KeepsOn most d d
 keeps-itself most d = record {
   kept = λ rows. rows;
   told = told-itself d.keeper.rows;
@@ -63,7 +63,7 @@ told-twice first then None before after = tt
 told-twice first None (Some rows) before after = absurd (false≢true after)
 told-twice first (Some now) (Some rows) before after = before
 
-keeps-twice : (m n most : ℕ) (a b c : DeskView)
+keeps-twice : (m n most : ℕ) (a b c : EventDesk)
     → m + n ≤ most
     → KeepsOn m a b
     → KeepsOn n b c
@@ -325,7 +325,7 @@ was-refused bytes why other reads =
     reads (λ same. let memory : why ≡ refusals.OutOfMemory = cc in other memory)
 
 -- the bytes are no request
-pub refusal-answers : (d : DeskView) (why : WebRefusal) (text : List ℕ)
+pub refusal-answers : (d : EventDesk) (why : WebRefusal) (text : List ℕ)
     → IsRefusalText why text
     → AnswersEvent d (Err why) text false d
 refusal-answers d why text (inl t) x reads read s =
@@ -335,7 +335,7 @@ refusal-answers d why text (inr t) x reads read s =
     (omega arith) no_call (keeps-itself 0 d)
 
 -- the same of what was read, told otherwise
-pub answers-as : (before after : DeskView) (asked read : Result Event WebRefusal) (text : List ℕ)
+pub answers-as : (before after : EventDesk) (asked read : Result Event WebRefusal) (text : List ℕ)
     (told : Bool)
     → asked ≡ read
     → AnswersEvent before read text told after
@@ -344,7 +344,7 @@ answers-as before after asked read text told is deals =
     subst (λ (r : Result Event WebRefusal). AnswersEvent before r text told after) (sym is) deals
 
 -- the bytes were read so
-pub bytes-answered : (before after : DeskView) (bytes text : List ℕ)
+pub bytes-answered : (before after : EventDesk) (bytes text : List ℕ)
     (asked : Result Event WebRefusal) (told : Bool)
     → ReadsEvent bytes asked
     → AnswersEvent before asked text told after
@@ -369,7 +369,7 @@ tells bytes false needs alike nothing =
 -- ---- exchanges in turn
 
 -- none came
-none-delivered : (d : DeskView) → Delivers d [] 0 d
+none-delivered : (d : EventDesk) → Delivers d [] 0 d
 none-delivered d = record {
   events = [];
   faults = 0;
@@ -423,7 +423,7 @@ alters-later h k first events event is a =
       before = first ∷ a.before;
       behind = a.behind;
       all = ap (λ (l : List Event). first ∷ l) a.all;
-      alters = subst (λ (l : Holding). AltersDesk (run_of l a.before) event) is a.alters;
+      alters = subst (λ (l : Holding). AltersDesk (event_run l a.before) event) is a.alters;
     }
 
 -- an exchange that made an event asked for it
@@ -440,7 +440,7 @@ may-commit x (events.Grant key staff id) asks = no_call
 may-commit x (events.Want key wanted) asks = no_call
 
 -- an exchange came, and others after it
-one-delivered : (a b c : DeskView) (x : Exchange) (told : Bool) (others : List Exchange) (count : ℕ)
+one-delivered : (a b c : EventDesk) (x : Exchange) (told : Bool) (others : List Exchange) (count : ℕ)
     → x.hung_up ≡ true
     → EventDeals a x told b
     → Delivers b others count c
@@ -457,7 +457,7 @@ one-delivered a b c x told others count h (made_one event text after run t s kee
       faults = rest.faults;
       commits = commits_at event + rest.commits;
       counted = omega (arith, counts);
-      run = rest.run ∙ ap (λ (l : Holding). run_of l rest.events) run;
+      run = rest.run ∙ ap (λ (l : Holding). event_run l rest.events) run;
       delivered = made (event_turn a.holding event) _ rest.faults x others text h t s
           (subst P run same);
       rose = subst (λ n. RoseBy n a.keeper.faults c.keeper.faults) (zero-add rest.faults)
@@ -476,7 +476,7 @@ one-delivered a b c x told others count h (made_none faults most text after run 
       faults = faults + rest.faults;
       commits = most + rest.commits;
       counted = omega (arith, counts);
-      run = rest.run ∙ ap (λ (l : Holding). run_of l rest.events) run;
+      run = rest.run ∙ ap (λ (l : Holding). event_run l rest.events) run;
       delivered = unmade (event_turns a.holding rest.events) faults rest.faults x others text h
           (text-by (AltersDesk a.holding) (AltersBehind a.holding rest.events) x text faults
           (alters-now a.holding rest.events) t) s
@@ -490,7 +490,7 @@ one-delivered a b c x told others count h (made_none faults most text after run 
     }
 
 -- all that came
-turns-delivered : {W : Type 0} (shown : W → DeskView) (v w : W) (xs : List Exchange) (count : ℕ)
+turns-delivered : {W : Type 0} (shown : W → EventDesk) (v w : W) (xs : List Exchange) (count : ℕ)
     → InTurn (λ a x told b. EventDeals (shown a) x told (shown b)) v xs count w
     → Delivers (shown v) xs count (shown w)
 turns-delivered shown v w xs count (nobody_came u) = none-delivered (shown u)
@@ -500,7 +500,7 @@ turns-delivered shown v w xs count (next a b c x told others left h deals rest) 
 
 -- ---- a door served
 
-pub door-delivered : {W : Type 0} (shown : W → DeskView) (connections count : ℕ) (v w : W)
+pub door-delivered : {W : Type 0} (shown : W → EventDesk) (connections count : ℕ) (v w : W)
     (door door' : DoorView)
     → ServesDoor (λ a x told b. EventDeals (shown a) x told (shown b)) connections v door count w door'
     → DeliversDoor connections (shown v) door count (shown w) door'

@@ -37,14 +37,14 @@ use Rattle.bp_matter.specs.declared.rows.ProductionRow.{ProductionRow}
 use Rattle.bp_matter.specs.declared.rows.Request.{Request}
 use Rattle.bp_matter.specs.declared.rows.StaffRow.{StaffRow}
 use Rattle.bp_matter.specs.declared.rows.State.TheVariants.{Confirmed}
-use Rattle.bp_freeze.specs.Agree.{Agree, ItemAgrees, PageAgrees, ValueAgrees, field_number, held_for}
+use Rattle.bp_freeze.specs.Agree.{Agree, ItemAgrees, PageAgrees, ValueAgrees, field_number, held_of_number}
 use Rattle.bp_freeze.specs.Freezing.{freeze_of}
-use Rattle.bp_freeze.specs.Keeping.{frozen_matter, Keeps}
+use Rattle.bp_freeze.specs.Keeping.{frozen_matter, KeepsProduction}
 use Rattle.bp_press.specs.Volume.{files_of, volume_of}
 use Rattle.bp_rules.specs.Refusing.{refused}
 use Rattle.bp_rules.specs.Stepping.{step_of}
 use Rattle.bp_receiver.specs.Delivered.{EventTurn, event_turns}
-use Rattle.bp_receiver.specs.Events.{answers_of, event_of, run_of}
+use Rattle.bp_receiver.specs.Events.{event_answers, event_of, event_run}
 use Rattle.bp_receiver.specs.Granting.{grant_by, grants_full}
 use Rattle.bp_receiver.specs.Outlines.{SameOutline}
 use Rattle.bp_receiver.specs.Receiving.{receive}
@@ -249,7 +249,7 @@ value_agrees : (k : ℕ) (d : List ℕ)
     → ValueAgrees smith jones redacted (get_or asked.fields k d)
 value_agrees zero d l field is free =
     let one : 1 ≡ field = of_some 1 field is in
-    none_held held (subst (λ f. held_for (held ∷ []) f ≡ None) (sym one) free)
+    none_held held (subst (λ f. held_of_number (held ∷ []) f ≡ None) (sym one) free)
 value_agrees (suc k) d l field is free = absurd (omega arith)
 
 number_agrees : (k : ℕ) (d : List ℕ)
@@ -409,7 +409,7 @@ one_row : (b : Bool) (f g : Production)
 one_row true f g e = cc
 one_row false f g e = absurd cc
 
-only_q : (f : Production) → Keeps kept_smith f → frozen ≡ f
+only_q : (f : Production) → KeepsProduction kept_smith f → frozen ≡ f
 only_q f kept = one_row (bytes_eq (codes "Q") f.request.id) frozen f kept
 
 they_are_twins : Twins granted 3 kept_smith kept_jones
@@ -439,7 +439,7 @@ listed_events =
     ∷ events.Want (key 3) wants.List
     ∷ []
 
-listed_answers : answers_of (over jones []) listed_events
+listed_answers : event_answers (over jones []) listed_events
     ≡ (Ok (gives.Ids [])
     ∷ Ok (gives.Review (replies.Produced frozen))
     ∷ Ok (gives.Ids [])
@@ -451,7 +451,7 @@ listed_answers = refl
 
 -- the same as turns at a door
 listed_turns : map (λ (turn : EventTurn). turn.answer) (event_turns (over jones []) listed_events)
-    ≡ answers_of (over jones []) listed_events
+    ≡ event_answers (over jones []) listed_events
 listed_turns = refl
 
 -- ---- two matters with one outline, whose withheld document has one page in both; the digests of their
@@ -465,7 +465,7 @@ one_outline = refl
 
 -- so every list of events grants the same in both
 same_grants : (list : List Event)
-    → (run_of (over smith []) list).grants ≡ (run_of (over jones_again []) list).grants
+    → (event_run (over smith []) list).grants ≡ (event_run (over jones_again []) list).grants
 same_grants list = (events-alike smith jones_again [] list one_outline).grants_alike
 
 -- ---- limits

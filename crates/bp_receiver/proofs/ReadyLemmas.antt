@@ -8,7 +8,7 @@ use Rattle.bp_matter.specs.declared.calls.Call.{Call}
 use Rattle.bp_matter.specs.declared.calls.Reply.{Reply}
 use Rattle.bp_matter.specs.declared.rows.Production.{Production}
 use Rattle.bp_freeze.specs.Freezing.{kept_production}
-use Rattle.bp_freeze.specs.Keeping.{Keeps}
+use Rattle.bp_freeze.specs.Keeping.{KeepsProduction}
 use Rattle.bp_freeze.proofs.KeptLemmas.{kept-id}
 use Rattle.bp_outside.specs.declared.files.FileRow.{FileRow}
 use Rattle.bp_press.specs.Answering.{file_answer}
@@ -53,7 +53,7 @@ given-stays : (m n : Matter) (id path bytes : List ℕ) (kept : Option Productio
 given-stays m n id path bytes None is stays given = absurd cc
 given-stays m n id path bytes (Some f) is stays given =
     let same : f.request.id ≡ id = kept-id m.productions id f is in
-    let keeps : Keeps m f = subst (λ (i : List ℕ). kept_production m.productions i ≡ Some f) (sym same) is in
+    let keeps : KeepsProduction m f = subst (λ (i : List ℕ). kept_production m.productions i ≡ Some f) (sym same) is in
     let still : kept_production n.productions id ≡ Some f =
     subst (λ (i : List ℕ). kept_production n.productions i ≡ Some f) same (stays.productions f keeps) in
     ap (file_given n path) still ∙ kept-given m n path bytes f stays given

@@ -17,7 +17,7 @@ use Rattle.bp_web.specs.declared.refusals.WebRefusal.TheVariants as refusals
 use Rattle.bp_receiver.specs.DeskRoutes.{desk_route_of}
 use Rattle.bp_receiver.specs.EventBodies.{event_at, said_at}
 use Rattle.bp_receiver.specs.EventReplies.{event_text, list_data}
-use Rattle.bp_receiver.specs.EventRequests.{asked_of, asking_of, event_request_of}
+use Rattle.bp_receiver.specs.EventRequests.{event_asked, event_asking_of, event_request_of}
 use Rattle.bp_receiver.specs.declared.events.Event.TheVariants as events
 use Rattle.bp_receiver.specs.declared.events.Given.TheVariants as gives
 use Rattle.bp_receiver.specs.declared.events.Wanted.TheVariants as wants
@@ -103,13 +103,13 @@ head_of method target = record {
 
 whole_list : event_request_of (head_of get (codes "/granted")) []
     ≡ Ok (events.Want key wants.List)
-unfolding asking_of asked_of httparse_on_literals
+unfolding event_asking_of event_asked httparse_on_literals
 whole_list = refl
 
 -- a grant has a body, and its length is to be said
 no_length : event_request_of (head_of post (codes "/grants")) []
     ≡ Err refusals.BodyRefused
-unfolding asking_of asked_of httparse_on_literals
+unfolding event_asking_of event_asked httparse_on_literals
 no_length = refl
 
 -- ---- replies

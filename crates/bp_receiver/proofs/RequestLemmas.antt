@@ -9,7 +9,7 @@ use Rattle.httparse.specs.declared.spans.RequestSpans.{RequestSpans}
 use Rattle.httparse.specs.Grammar.{ReadsRequest, RequestHead, print_request}
 use Rattle.httparse.specs.Spans.{IsRequestWithin, header_bytes, span_bytes}
 use Rattle.sha2.specs.Sha256.{sha256}
-use Rattle.bp_web.specs.Heads.{BeginsWith, BeginsWithNone, Field, NeverBegins, after_head, fields_of, start_of, value_of}
+use Rattle.bp_web.specs.Heads.{BeginsWith, BeginsWithNone, Field, NeverBegins, after_head, head_fields, start_of, value_of}
 use Rattle.bp_web.specs.Requests.{HttpReads, IsWhole, ReadAlike, asking_of as call_asking_of, crowded, headless, of_head, of_none, whole, ◌>>=◌}
 use Rattle.bp_web.specs.declared.heads.TheConstants.{HEAD_LIMIT}
 use Rattle.bp_web.specs.declared.refusals.WebRefusal.{WebRefusal}
@@ -19,7 +19,7 @@ use Rattle.bp_web.specs.declared.requests.TheConstants.{MAX_BODY, MAX_REQUEST}
 use Rattle.bp_web.proofs.RequestLemmas.{Found, after_same, begins_more, begins_there, crowded_none, head_fits, one_head, reads_once, small_given}
 use Rattle.bp_receiver.specs.DeskRoutes.{desk_route_of, has_body}
 use Rattle.bp_receiver.specs.EventBodies.{event_at, said_at}
-use Rattle.bp_receiver.specs.EventRequests.{EventReadAlike, EventReads, IsWholeEvent, OwnWhole, ReadsOwn, as_review, asked_of, asking_at, asking_of, body_length, crowded as crowded_event, event_request_of, headless as headless_event, is_no_route, of_call, of_desk, wanted_by, whole as whole_event}
+use Rattle.bp_receiver.specs.EventRequests.{EventReadAlike, EventReads, IsWholeEvent, OwnWhole, ReadsOwn, as_review, event_asked, event_asking_at, event_asking_of, event_body_length, crowded as crowded_event, event_request_of, headless as headless_event, is_no_route, of_call, of_desk, event_wanted_by, whole as whole_event}
 use Rattle.bp_receiver.specs.declared.events.Event.{Event}
 use Rattle.bp_receiver.specs.declared.events.Event.TheVariants as events
 use Rattle.bp_receiver.specs.declared.requests.Asking.{Asking}
@@ -46,11 +46,11 @@ reads-one bytes a b (of_desk http h begins is) (of_desk http' k begins' is') =
 
 asking-same : (bytes start : List ℕ) (room : List HeaderSpan) (spans : RequestSpans)
     (f : Found bytes start room spans)
-    → asking_at
+    → event_asking_at
     (desk_route_of (span_bytes start spans.method) (span_bytes start spans.path))
     (map (header_bytes start) (take spans.headers room))
-    ≡ asking_of f.has.head
-unfolding asking_of
+    ≡ event_asking_of f.has.head
+unfolding event_asking_of
 asking-same bytes start room spans f =
     let at = f.has.at in
     rw (at.method, at.path, at.fields) refl
@@ -60,12 +60,12 @@ pub asking-found : (bytes start : List ℕ) (room : List HeaderSpan) (spans : Re
     → method ≡ span_bytes start spans.method
     → target ≡ span_bytes start spans.path
     → route ≡ desk_route_of method target
-    → asking_at route (map (header_bytes start) (take spans.headers room)) ≡ asking_of f.has.head
+    → event_asking_at route (map (header_bytes start) (take spans.headers room)) ≡ event_asking_of f.has.head
 asking-found bytes start room spans f method target route m t is =
     let at : route ≡ desk_route_of (span_bytes start spans.method) (span_bytes start spans.path) =
     is ∙ ap (λ x. desk_route_of x target) m
     ∙ ap (desk_route_of (span_bytes start spans.method)) t in
-    ap (λ x. asking_at x (map (header_bytes start) (take spans.headers room))) at
+    ap (λ x. event_asking_at x (map (header_bytes start) (take spans.headers room))) at
     ∙ asking-same bytes start room spans f
 
 -- what is read of the head that was found is read of each head that begins the bytes
@@ -79,25 +79,25 @@ of-any bytes start room spans f r is head begins =
 
 pub own-refused : (bytes start : List ℕ) (room : List HeaderSpan) (spans : RequestSpans)
     (f : Found bytes start room spans) (e : WebRefusal)
-    → asking_of f.has.head ≡ Err e
+    → event_asking_of f.has.head ≡ Err e
     → ReadsOwn bytes (Err e)
 own-refused bytes start room spans f e is =
     let head = f.has.head in
     let asks : Err e ≡ event_request_of head (after_head head bytes) =
-    sym (ap (λ r. r >>= (λ a. asked_of a head.target (after_head head bytes))) is) in
+    sym (ap (λ r. r >>= (λ a. event_asked a head.target (after_head head bytes))) is) in
     of-any bytes start room spans f (Err e) asks
 
 pub own-asked : (bytes start : List ℕ) (room : List HeaderSpan) (spans : RequestSpans)
     (f : Found bytes start room spans) (a : Asking) (r : Result Event WebRefusal)
-    → asking_of f.has.head ≡ Ok a
-    → r ≡ asked_of a (span_bytes start spans.path) (drop spans.len bytes)
+    → event_asking_of f.has.head ≡ Ok a
+    → r ≡ event_asked a (span_bytes start spans.path) (drop spans.len bytes)
     → ReadsOwn bytes r
 own-asked bytes start room spans f a r is same =
     let head = f.has.head in
     let asks : r ≡ event_request_of head (after_head head bytes) =
-    same ∙ ap (λ t. asked_of a t (drop spans.len bytes)) f.has.at.path
-    ∙ ap (asked_of a head.target) (after_same bytes start room spans f)
-    ∙ sym (ap (λ r. r >>= (λ a. asked_of a head.target (after_head head bytes))) is) in
+    same ∙ ap (λ t. event_asked a t (drop spans.len bytes)) f.has.at.path
+    ∙ ap (event_asked a head.target) (after_same bytes start room spans f)
+    ∙ sym (ap (λ r. r >>= (λ a. event_asked a head.target (after_head head bytes))) is) in
     of-any bytes start room spans f r asks
 
 -- no head is there
@@ -185,8 +185,8 @@ reads-desk bytes read e told r is http tells own reads =
 
 pub asked-short : (a : Asking) (target after : List ℕ)
     → length after < a.length
-    → Err refusals.BodyRefused ≡ asked_of a target after
-unfolding asked_of
+    → Err refusals.BodyRefused ≡ event_asked a target after
+unfolding event_asked
 asked-short a target after short =
     let fails : nat_le a.length (length after) ≡ false = lt-leb _ _ short in
     simp fails refl
@@ -195,8 +195,8 @@ pub asked-found : (a : Asking) (target after : List ℕ) (found : Option Event)
     → a.length ≤ length after
     → found ≡ option_and_then (event_at a.route a.key target)
     (said_at a.route (take a.length after))
-    → ok_or found refusals.BodyRefused ≡ asked_of a target after
-unfolding asked_of
+    → ok_or found refusals.BodyRefused ≡ event_asked a target after
+unfolding event_asked
 asked-found a target after found long is =
     let fits : nat_le a.length (length after) ≡ true = le-leb _ _ long in
     simp fits (ap (λ (x : Option Event). ok_or x refusals.BodyRefused) is)
@@ -205,17 +205,17 @@ asked-found a target after found long is =
 
 pub own-told : (bytes start : List ℕ) (room : List HeaderSpan) (spans : RequestSpans)
     (f : Found bytes start room spans) (wanted : ℕ) (after : List ℕ) (told : Bool)
-    → wanted ≡ wanted_by (asking_of f.has.head)
+    → wanted ≡ event_wanted_by (event_asking_of f.has.head)
     → after ≡ drop spans.len bytes
     → told ≡ nat_le wanted (length after)
     → (head : RequestHead)
     → BeginsWith (start_of bytes) head
-    → told ≡ nat_le (wanted_by (asking_of head)) (length (after_head head bytes))
+    → told ≡ nat_le (event_wanted_by (event_asking_of head)) (length (after_head head bytes))
 own-told bytes start room spans f wanted after told w a is head begins =
     is ∙ ap (λ n. nat_le n (length after)) w
-    ∙ ap (λ (l : List ℕ). nat_le (wanted_by (asking_of f.has.head)) (length l))
+    ∙ ap (λ (l : List ℕ). nat_le (event_wanted_by (event_asking_of f.has.head)) (length l))
     (a ∙ after_same bytes start room spans f)
-    ∙ ap (λ h. nat_le (wanted_by (asking_of h)) (length (after_head h bytes)))
+    ∙ ap (λ h. nat_le (event_wanted_by (event_asking_of h)) (length (after_head h bytes)))
     (one_head (start_of bytes) f.has.head head (begins_there bytes start room spans f) begins)
 
 pub own-there : (bytes start : List ℕ) (room : List HeaderSpan) (spans : RequestSpans)
@@ -227,13 +227,13 @@ own-there bytes start room spans f told none =
 
 -- what is to come after a head is no longer than a body may be
 small-wanted-at : (found : Option DeskRoute) (fields : List Field)
-    → wanted_by (asking_at found fields) ≤ MAX_BODY
+    → event_wanted_by (event_asking_at found fields) ≤ MAX_BODY
 small-wanted-at None fields = omega arith
 small-wanted-at (Some route) fields = by_value (value_of (codes "desk-key") fields)
   where
     by_length : (value : List ℕ) (n : Result ℕ WebRefusal)
         → ((count : ℕ) → n ≡ Ok count → count ≤ MAX_BODY)
-        → wanted_by (n >>= (λ count. Ok (record {
+        → event_wanted_by (n >>= (λ count. Ok (record {
           route = route;
           key = sha256 value;
           length = count;
@@ -241,7 +241,7 @@ small-wanted-at (Some route) fields = by_value (value_of (codes "desk-key") fiel
     by_length value (Ok n) small = small n refl
     by_length value (Err e) small = omega arith
 
-    small_body : (count : ℕ) → body_length route fields ≡ Ok count → count ≤ MAX_BODY
+    small_body : (count : ℕ) → event_body_length route fields ≡ Ok count → count ≤ MAX_BODY
     small_body count is =
         elim (cases_Bool (has_body route)) [
           | inl has ↦ small_given fields count (simp has at is)
@@ -251,22 +251,22 @@ small-wanted-at (Some route) fields = by_value (value_of (codes "desk-key") fiel
         ]
 
     by_value : (found : Option (List ℕ))
-        → wanted_by (ok_or found refusals.KeyMissing >>= (λ value. body_length route fields
+        → event_wanted_by (ok_or found refusals.KeyMissing >>= (λ value. event_body_length route fields
         >>= (λ count. Ok (record { route = route; key = sha256 value; length = count }))))
         ≤ MAX_BODY
     by_value None = omega arith
-    by_value (Some value) = by_length value (body_length route fields) small_body
+    by_value (Some value) = by_length value (event_body_length route fields) small_body
 
-small-wanted : (head : RequestHead) → wanted_by (asking_of head) ≤ MAX_BODY
-unfolding asking_of
-small-wanted head = small-wanted-at (desk_route_of head.method head.target) (fields_of head)
+small-wanted : (head : RequestHead) → event_wanted_by (event_asking_of head) ≤ MAX_BODY
+unfolding event_asking_of
+small-wanted head = small-wanted-at (desk_route_of head.method head.target) (head_fields head)
 
 -- no more can be wanted than fits in what came
 pub own-most : (bytes start : List ℕ) (room : List HeaderSpan) (spans : RequestSpans) (wanted : ℕ)
     (after : List ℕ) (told : Bool) (head : RequestHead)
     → start ≡ start_of bytes
     → IsRequestWithin start room spans
-    → wanted ≡ wanted_by (asking_of head)
+    → wanted ≡ event_wanted_by (event_asking_of head)
     → after ≡ drop spans.len bytes
     → told ≡ nat_le wanted (length after)
     → MAX_REQUEST ≤ length bytes
@@ -303,7 +303,7 @@ own-nothing bytes start same none = record {
 
 pub call-whole : (bytes : List ℕ) → IsWholeEvent bytes → IsWhole bytes
 call-whole bytes (whole_event head begins fits) =
-    whole head begins (omega (arith, fits, call-wanted (call_asking_of head) (asking_of head)))
+    whole head begins (omega (arith, fits, call-wanted (call_asking_of head) (event_asking_of head)))
 call-whole bytes (headless_event none long) = headless none long
 call-whole bytes (crowded_event head rest reads many) = crowded head rest reads many
 
@@ -332,8 +332,8 @@ own-never bytes told own never =
 -- a body that is whole is read as before
 asked-more : (a : Asking) (target after more : List ℕ)
     → a.length ≤ length after
-    → asked_of a target (after ++ more) ≡ asked_of a target after
-unfolding asked_of
+    → event_asked a target (after ++ more) ≡ event_asked a target after
+unfolding event_asked
 asked-more a target after more fits =
     let long : nat_le a.length (length after) ≡ true = le-leb _ _ fits in
     let longer : nat_le a.length (length (after ++ more)) ≡ true =
@@ -341,20 +341,20 @@ asked-more a target after more fits =
     rw (long, longer, take-append-le a.length after more fits) refl
 
 request-more : (head : RequestHead) (after more : List ℕ)
-    → wanted_by (asking_of head) ≤ length after
+    → event_wanted_by (event_asking_of head) ≤ length after
     → event_request_of head (after ++ more) ≡ event_request_of head after
-request-more head after more fits = by_asking (asking_of head) fits
+request-more head after more fits = by_asking (event_asking_of head) fits
   where
     by_asking : (r : Result Asking WebRefusal)
-        → wanted_by r ≤ length after
-        → (r >>= (λ a. asked_of a head.target (after ++ more)))
-        ≡ (r >>= (λ a. asked_of a head.target after))
+        → event_wanted_by r ≤ length after
+        → (r >>= (λ a. event_asked a head.target (after ++ more)))
+        ≡ (r >>= (λ a. event_asked a head.target after))
     by_asking (Ok a) fits = asked-more a head.target after more fits
     by_asking (Err e) fits = refl
 
 answer-more : (bytes more : List ℕ) (head : RequestHead)
     → BeginsWith (start_of bytes) head
-    → wanted_by (asking_of head) ≤ length (after_head head bytes)
+    → event_wanted_by (event_asking_of head) ≤ length (after_head head bytes)
     → event_request_of head (after_head head (bytes ++ more))
     ≡ event_request_of head (after_head head bytes)
 answer-more bytes more head begins fits =
@@ -383,7 +383,7 @@ event-alike bytes more told http own is outcome = (
   where
     fits : (head : RequestHead)
         → BeginsWith (start_of bytes) head
-        → wanted_by (asking_of head) ≤ length (after_head head bytes)
+        → event_wanted_by (event_asking_of head) ≤ length (after_head head bytes)
     fits head begins = leb-true _ _ (sym (own.of_head head begins) ∙ is)
 
     back : HttpReads bytes (Err refusals.NoRoute)

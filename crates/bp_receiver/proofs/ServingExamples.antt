@@ -17,7 +17,7 @@ use Rattle.bp_receiver.specs.Delivered.TextOfNoEvent.{fault, no_memory, no_read,
 use Rattle.bp_receiver.specs.Delivering.{IsReview}
 use Rattle.bp_receiver.specs.EventReplies.{event_text}
 use Rattle.bp_receiver.specs.EventRequests.{EventReads}
-use Rattle.bp_receiver.specs.EventServing.{DeskView, EventDeals, MayCommit, commits_at, is_made, text_for}
+use Rattle.bp_receiver.specs.EventServing.{EventDesk, EventDeals, MayCommit, commits_at, is_made, text_for}
 use Rattle.bp_receiver.specs.EventServing.EventDeals.{made_none, made_one}
 use Rattle.bp_receiver.specs.EventServing.MayCommit.{at_call, no_call}
 use Rattle.bp_receiver.specs.Events.{AltersDesk, Holding, event_of}
@@ -123,7 +123,7 @@ asks_so turn x text (given asks read t) = asks
 asks_so turn x text (not_given asks read t) = asks
 
 -- whatever is answered to a want, the keeper is as it was: its rows, its commits and its faults
-keeper_at_a_want : (before after : DeskView) (x : Exchange) (key : List ℕ) (wanted : Wanted)
+keeper_at_a_want : (before after : EventDesk) (x : Exchange) (key : List ℕ) (wanted : Wanted)
     (told : Bool)
     → AsksFor x (events.Want key wanted)
     → EventDeals before x told after

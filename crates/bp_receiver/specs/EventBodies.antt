@@ -3,7 +3,7 @@
 use Rattle.std.specs.Prelude.{ℕ, List, codes, drop, Option, Some, if◌then◌else◌}
 use Rattle.serde_json.specs.Data.{Data, null}
 use Rattle.bp_core.specs.declared.numbers.StaffNo.{StaffNo}
-use Rattle.bp_web.specs.Calls.{characters_of, name_in, next_part, number}
+use Rattle.bp_web.specs.Calls.{target_characters, name_in, next_part, number}
 use Rattle.bp_web.specs.Members.{◌>>=◌, object_of, text_of}
 use Rattle.bp_receiver.specs.DeskRoutes.{has_body}
 use Rattle.bp_receiver.specs.declared.events.Event.{Event}
@@ -22,7 +22,7 @@ path_bytes target = drop 1 (next_part (next_part target))
 
 -- the path of a target, as it stands there
 abbrev pub path_in : List ℕ → Option (List ℕ)
-path_in target = characters_of (path_bytes target)
+path_in target = target_characters (path_bytes target)
 
 -- a grant, by the members of a body
 abbrev pub grant_asked : List ℕ → Data → Option Event

@@ -3,7 +3,7 @@ use Rattle.std.specs.Prelude.{◌≡◌, ◌≢◌, ◌↔◌, ◌≤◌, ◌<�
 use Rattle.std.specs.Option.{ok_or, option_and_then}
 use Rattle.httparse.specs.Grammar.{ReadsRequest, RequestHead}
 use Rattle.sha2.specs.Sha256.{sha256}
-use Rattle.bp_web.specs.Heads.{BeginsWith, BeginsWithNone, Field, after_head, fields_of, start_of, value_of}
+use Rattle.bp_web.specs.Heads.{BeginsWith, BeginsWithNone, Field, after_head, head_fields, start_of, value_of}
 use Rattle.bp_web.specs.Requests.{HttpReads, ◌>>=◌, asking_of as call_asking_of, demand, given_length, wanted_by as call_wanted_by}
 use Rattle.bp_web.specs.declared.heads.TheConstants.{HEAD_LIMIT, MAX_FIELDS}
 use Rattle.bp_web.specs.declared.refusals.WebRefusal.{WebRefusal}
@@ -21,24 +21,24 @@ use Rattle.bp_receiver.specs.declared.routes.DeskRoute.{DeskRoute}
 -- ---- a request of the desk's own, by the rules and the order of those of calls
 
 -- how many bytes of body belong to it: none to a GET
-abbrev pub body_length : DeskRoute → List Field → Result ℕ WebRefusal
-body_length route fields = if has_body route then given_length fields else Ok 0
+abbrev pub event_body_length : DeskRoute → List Field → Result ℕ WebRefusal
+event_body_length route fields = if has_body route then given_length fields else Ok 0
 
 -- what a head of this route asks for; the key is the SHA-256 of the value
-abbrev pub asking_at : Option DeskRoute → List Field → Result Asking WebRefusal
-asking_at found fields = do
+abbrev pub event_asking_at : Option DeskRoute → List Field → Result Asking WebRefusal
+event_asking_at found fields = do
   route ← ok_or found NoRoute
   value ← ok_or (value_of (codes "desk-key") fields) KeyMissing
-  count ← body_length route fields
+  count ← event_body_length route fields
   Ok (record { route = route; key = sha256 value; length = count })
 
 -- what a head asks for: its route, its key, and how long its body is
-unfoldable pub asking_of : RequestHead → Result Asking WebRefusal
-asking_of head = asking_at (desk_route_of head.method head.target) (fields_of head)
+unfoldable pub event_asking_of : RequestHead → Result Asking WebRefusal
+event_asking_of head = event_asking_at (desk_route_of head.method head.target) (head_fields head)
 
 -- the event, where the body is whole and has the members; what follows it is unread
-unfoldable pub asked_of : Asking → List ℕ → List ℕ → Result Event WebRefusal
-asked_of a target after = do
+unfoldable pub event_asked : Asking → List ℕ → List ℕ → Result Event WebRefusal
+event_asked a target after = do
   _ ← demand (nat_le a.length (length after)) BodyRefused
   let said = said_at a.route (take a.length after)
   ok_or (option_and_then (event_at a.route a.key target) said) BodyRefused
@@ -46,8 +46,8 @@ asked_of a target after = do
 -- what a head and what follows it ask of the desk
 abbrev pub event_request_of : RequestHead → List ℕ → Result Event WebRefusal
 event_request_of head after = do
-  a ← asking_of head
-  asked_of a head.target after
+  a ← event_asking_of head
+  event_asked a head.target after
 
 -- ---- any request
 
@@ -75,20 +75,20 @@ EventReadAlike a b =
     (outcome : Result Event WebRefusal) → EventReads a outcome ↔ EventReads b outcome
 
 -- how many bytes of body are to come after a head: none where its request is refused before
-abbrev pub wanted_by : Result Asking WebRefusal → ℕ
-wanted_by (Ok a) = a.length
-wanted_by (Err refusal) = 0
+abbrev pub event_wanted_by : Result Asking WebRefusal → ℕ
+event_wanted_by (Ok a) = a.length
+event_wanted_by (Err refusal) = 0
 
 -- of a call's request, or of one of the desk's own
 abbrev pub wanted_of : Result CallAsking WebRefusal → Result Asking WebRefusal → ℕ
-wanted_of (Err NoRoute) own = wanted_by own
+wanted_of (Err NoRoute) own = event_wanted_by own
 wanted_of asking own = call_wanted_by asking
 
 -- the bytes hold a whole request, or as many as a head may have and no head, or a head of more fields
 -- than it may have
 pub data IsWholeEvent (bytes : List ℕ) : Type 0 where
   whole : (head : RequestHead) → BeginsWith (start_of bytes) head
-      → wanted_of (call_asking_of head) (asking_of head) ≤ length (after_head head bytes)
+      → wanted_of (call_asking_of head) (event_asking_of head) ≤ length (after_head head bytes)
       → IsWholeEvent bytes
   headless : BeginsWithNone (start_of bytes) → HEAD_LIMIT ≤ length bytes → IsWholeEvent bytes
   crowded : (head : RequestHead) (rest : List ℕ) → ReadsRequest (start_of bytes) head rest
@@ -111,6 +111,6 @@ is_no_route _ = false
 -- what is told of the body of a request of the desk's own: that it is whole, or that no head is there
 pub record OwnWhole (bytes : List ℕ) (told : Bool) : Type 0 where
   pub of_head : (head : RequestHead) → BeginsWith (start_of bytes) head
-      → told ≡ nat_le (wanted_by (asking_of head)) (length (after_head head bytes))
+      → told ≡ nat_le (event_wanted_by (event_asking_of head)) (length (after_head head bytes))
   pub of_none : BeginsWithNone (start_of bytes) → told ≡ true
   pub of_most : MAX_REQUEST ≤ length bytes → told ≡ true

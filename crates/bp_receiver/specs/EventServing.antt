@@ -24,7 +24,7 @@ use Rattle.bp_receiver.specs.Delivered.TextOfNoEvent.{no_memory, no_read}
 use Rattle.bp_receiver.specs.Delivering.{IsReview}
 use Rattle.bp_receiver.specs.EventReplies.{given_message}
 use Rattle.bp_receiver.specs.EventRequests.{EventReads}
-use Rattle.bp_receiver.specs.Events.{AltersBehind, AltersDesk, Holding, event_of, run_of}
+use Rattle.bp_receiver.specs.Events.{AltersBehind, AltersDesk, Holding, event_of, event_run}
 use Rattle.bp_receiver.specs.declared.events.Event.{Event}
 use Rattle.bp_receiver.specs.declared.events.Event.TheVariants as events
 use Rattle.bp_receiver.specs.declared.events.Given.{Given}
@@ -32,19 +32,19 @@ use Rattle.bp_receiver.specs.declared.events.Given.{Given}
 -- ---- what is known
 
 -- what the desk holds, and what its keeper shows
-pub record DeskView : Type 0 where
+pub record EventDesk : Type 0 where
   pub holding : Holding
   pub keeper : KeeperView
 
 -- both, as contracts see them
-abbrev pub desk_view : Holding → KeeperView → DeskView
+abbrev pub desk_view : Holding → KeeperView → EventDesk
 desk_view h keeper = record { holding = h; keeper = keeper }
 
 -- A keeper that kept the matter before keeps the matter after, and tells rows only where it told them
 -- before; it wasn't asked to load, was asked to commit so often at most, is as sure as it was, and
 -- its count of faults didn't fall. Where it may never be asked to commit, nothing was asked of it: rows
 -- and counts are as they were.
-pub record KeepsOn (most : ℕ) (before after : DeskView) : Type 0 where
+pub record KeepsOn (most : ℕ) (before after : EventDesk) : Type 0 where
   pub kept : KeepsRows before.keeper before.holding.matter
       → KeepsRows after.keeper after.holding.matter
   pub told : IfSome after.keeper.rows (λ _. IsTrue (is_some before.keeper.rows))
@@ -87,13 +87,13 @@ pub data MayCommitIn : ℕ → List Exchange → Type 0 where
 -- ---- an exchange
 
 -- what an exchange did: it made one event, or none
-pub data EventDeals (before : DeskView) (x : Exchange) : Bool → DeskView → Type 0 where
-  made_one : (event : Event) (text : List ℕ) (after : DeskView)
+pub data EventDeals (before : EventDesk) (x : Exchange) : Bool → EventDesk → Type 0 where
+  made_one : (event : Event) (text : List ℕ) (after : EventDesk)
       → after.holding ≡ (event_of before.holding event).after
       → TextOfEvent (event_turn before.holding event) x text → Sent x text
       → KeepsOn (commits_at event) before after
       → EventDeals before x true after
-  made_none : (faults most : ℕ) (text : List ℕ) (after : DeskView)
+  made_none : (faults most : ℕ) (text : List ℕ) (after : EventDesk)
       → after.holding ≡ before.holding
       → TextOfNoEvent (AltersDesk before.holding) x text faults → Sent x text
       → RoseBy faults before.keeper.faults after.keeper.faults
@@ -101,7 +101,7 @@ pub data EventDeals (before : DeskView) (x : Exchange) : Bool → DeskView → T
       → EventDeals before x false after
 
 -- a desk at which nothing was made
-pub keeps-all : (d : DeskView) → KeepsOn 0 d d
+pub keeps-all : (d : EventDesk) → KeepsOn 0 d d
 keeps-all d = record {
   kept = λ rows. rows;
   told = told-itself d.keeper.rows;
@@ -113,7 +113,7 @@ keeps-all d = record {
 }
 
 -- an exchange that came to no answer leaves all
-pub cut-off : (d : DeskView) (x : Exchange) → WasCut TellsEvent x → EventDeals d x false d
+pub cut-off : (d : EventDesk) (x : Exchange) → WasCut TellsEvent x → EventDeals d x false d
 cut-off d x (cut_room needed s) =
     let all = keeps-all d in
     made_none 0 0 memory_text d refl (no_memory needed refl) s all.faults no_call all
@@ -143,7 +143,7 @@ is_made (Err stops.OutOfMemory) = false
 
 -- an answer to what was read of bytes deals so in every exchange that read them whole and was sent
 -- the text
-abbrev pub AnswersEvent : DeskView → Result Event WebRefusal → List ℕ → Bool → DeskView → Type 0
+abbrev pub AnswersEvent : EventDesk → Result Event WebRefusal → List ℕ → Bool → EventDesk → Type 0
 AnswersEvent before read text made after =
     (x : Exchange) → ReadsEvent x.read read → WasReadEvent x → Sent x text
     → EventDeals before x made after
@@ -155,13 +155,13 @@ AnswersEvent before read text made after =
 -- the events make of it. The keeper was asked to commit once at most in each exchange that asks for a
 -- call, and in no other. What each exchange did is said of the very desk before it and after it: so at
 -- a want nothing was asked of the keeper, and where it is told to have failed its count rose there.
-pub record Delivers (before : DeskView) (exchanges : List Exchange) (count : ℕ) (after : DeskView)
+pub record Delivers (before : EventDesk) (exchanges : List Exchange) (count : ℕ) (after : EventDesk)
     : Type 0 where
   pub events : List Event
   pub faults : ℕ
   pub commits : ℕ
   pub counted : count ≡ length events
-  pub run : after.holding ≡ run_of before.holding events
+  pub run : after.holding ≡ event_run before.holding events
   pub delivered : Delivered (AltersBehind before.holding events)
       (event_turns before.holding events) faults exchanges
   pub rose : RoseBy faults before.keeper.faults after.keeper.faults
@@ -171,8 +171,8 @@ pub record Delivers (before : DeskView) (exchanges : List Exchange) (count : ℕ
 
 -- A door was served for so many connections: so many accepts were tried, or the last of fewer found
 -- it closed; and this is what its new exchanges came to.
-pub record DeliversDoor (connections : ℕ) (before : DeskView) (door : DoorView) (count : ℕ)
-    (after : DeskView) (door' : DoorView) : Type 0 where
+pub record DeliversDoor (connections : ℕ) (before : EventDesk) (door : DoorView) (count : ℕ)
+    (after : EventDesk) (door' : DoorView) : Type 0 where
   pub tried : ℕ
   pub exchanges : List Exchange
   pub told : door'.exchanges ≡ option_map (λ old. old ++ exchanges) door.exchanges

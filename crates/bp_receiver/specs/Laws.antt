@@ -1,7 +1,7 @@
 -- The laws of the receiver's desk.
 use Rattle.std.specs.Prelude.{◌≡◌, ℕ, List, ◌∷◌, ◌++◌}
 use Rattle.bp_matter.specs.Matter.{Matter}
-use Rattle.bp_receiver.specs.Events.{event_of, key_of, run_of}
+use Rattle.bp_receiver.specs.Events.{event_of, key_of, event_run}
 use Rattle.bp_receiver.specs.Outlines.{SameOutline}
 use Rattle.bp_receiver.specs.Receiving.{receive}
 use Rattle.bp_receiver.specs.Twins.{AllAgree, IsReceiver, Twins, over}
@@ -20,18 +20,20 @@ WantLaw =
 -- an event of a receiver, after others, is answered alike in both
 abbrev pub AnsweredAlike : Matter → Matter → List Grant → ℕ → List Event → Event → Type 0
 AnsweredAlike m n grants s first event =
-    let a = run_of (over m grants) first in
-    let b = run_of (over n grants) first in
+    let a = event_run (over m grants) first in
+    let b = event_run (over n grants) first in
     IsReceiver a.matter (key_of event) s → (event_of a event).given ≡ (event_of b event).given
 
 -- what a list of events does in two matters with one outline
 pub record RunsAlike (m n : Matter) (grants : List Grant) (events : List Event) : Type 0 where
-  pub grants_alike : (run_of (over m grants) events).grants ≡ (run_of (over n grants) events).grants
+  pub grants_alike : (event_run (over m grants) events).grants
+      ≡ (event_run (over n grants) events).grants
   pub matters_alike :
-      SameOutline (run_of (over m grants) events).matter (run_of (over n grants) events).matter
+      SameOutline (event_run (over m grants) events).matter
+      (event_run (over n grants) events).matter
   pub answers_alike : (s : ℕ) (first more : List Event) (event : Event)
       → events ≡ first ++ event ∷ more
-      → AllAgree (run_of (over m grants) events) s m n
+      → AllAgree (event_run (over m grants) events) s m n
       → AnsweredAlike m n grants s first event
 
 -- two matters with one outline: a list of events does the same in both, as far as receivers see

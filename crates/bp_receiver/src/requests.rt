@@ -6,7 +6,7 @@ ghost use Rattle.bp_web.specs.Heads.{NeverBegins, start_of};
 ghost use Rattle.bp_web.specs.declared.refusals.WebRefusal.{WebRefusal};
 ghost use Rattle.bp_web.specs.declared.refusals.WebRefusal.TheVariants as refusals;
 ghost use Rattle.bp_receiver.specs.EventBodies.{event_at as event_spec, file_asked, grant_asked, said_at};
-ghost use Rattle.bp_receiver.specs.EventRequests.{EventReadAlike, EventReads, IsWholeEvent, OwnWhole, ReadsOwn, asked_of, asking_at, body_length, is_no_route, wanted_by};
+ghost use Rattle.bp_receiver.specs.EventRequests.{EventReadAlike, EventReads, IsWholeEvent, OwnWhole, ReadsOwn, event_asked, event_asking_at, event_body_length, is_no_route, event_wanted_by};
 ghost use Rattle.bp_receiver.specs.declared.events.Event.{Event};
 
 use crate::events::{Event, Wanted};
@@ -149,7 +149,7 @@ fn asking_in(
     fields: &[HeaderSpan],
 ) -> Result<Asking, WebRefusal>
     requires { All (IsHeaderWithin (length start.now)) fields.now }
-    ensures { result ≡ asking_at route (map (header_bytes start.now) fields.now) }
+    ensures { result ≡ event_asking_at route (map (header_bytes start.now) fields.now) }
 {
     let Some(route) = route else {
         return Err(WebRefusal::NoRoute);
@@ -167,7 +167,8 @@ fn asking_in(
 // How many bytes of body are to come after a head.
 fn wanted_in(route: Option<DeskRoute>, start: &[u8], fields: &[HeaderSpan]) -> usize
     requires { All (IsHeaderWithin (length start.now)) fields.now }
-    ensures { result ≡ wanted_by (asking_at route (map (header_bytes start.now) fields.now)) }
+    ensures { result
+        ≡ event_wanted_by (event_asking_at route (map (header_bytes start.now) fields.now)) }
 {
     match asking_in(route, start, fields) {
         Ok(asking) => asking.length,
@@ -178,7 +179,7 @@ fn wanted_in(route: Option<DeskRoute>, start: &[u8], fields: &[HeaderSpan]) -> u
 // How many bytes of body belong to a request.
 fn body_len(route: DeskRoute, start: &[u8], fields: &[HeaderSpan]) -> Result<usize, WebRefusal>
     requires { All (IsHeaderWithin (length start.now)) fields.now }
-    ensures { result ≡ body_length route (map (header_bytes start.now) fields.now) }
+    ensures { result ≡ event_body_length route (map (header_bytes start.now) fields.now) }
 {
     if !route.has_body() {
         return Ok(0);
@@ -188,7 +189,7 @@ fn body_len(route: DeskRoute, start: &[u8], fields: &[HeaderSpan]) -> Result<usi
 
 // The event, where the body is whole and has the members.
 fn asked_in(alloc: Global, asking: Asking, target: &[u8], after: &[u8]) -> Result<Event, WebRefusal>
-    ensures { result ≢ Err refusals.OutOfMemory → result ≡ asked_of asking target.now after.now }
+    ensures { result ≢ Err refusals.OutOfMemory → result ≡ event_asked asking target.now after.now }
 {
     if after.len() < asking.length {
         return Err(WebRefusal::BodyRefused);

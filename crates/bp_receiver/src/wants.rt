@@ -1,7 +1,7 @@
 // What a receiver is given.
 ghost use Rattle.std.specs.Prelude.{◌≡◌, ◌++◌, ◌∷◌, [], IfOk, OnOk};
 ghost use Rattle.bp_core.specs.Answers.{Answers};
-ghost use Rattle.bp_freeze.specs.Keeping.{Keeps};
+ghost use Rattle.bp_freeze.specs.Keeping.{KeepsProduction};
 ghost use Rattle.bp_matter.specs.Matter.{Matter};
 ghost use Rattle.bp_press.specs.Shown.{matter_behind, production_shown};
 ghost use Rattle.bp_receiver.specs.Owed.{CanBeGiven, IsFileOf, IsOwedBy, owed_file, owed_given, row_seen, rows_left};
@@ -79,7 +79,7 @@ fn file_given(
 
 // The same, made anew.
 fn file_made(alloc: Global, file: OwedFile<'_>) -> Result<Bytes, Refusal>
-    requires { Keeps (matter_behind file.shown) (production_shown file.shown) }
+    requires { KeepsProduction (matter_behind file.shown) (production_shown file.shown) }
     ensures { Answers (λ bytes. Given.File bytes) result (owed_file file.entry) }
 {
     file_of(alloc, &file.shown, file.path)

@@ -3,7 +3,7 @@ use Rattle.std.proofs.Common.{ℕ, ◌≡◌, ◌+◌, ◌-◌, Bool, true, fals
 use Rattle.std.proofs.lemmas.Bool.Decides.{nat_tests}
 use Rattle.bp_core.specs.declared.rectangle.Rect.{Rect}
 use Rattle.bp_rows.specs.Image.{Image, IsPage}
-use Rattle.bp_rows.specs.Burned.{burned, covers, row_part}
+use Rattle.bp_rows.specs.Burned.{burned, covers_pixel, row_part}
 use Rattle.bp_rows.proofs.BurnedLemmas.{burned-nil, burned-burned, burned-covers}
 
 -- the first rows of a box
@@ -32,10 +32,10 @@ spread false false false true = refl
 spread false false false false = refl
 
 -- one more row
-covers_more : (box : Rect) (i r c : ℕ) → (covers (row_part (box.top + i) box.left (box.left + box.width) ∷ []) r c || covers (first_rows box i ∷ []) r c) ≡ covers (first_rows box (i + 1) ∷ []) r c
+covers_more : (box : Rect) (i r c : ℕ) → (covers_pixel (row_part (box.top + i) box.left (box.left + box.width) ∷ []) r c || covers_pixel (first_rows box i ∷ []) r c) ≡ covers_pixel (first_rows box (i + 1) ∷ []) r c
 covers_more box i r c =
     let wide : box.left + (box.left + box.width - box.left) ≡ box.left + box.width = omega arith in
-    ap (λ e. ((((nat_le (box.top + i) r && nat_lt r (box.top + i + 1)) && nat_le box.left c) && nat_lt c e) || false) || covers (first_rows box i ∷ []) r c) wide
+    ap (λ e. ((((nat_le (box.top + i) r && nat_lt r (box.top + i + 1)) && nat_le box.left c) && nat_lt c e) || false) || covers_pixel (first_rows box i ∷ []) r c) wide
     ∙ spread (nat_le (box.top + i) r && nat_lt r (box.top + i + 1)) (nat_le box.top r && nat_lt r (box.top + i)) (nat_le box.left c) (nat_lt c (box.left + box.width))
     ∙ ap (λ x. ((x && nat_le box.left c) && nat_lt c (box.left + box.width)) || false) (rows_join box.top i r)
 
@@ -47,7 +47,7 @@ one_more_row p box i =
 no_row : (t r : ℕ) → (nat_le t r && nat_lt r (t + 0)) ≡ false
 no_row t r = grind (arith, nat_tests)
 
-none_covered : (box : Rect) (r c : ℕ) → covers (first_rows box 0 ∷ []) r c ≡ false
+none_covered : (box : Rect) (r c : ℕ) → covers_pixel (first_rows box 0 ∷ []) r c ≡ false
 none_covered box r c = ap (λ x. ((x && nat_le box.left c) && nat_lt c (box.left + box.width)) || false) (no_row box.top r)
 
 pub no_rows : (p : Image) (box : Rect) → IsPage p → p ≡ burned p (first_rows box 0 ∷ [])

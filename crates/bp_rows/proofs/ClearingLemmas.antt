@@ -7,7 +7,7 @@ use Rattle.std.proofs.lemmas.List.{length-set, get_or-set_same, get_or-set_other
 use Rattle.std.proofs.lemmas.List.{take-append-le, take_all}
 use Rattle.bp_rows.specs.declared.resolution.Res.{Res}
 use Rattle.bp_rows.specs.declared.resolution.Unit.{Unit as LengthUnit}
-use Rattle.bp_rows.specs.Bits.{row_bytes, black_at, place, rows_in, image_in, AreBytes}
+use Rattle.bp_rows.specs.Bits.{row_bytes, black_at, place, rows_in_bytes, image_in, AreBytes}
 use Rattle.bp_rows.proofs.GridLemmas.{cell-grid_of, grid_of_is_grid, same_grids}
 use Rattle.bp_rows.proofs.ByteLemmas.{black_at-set_same, black_at-set_other}
 use Rattle.bp_rows.proofs.PackedLemmas.{rows_apart}
@@ -120,16 +120,16 @@ cleared_more w rows old bytes room some before =
 
 -- ---- the rows that are held stay
 
-pub same_rows : (w h : ℕ) (old new : List ℕ) → ((r c : ℕ) → r < h → c < w → black_at new (place w r c) ≡ black_at old (place w r c)) → rows_in w h new ≡ rows_in w h old
+pub same_rows : (w h : ℕ) (old new : List ℕ) → ((r c : ℕ) → r < h → c < w → black_at new (place w r c) ≡ black_at old (place w r c)) → rows_in_bytes w h new ≡ rows_in_bytes w h old
 same_rows w h old new same =
-    same_grids w h (rows_in w h new) (rows_in w h old) (grid_of_is_grid w h _) (grid_of_is_grid w h _)
+    same_grids w h (rows_in_bytes w h new) (rows_in_bytes w h old) (grid_of_is_grid w h _) (grid_of_is_grid w h _)
     (λ r c down across. cell-grid_of w h (λ r c. black_at new (place w r c)) r c down across ∙ same r c down across
     ∙ sym (cell-grid_of w h (λ r c. black_at old (place w r c)) r c down across))
 
 pub written_back : (n : ℕ) (new old : List ℕ) → length new ≡ n → take n (new ++ drop (length new) old) ≡ new
 written_back n new old long = take-append-le n new (drop (length new) old) (omega arith) ∙ take_all n new (omega arith)
 
-pub same_image : (w h : ℕ) (x y : Res) (u : LengthUnit) (old new : List ℕ) → rows_in w h new ≡ rows_in w h old → image_in w h x y u new ≡ image_in w h x y u old
+pub same_image : (w h : ℕ) (x y : Res) (u : LengthUnit) (old new : List ℕ) → rows_in_bytes w h new ≡ rows_in_bytes w h old → image_in w h x y u new ≡ image_in w h x y u old
 same_image w h x y u old new same = ap (λ rs. record { width = w; height = h; xres = x; yres = y; unit = u; rows = rs }) same
 
 pub masked_fit : (w r : ℕ) (bytes : List ℕ) → r * row_bytes w + row_bytes w ≤ length bytes → AreBytes bytes → AreBytes (Masked w r bytes)

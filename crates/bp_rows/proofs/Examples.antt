@@ -6,12 +6,12 @@ use Rattle.bp_rows.specs.declared.resolution.Res.{Res}
 use Rattle.bp_rows.specs.declared.resolution.Unit.TheVariants.{Inch}
 use Rattle.bp_rows.specs.Limits.{sides_are_allowed, sides_are_imported}
 use Rattle.bp_rows.specs.Image.{Image, pixel, with_pixel, with_row, white_image}
-use Rattle.bp_rows.specs.Bits.{black_at, rows_in}
+use Rattle.bp_rows.specs.Bits.{black_at, rows_in_bytes}
 use Rattle.bp_rows.specs.Burned.{burned, row_part}
 use Rattle.bp_rows.specs.Packed.{packed_rows}
 use Rattle.bp_rows.specs.Changes.{changes_of}
 use Rattle.bp_rows.specs.Runs.{painted_runs, IsRuns}
-use Rattle.bp_rows.specs.Words.{pixels_in, ones_from, last_of}
+use Rattle.bp_rows.specs.Words.{pixels_in_bytes, ones_from, last_of}
 
 -- ---- limits
 
@@ -104,7 +104,7 @@ two_rows = refl
 high_bit_first : black_at (0x01 ∷ 0x80 ∷ []) 8 ≡ true
 high_bit_first = refl
 
-rows_again : rows_in 3 2 (0xC0 ∷ 0x20 ∷ []) ≡ (true ∷ true ∷ false ∷ []) ∷ (false ∷ false ∷ true ∷ []) ∷ []
+rows_again : rows_in_bytes 3 2 (0xC0 ∷ 0x20 ∷ []) ≡ (true ∷ true ∷ false ∷ []) ∷ (false ∷ false ∷ true ∷ []) ∷ []
 rows_again = refl
 
 -- ---- changing elements and runs
@@ -146,7 +146,7 @@ one_row_set = refl
 
 -- ---- words
 
-byte_by_pixels : pixels_in (0x05 ∷ 0x80 ∷ []) ≡ replicate 5 false ++ true ∷ false ∷ true ∷ true ∷ replicate 7 false
+byte_by_pixels : pixels_in_bytes (0x05 ∷ 0x80 ∷ []) ≡ replicate 5 false ++ true ∷ false ∷ true ∷ true ∷ replicate 7 false
 byte_by_pixels = refl
 
 ones_of_a_byte : ones_from 100 8 0x41 ≡ 101 ∷ 107 ∷ []

@@ -6,7 +6,7 @@ use Rattle.std.proofs.lemmas.Nat.{and_mask}
 use Rattle.bp_rows.specs.Bits.{row_bytes}
 use Rattle.bp_rows.specs.Packed.{packed_row}
 use Rattle.bp_rows.specs.Changes.{changes_from, changes_of}
-use Rattle.bp_rows.specs.Words.{is_one, low_pixels, pixels_in, last_of, word_pixels}
+use Rattle.bp_rows.specs.Words.{is_one, low_pixels, pixels_in_bytes, last_of, word_pixels}
 use Rattle.bp_rows.proofs.WordLemmas.{pixels_in-append, length-pixels_in, word_read}
 use Rattle.bp_rows.proofs.EdgeLemmas.{changes_from-append, last_of-append}
 use Rattle.bp_rows.proofs.PixelLemmas.{pixels_in-packed_row}
@@ -28,19 +28,19 @@ lowest before n = ap (λ v. eqb v 1) (and_mask n 1 ∙ one n) ∙ sym (last_word
     one : (n : ℕ) → n % 2 ^ 1 ≡ n / 2 ^ 0 % 2
     one n = omega arith
 
-pub found_more : (row : List ℕ) (at : ℕ) (piece : List ℕ) (places : List ℕ) (before : Bool) (word base : ℕ) → at ≤ length row → base ≡ 8 * at → places ≡ changes_of (pixels_in (take at row)) → before ≡ last_of false (pixels_in (take at row)) → word_pixels word ≡ pixels_in piece → places ++ changes_from base before (word_pixels word) ≡ changes_of (pixels_in (take at row ++ piece))
+pub found_more : (row : List ℕ) (at : ℕ) (piece : List ℕ) (places : List ℕ) (before : Bool) (word base : ℕ) → at ≤ length row → base ≡ 8 * at → places ≡ changes_of (pixels_in_bytes (take at row)) → before ≡ last_of false (pixels_in_bytes (take at row)) → word_pixels word ≡ pixels_in_bytes piece → places ++ changes_from base before (word_pixels word) ≡ changes_of (pixels_in_bytes (take at row ++ piece))
 found_more row at piece places before word base within is found last bits =
-    let size : base ≡ 0 + length (pixels_in (take at row)) = omega (arith, length-pixels_in (take at row), length-take-le at row within) in
-    sym (ap changes_of (pixels_in-append (take at row) piece) ∙ changes_from-append 0 false (pixels_in (take at row)) (pixels_in piece)
-    ∙ ap (λ ps. ps ++ changes_from (0 + length (pixels_in (take at row))) (last_of false (pixels_in (take at row))) (pixels_in piece)) (sym found)
-    ∙ ap (λ n. places ++ changes_from n (last_of false (pixels_in (take at row))) (pixels_in piece)) (sym size)
-    ∙ ap (λ b. places ++ changes_from base b (pixels_in piece)) (sym last)
+    let size : base ≡ 0 + length (pixels_in_bytes (take at row)) = omega (arith, length-pixels_in (take at row), length-take-le at row within) in
+    sym (ap changes_of (pixels_in-append (take at row) piece) ∙ changes_from-append 0 false (pixels_in_bytes (take at row)) (pixels_in_bytes piece)
+    ∙ ap (λ ps. ps ++ changes_from (0 + length (pixels_in_bytes (take at row))) (last_of false (pixels_in_bytes (take at row))) (pixels_in_bytes piece)) (sym found)
+    ∙ ap (λ n. places ++ changes_from n (last_of false (pixels_in_bytes (take at row))) (pixels_in_bytes piece)) (sym size)
+    ∙ ap (λ b. places ++ changes_from base b (pixels_in_bytes piece)) (sym last)
     ∙ ap (λ bs. places ++ changes_from base before bs) (sym bits))
 
-pub last_more : (row : List ℕ) (at : ℕ) (piece : List ℕ) (before : Bool) (word : ℕ) → before ≡ last_of false (pixels_in (take at row)) → word_pixels word ≡ pixels_in piece → last_of before (word_pixels word) ≡ last_of false (pixels_in (take at row ++ piece))
+pub last_more : (row : List ℕ) (at : ℕ) (piece : List ℕ) (before : Bool) (word : ℕ) → before ≡ last_of false (pixels_in_bytes (take at row)) → word_pixels word ≡ pixels_in_bytes piece → last_of before (word_pixels word) ≡ last_of false (pixels_in_bytes (take at row ++ piece))
 last_more row at piece before word last bits =
-    sym (ap (last_of false) (pixels_in-append (take at row) piece) ∙ last_of-append false (pixels_in (take at row)) (pixels_in piece)
-    ∙ ap (λ b. last_of b (pixels_in piece)) (sym last) ∙ ap (last_of before) (sym bits))
+    sym (ap (last_of false) (pixels_in-append (take at row) piece) ∙ last_of-append false (pixels_in_bytes (take at row)) (pixels_in_bytes piece)
+    ∙ ap (λ b. last_of b (pixels_in_bytes piece)) (sym last) ∙ ap (last_of before) (sym bits))
 
 pub eight_more : (row : List ℕ) (k : ℕ) → take (8 * k) row ++ take 8 (drop (8 * k) row) ≡ take (8 * (k + 1)) row
 eight_more row k = sym (ap (λ n. take n row) size ∙ both (8 * k) 8 row)
@@ -64,7 +64,7 @@ eight_more row k = sym (ap (λ n. take n row) size ∙ both (8 * k) 8 row)
         size' = omega arith
 
 -- zero bytes are white pixels
-zero_bits : (k : ℕ) → pixels_in (replicate k 0) ≡ replicate (8 * k) false
+zero_bits : (k : ℕ) → pixels_in_bytes (replicate k 0) ≡ replicate (8 * k) false
 zero_bits zero = refl
 zero_bits (suc k) =
     ap (λ ps. false ∷ false ∷ false ∷ false ∷ false ∷ false ∷ false ∷ false ∷ ps) (zero_bits k)
@@ -101,7 +101,7 @@ end_cases row =
     ]
 
 -- the same for the bytes of a packed row
-pub packed_changes : (row : List Bool) → changes_of (pixels_in (packed_row row) ++ false ∷ []) ≡ changes_of (row ++ false ∷ [])
+pub packed_changes : (row : List Bool) → changes_of (pixels_in_bytes (packed_row row) ++ false ∷ []) ≡ changes_of (row ++ false ∷ [])
 packed_changes row =
     let k = 8 * row_bytes (length row) - length row in
     let size : k + 1 ≡ suc k = omega arith in
@@ -112,14 +112,14 @@ packed_changes row =
 
 -- ---- the last word
 
-whole_row : (row : List ℕ) (at m : ℕ) → 1 ≤ m → changes_of (pixels_in (take at row ++ (drop at row ++ replicate m 0))) ≡ changes_of (pixels_in row ++ false ∷ [])
+whole_row : (row : List ℕ) (at m : ℕ) → 1 ≤ m → changes_of (pixels_in_bytes (take at row ++ (drop at row ++ replicate m 0))) ≡ changes_of (pixels_in_bytes row ++ false ∷ [])
 whole_row row at m some =
     let bytes : take at row ++ (drop at row ++ replicate m 0) ≡ row ++ replicate m 0 = sym (append_assoc (take at row) (drop at row) (replicate m 0)) ∙ ap (λ bs. bs ++ replicate m 0) (take-append-drop at row) in
     let size : 8 * m ≡ suc (8 * m - 1) = omega arith in
-    ap (λ bs. changes_of (pixels_in bs)) bytes
-    ∙ ap changes_of (pixels_in-append row (replicate m 0) ∙ ap (λ ps. pixels_in row ++ ps) (zero_bits m))
-    ∙ ap (λ (n : ℕ). changes_of (pixels_in row ++ replicate n false)) size
-    ∙ white_after (pixels_in row) (8 * m - 1)
+    ap (λ bs. changes_of (pixels_in_bytes bs)) bytes
+    ∙ ap changes_of (pixels_in-append row (replicate m 0) ∙ ap (λ ps. pixels_in_bytes row ++ ps) (zero_bits m))
+    ∙ ap (λ (n : ℕ). changes_of (pixels_in_bytes row ++ replicate n false)) size
+    ∙ white_after (pixels_in_bytes row) (8 * m - 1)
 
 -- the bytes of the tail, and zeros
 pub tail_at : (row : List ℕ) (i : ℕ) → get_or (row ++ replicate 8 0) i 0 ≡ get_or row i 0
@@ -142,7 +142,7 @@ tail_bytes row at within short =
 
 -- what the code makes of them
 pub tail_read : (row : List ℕ) (at n b0 b1 b2 b3 b4 b5 b6 b7 : ℕ) → at ≤ length row → length row - at < 8 → ((i : ℕ) → get_or row i 0 < 256) → b0 ≡ get_or row at 0 → b1 ≡ get_or row (at + 1) 0 → b2 ≡ get_or row (at + 2) 0 → b3 ≡ get_or row (at + 3) 0 → b4 ≡ get_or row (at + 4) 0 → b5 ≡ get_or row (at + 5) 0 → b6 ≡ get_or row (at + 6) 0 → b7 ≡ get_or row (at + 7) 0
-    → n ≡ from_be_bytes w64 (b0 ∷ b1 ∷ b2 ∷ b3 ∷ b4 ∷ b5 ∷ b6 ∷ b7 ∷ []) → word_pixels n ≡ pixels_in (drop at row ++ replicate (8 - (length row - at)) 0)
+    → n ≡ from_be_bytes w64 (b0 ∷ b1 ∷ b2 ∷ b3 ∷ b4 ∷ b5 ∷ b6 ∷ b7 ∷ []) → word_pixels n ≡ pixels_in_bytes (drop at row ++ replicate (8 - (length row - at)) 0)
 tail_read row at n b0 b1 b2 b3 b4 b5 b6 b7 within short small e0 e1 e2 e3 e4 e5 e6 e7 is =
     let longer = row ++ replicate 8 0 in
     let same : (b i : ℕ) → b ≡ get_or row i 0 → b ≡ get_or longer i 0 = λ b i e. e ∙ sym (tail_at row i) in
@@ -150,10 +150,10 @@ tail_read row at n b0 b1 b2 b3 b4 b5 b6 b7 within short small e0 e1 e2 e3 e4 e5 
     cc (same b0 at e0, same b1 (at + 1) e1, same b2 (at + 2) e2, same b3 (at + 3) e3, same b4 (at + 4) e4, same b5 (at + 5) e5, same b6 (at + 6) e6, same b7 (at + 7) e7) in
     word_read longer at n (omega (arith, length-append row (replicate 8 0), length-replicate {A = ℕ} 8 0))
     (λ i. subst (λ (v : ℕ). v < 256) (sym (tail_at row i)) (small i)) (is ∙ ap (from_be_bytes w64) list)
-    ∙ ap (pixels_in) (tail_bytes row at within short)
+    ∙ ap (pixels_in_bytes) (tail_bytes row at within short)
 
 -- what the last word adds
-pub found_all : (row : List ℕ) (at base : ℕ) (places all : List ℕ) (before : Bool) (word : ℕ) → at ≤ length row → length row - at < 8 → base ≡ 8 * at → places ≡ changes_of (pixels_in (take at row)) → before ≡ last_of false (pixels_in (take at row)) → word_pixels word ≡ pixels_in (drop at row ++ replicate (8 - (length row - at)) 0) → all ≡ places ++ changes_from base before (word_pixels word) → all ≡ changes_of (pixels_in row ++ false ∷ [])
+pub found_all : (row : List ℕ) (at base : ℕ) (places all : List ℕ) (before : Bool) (word : ℕ) → at ≤ length row → length row - at < 8 → base ≡ 8 * at → places ≡ changes_of (pixels_in_bytes (take at row)) → before ≡ last_of false (pixels_in_bytes (take at row)) → word_pixels word ≡ pixels_in_bytes (drop at row ++ replicate (8 - (length row - at)) 0) → all ≡ places ++ changes_from base before (word_pixels word) → all ≡ changes_of (pixels_in_bytes row ++ false ∷ [])
 found_all row at base places all before word within short size found last bits put =
     put ∙ found_more row at (drop at row ++ replicate (8 - (length row - at)) 0) places before word base within size found last bits
     ∙ whole_row row at (8 - (length row - at)) (omega arith)

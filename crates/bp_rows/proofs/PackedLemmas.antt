@@ -9,7 +9,7 @@ use Rattle.std.proofs.lemmas.Nat.Bits.{bit_at-lt, bit_at_and, bit_at_ones, bit_a
 use Rattle.std.proofs.lemmas.Nat.{pow_below}
 use Rattle.std.proofs.Math.Nat.{mod-eq_of_lt}
 use Rattle.bp_rows.specs.Image.{IsGrid}
-use Rattle.bp_rows.specs.Bits.{row_bytes, black_at, place, rows_in, HasBlankEnds}
+use Rattle.bp_rows.specs.Bits.{row_bytes, black_at, place, rows_in_bytes, HasBlankEnds}
 use Rattle.bp_rows.specs.Packed.{digit_at, packed_byte, packed_row, packed_rows}
 use Rattle.bp_rows.proofs.GridLemmas.{cell, grid_by_cells}
 
@@ -155,7 +155,7 @@ black_at-packed_rows w h rows grid r c down across =
     ∙ bit_of_packed row c
 
 -- packed rows hold the rows
-pub rows_in-packed_rows : (w h : ℕ) (rows : List (List Bool)) → IsGrid w h rows → rows ≡ rows_in w h (packed_rows rows)
+pub rows_in-packed_rows : (w h : ℕ) (rows : List (List Bool)) → IsGrid w h rows → rows ≡ rows_in_bytes w h (packed_rows rows)
 rows_in-packed_rows w h rows grid =
     grid_by_cells w h rows (λ r c. black_at (packed_rows rows) (place w r c)) grid
     (λ r c down across.
@@ -205,7 +205,7 @@ held_byte w h bytes ends small r i down low =
     ∙ byte_by_bits byte (small (r * row_bytes w + i))
 
 -- bytes with blank ends are the packing of the rows that they hold
-pub packed_rows-rows_in : (w h : ℕ) (bytes : List ℕ) → length bytes ≡ h * row_bytes w → ((i : ℕ) → get_or bytes i 0 < 256) → HasBlankEnds w h bytes → packed_rows (rows_in w h bytes) ≡ bytes
+pub packed_rows-rows_in : (w h : ℕ) (bytes : List ℕ) → length bytes ≡ h * row_bytes w → ((i : ℕ) → get_or bytes i 0 < 256) → HasBlankEnds w h bytes → packed_rows (rows_in_bytes w h bytes) ≡ bytes
 packed_rows-rows_in w h bytes long small ends =
     let width_of : (r : ℕ) → length (held_row w bytes r) ≡ w = λ r. length-map-range_with_len (λ c. black_at bytes (place w r c)) 0 w in
     map_through packed_row (held_row w bytes) (range_with_len 0 h)

@@ -10,8 +10,8 @@ use Rattle.bp_rows.specs.declared.resolution.Res.{Res}
 use Rattle.bp_rows.specs.declared.resolution.Unit.{Unit as LengthUnit}
 use Rattle.bp_rows.specs.Image.{Image, IsPage, IsGrid, FitsRes, pixel, with_pixel, white_image, grid_of}
 use Rattle.bp_rows.specs.Limits.{sides_are_allowed, sides_are_imported}
-use Rattle.bp_rows.specs.Bits.{row_bytes, black_at, place, rows_in, Blackens, AreBytes, IsKept, image_in}
-use Rattle.bp_rows.specs.Burned.{burned, covers, row_part}
+use Rattle.bp_rows.specs.Bits.{row_bytes, black_at, place, rows_in_bytes, Blackens, AreBytes, IsKept, image_in}
+use Rattle.bp_rows.specs.Burned.{burned, covers_pixel, row_part}
 use Rattle.bp_rows.specs.Packed.{packed_rows}
 use Rattle.bp_rows.proofs.GridLemmas.{cell-grid_of, grid_of_is_grid, same_grids, grid_by_cells, with_cell, with_cell_is_grid, cell-with_cell, white_is_grid, cell-white}
 use Rattle.bp_rows.proofs.PackedLemmas.{place_one, row_covers, packed_rows-rows_in, rows_in-packed_rows, rows_apart}
@@ -81,7 +81,7 @@ module _ (w h : ℕ) (x y : Res) (u : LengthUnit) where
   pub pixel-image_in : (bytes : List ℕ) (r c : ℕ) → r < h → c < w → pixel (image_in w h x y u bytes) r c ≡ black_at bytes (place w r c)
   pixel-image_in bytes r c down across = cell-grid_of w h (λ i j. black_at bytes (place w i j)) r c down across
 
-  pub strip-image_in : (bytes : List ℕ) → IsKept w h x y bytes → packed_rows (rows_in w h bytes) ≡ bytes
+  pub strip-image_in : (bytes : List ℕ) → IsKept w h x y bytes → packed_rows (rows_in_bytes w h bytes) ≡ bytes
   strip-image_in bytes kept = packed_rows-rows_in w h bytes kept.long kept.bytes_fit.below kept.ends
 
   -- ---- one pixel written
@@ -101,16 +101,16 @@ module _ (w h : ℕ) (x y : Res) (u : LengthUnit) where
   pub image_in-set : (old new : List ℕ) (row col : ℕ) (black : Bool) → row < h → col < w → Sets row col black old new → image_in w h x y u new ≡ with_pixel (image_in w h x y u old) row col black
   image_in-set old new row col black down across sets =
       let covered : w ≤ 8 * row_bytes w = row_covers w in
-      let rows : rows_in w h new ≡ with_cell (rows_in w h old) row col black =
-      same_grids w h (rows_in w h new) (with_cell (rows_in w h old) row col black)
+      let rows : rows_in_bytes w h new ≡ with_cell (rows_in_bytes w h old) row col black =
+      same_grids w h (rows_in_bytes w h new) (with_cell (rows_in_bytes w h old) row col black)
       (grid_of_is_grid w h (λ r c. black_at new (place w r c)))
-      (with_cell_is_grid w h (rows_in w h old) row col black down (grid_of_is_grid w h (λ r c. black_at old (place w r c))))
+      (with_cell_is_grid w h (rows_in_bytes w h old) row col black down (grid_of_is_grid w h (λ r c. black_at old (place w r c))))
       (λ r c below short.
       cell-grid_of w h (λ i j. black_at new (place w i j)) r c below short
       ∙ sets (place w r c)
       ∙ ap (λ b. cond b black (black_at old (place w r c))) (same_place row col r c (omega arith) (omega arith))
       ∙ ap (λ b. cond (eqb r row && eqb c col) black b) (sym (cell-grid_of w h (λ i j. black_at old (place w i j)) r c below short))
-      ∙ sym (cell-with_cell w h (rows_in w h old) row col black (grid_of_is_grid w h (λ i j. black_at old (place w i j))) down across r c)) in
+      ∙ sym (cell-with_cell w h (rows_in_bytes w h old) row col black (grid_of_is_grid w h (λ i j. black_at old (place w i j))) down across r c)) in
       let P : List (List Bool) → Image = λ rs. record { width = w; height = h; xres = x; yres = y; unit = u; rows = rs } in
       ap P rows
 
@@ -160,14 +160,14 @@ module _ (w h : ℕ) (x y : Res) (u : LengthUnit) where
   pub image_in-blackened : (old new : List ℕ) (row from to : ℕ) → from ≤ to → to ≤ w → Fills row from to old new → image_in w h x y u new ≡ burned (image_in w h x y u old) (row_part row from to ∷ [])
   image_in-blackened old new row from to order end fills =
       let covered : w ≤ 8 * row_bytes w = row_covers w in
-      let rows : rows_in w h new ≡ grid_of w h (λ r c. covers (row_part row from to ∷ []) r c || pixel (image_in w h x y u old) r c) =
-      grid_by_cells w h (rows_in w h new) (λ r c. covers (row_part row from to ∷ []) r c || pixel (image_in w h x y u old) r c)
+      let rows : rows_in_bytes w h new ≡ grid_of w h (λ r c. covers_pixel (row_part row from to ∷ []) r c || pixel (image_in w h x y u old) r c) =
+      grid_by_cells w h (rows_in_bytes w h new) (λ r c. covers_pixel (row_part row from to ∷ []) r c || pixel (image_in w h x y u old) r c)
       (grid_of_is_grid w h (λ r c. black_at new (place w r c)))
       (λ r c below short.
       cell-grid_of w h (λ i j. black_at new (place w i j)) r c below short
       ∙ fills (place w r c)
       ∙ ap (λ b. b || black_at old (place w r c)) (part_places row from to r c order end (omega arith) ∙ alone (has_pixel (row_part row from to) r c))
-      ∙ ap (λ b. covers (row_part row from to ∷ []) r c || b) (sym (pixel-image_in old r c below short))) in
+      ∙ ap (λ b. covers_pixel (row_part row from to ∷ []) r c || b) (sym (pixel-image_in old r c below short))) in
       let P : List (List Bool) → Image = λ rs. record { width = w; height = h; xres = x; yres = y; unit = u; rows = rs } in
       ap P rows
 
@@ -197,7 +197,7 @@ module _ (w h : ℕ) (x y : Res) (u : LengthUnit) where
       let P : List (List Bool) → Image = λ rs. record { width = w; height = h; xres = x; yres = y; unit = u; rows = rs } in
       ap (image_in w h x y u) zeros
       ∙ ap P
-      (same_grids w h (rows_in w h (replicate (h * row_bytes w) 0)) (replicate h (replicate w false))
+      (same_grids w h (rows_in_bytes w h (replicate (h * row_bytes w) 0)) (replicate h (replicate w false))
       (grid_of_is_grid w h (λ r c. black_at (replicate (h * row_bytes w) 0) (place w r c))) (white_is_grid w h)
       (λ r c down across.
       cell-grid_of w h (λ i j. black_at (replicate (h * row_bytes w) 0) (place w i j)) r c down across
@@ -216,5 +216,5 @@ module _ (w h : ℕ) (x y : Res) (u : LengthUnit) where
   }
 
   -- rows that are packed in the bytes are those that the page has
-  pub rows_of_strip : (bytes : List ℕ) (rows : List (List Bool)) → IsGrid w h rows → packed_rows rows ≡ bytes → rows_in w h bytes ≡ rows
-  rows_of_strip bytes rows grid same = ap (rows_in w h) (sym same) ∙ sym (rows_in-packed_rows w h rows grid)
+  pub rows_of_strip : (bytes : List ℕ) (rows : List (List Bool)) → IsGrid w h rows → packed_rows rows ≡ bytes → rows_in_bytes w h bytes ≡ rows
+  rows_of_strip bytes rows grid same = ap (rows_in_bytes w h) (sym same) ∙ sym (rows_in-packed_rows w h rows grid)

@@ -8,9 +8,9 @@ use Rattle.std.proofs.lemmas.List.{append-nil, get_or_past, get_or-take, get_or-
 use Rattle.std.proofs.lemmas.Nat.Bits.{bit_at-zero, bit_at-lt, bit_at_xor, bit_at_ones, bit_at_ones_above}
 use borrow.Rule.Slice.PartMut.{put_mid}
 use Rattle.bp_rows.specs.Image.{IsGrid}
-use Rattle.bp_rows.specs.Bits.{row_bytes, black_at, place, rows_in, AreBytes, HasBlankEnds}
+use Rattle.bp_rows.specs.Bits.{row_bytes, black_at, place, rows_in_bytes, AreBytes, HasBlankEnds}
 use Rattle.bp_rows.specs.Packed.{packed_row, packed_rows}
-use Rattle.bp_rows.specs.Words.{is_one, low_pixels, pixels_in, word_pixels}
+use Rattle.bp_rows.specs.Words.{is_one, low_pixels, pixels_in_bytes, word_pixels}
 use Rattle.bp_rows.proofs.GridLemmas.{cell, grid_by_cells}
 use Rattle.bp_rows.proofs.PackedLemmas.{packed_rows-rows_in}
 use Rattle.bp_rows.proofs.WordLemmas.{pixels_of_eight}
@@ -53,7 +53,7 @@ white_word i = ap (λ v. eqb v 1) (bit_at-zero (63 - i))
 
 -- ---- the bytes of a word
 
-pixel_in : (bytes : List ℕ) (i : ℕ) → get_or (pixels_in bytes) i false ≡ black_at bytes i
+pixel_in : (bytes : List ℕ) (i : ℕ) → get_or (pixels_in_bytes bytes) i false ≡ black_at bytes i
 pixel_in [] i = sym (ap (λ v. eqb v 1) (bit_at-zero (7 - i % 8)))
 pixel_in (b ∷ bytes) zero = refl
 pixel_in (b ∷ bytes) (suc zero) = refl
@@ -303,7 +303,7 @@ packed_from : (row : List ℕ) (line : List Bool) (width : ℕ) → length line 
 packed_from row line width long size bytes same =
     let at : (r c : ℕ) → r < 1 → black_at row (place width r c) ≡ get_or line c false = λ r c only. ap (black_at row) (first_row width r c only) ∙ same c in
     let one_line : IsGrid width 1 (line ∷ []) = record { down = refl; across = λ r only. ap (λ n. length (get_or (line ∷ []) n [])) (zero_of r only) ∙ long } in
-    let rows : line ∷ [] ≡ rows_in width 1 row = grid_by_cells width 1 (line ∷ []) (λ r c. black_at row (place width r c)) one_line
+    let rows : line ∷ [] ≡ rows_in_bytes width 1 row = grid_by_cells width 1 (line ∷ []) (λ r c. black_at row (place width r c)) one_line
     (λ r c only across. ap (λ n. cell (line ∷ []) n c) (zero_of r only) ∙ sym (at r c only)) in
     let ends : HasBlankEnds width 1 row = record { blank = λ r c only past short. at r c only ∙ get_or_past line c false (omega arith) } in
     let whole : length row ≡ 1 * row_bytes width = omega arith in

@@ -7,7 +7,7 @@ use Rattle.bp_rows.specs.Bits.{row_bytes}
 use Rattle.bp_rows.specs.Image.{Image, IsGrid, row_of}
 use Rattle.bp_rows.specs.Packed.{digit_at, packed_byte, packed_row, packed_rows}
 use Rattle.bp_rows.proofs.PackedLemmas.{length-packed_row}
-use Rattle.bp_rows.specs.Words.{is_one, byte_pixels, pixels_in}
+use Rattle.bp_rows.specs.Words.{is_one, byte_pixels, pixels_in_bytes}
 
 abbrev number : (ℕ → ℕ) → ℕ
 number d = 128 * d 0 + 64 * d 1 + 32 * d 2 + 16 * d 3 + 8 * d 4 + 4 * d 5 + 2 * d 6 + d 7
@@ -97,7 +97,7 @@ same_bits row a (suc n) =
     let b4 = at 4 (omega arith) in let b5 = at 5 (omega arith) in let b6 = at 6 (omega arith) in let b7 = at 7 (omega arith) in
     cc
 
-pub pixels_in-packed_row : (row : List Bool) → pixels_in (packed_row row) ≡ row ++ replicate (8 * row_bytes (length row) - length row) false
+pub pixels_in-packed_row : (row : List Bool) → pixels_in_bytes (packed_row row) ≡ row ++ replicate (8 * row_bytes (length row) - length row) false
 pixels_in-packed_row row =
     same_bits row 0 (row_bytes (length row)) ∙ padded_row (row_bytes (length row)) (8 * row_bytes (length row) - length row) row (omega arith) (omega arith)
 

@@ -7,7 +7,7 @@ use Rattle.std.proofs.lemmas.Nat.{be_bytes_8, pow_pos, shr_split}
 use Rattle.std.proofs.lemmas.Nat.Bits.{bit_at_cat_low, bit_at_cat_high}
 use Rattle.std.proofs.lemmas.Bool.{cases_lt}
 use mir.Val.{bool_byte}
-use Rattle.bp_rows.specs.Words.{is_one, low_pixels, byte_pixels, pixels_in, word_pixels}
+use Rattle.bp_rows.specs.Words.{is_one, low_pixels, byte_pixels, pixels_in_bytes, word_pixels}
 
 pub low_pixels-low : (n k m a b : ℕ) → n ≤ m → b < 2 ^ m → low_pixels n (a * 2 ^ m + b) ≡ low_pixels n b
 low_pixels-low zero k m a b h small = refl
@@ -24,13 +24,13 @@ low_pixels-append (suc n) m a b small =
     ∙ ap (λ v. eqb v 1 ∷ low_pixels (n + m) (a * 2 ^ m + b)) (bit_at_cat_high a m b (n + m) small (omega arith) ∙ ap (bit_at a) (omega arith))
     ∙ ap (λ bs. is_one a n ∷ bs) (low_pixels-append n m a b small)
 
-pub pixels_in-append : (xs ys : List ℕ) → pixels_in (xs ++ ys) ≡ pixels_in xs ++ pixels_in ys
+pub pixels_in-append : (xs ys : List ℕ) → pixels_in_bytes (xs ++ ys) ≡ pixels_in_bytes xs ++ pixels_in_bytes ys
 pixels_in-append [] ys = refl
-pixels_in-append (x ∷ xs) ys = ap (λ bits. byte_pixels x ++ bits) (pixels_in-append xs ys) ∙ sym (append_assoc (byte_pixels x) (pixels_in xs) (pixels_in ys))
+pixels_in-append (x ∷ xs) ys = ap (λ bits. byte_pixels x ++ bits) (pixels_in-append xs ys) ∙ sym (append_assoc (byte_pixels x) (pixels_in_bytes xs) (pixels_in_bytes ys))
 
-pub length-pixels_in : (bytes : List ℕ) → length (pixels_in bytes) ≡ 8 * length bytes
+pub length-pixels_in : (bytes : List ℕ) → length (pixels_in_bytes bytes) ≡ 8 * length bytes
 length-pixels_in [] = refl
-length-pixels_in (b ∷ bytes) = omega (arith, length-append (byte_pixels b) (pixels_in bytes), length-pixels_in bytes)
+length-pixels_in (b ∷ bytes) = omega (arith, length-append (byte_pixels b) (pixels_in_bytes bytes), length-pixels_in bytes)
 
 pub low_pixels-mod : (n m w : ℕ) → n ≤ m → low_pixels n (w % 2 ^ m) ≡ low_pixels n w
 low_pixels-mod n m w h =
@@ -55,7 +55,7 @@ byte_of true = refl
 byte_of false = refl
 
 -- eight bytes of a number
-pub pixels_of_eight : (n : ℕ) → pixels_in (to_be_bytes w64 n) ≡ word_pixels n
+pub pixels_of_eight : (n : ℕ) → pixels_in_bytes (to_be_bytes w64 n) ≡ word_pixels n
 unfolding word_pixels
 pixels_of_eight n =
     sym (one_byte 56 n ∙ more (n / 2 ^ 56 % 256) (one_byte 48 n ∙ more (n / 2 ^ 48 % 256) (one_byte 40 n ∙ more (n / 2 ^ 40 % 256) (one_byte 32 n
@@ -87,12 +87,12 @@ eight_of at row h =
     eight_in (a ∷ b ∷ c ∷ d ∷ e ∷ f ∷ []) h = absurd (omega arith)
     eight_in (a ∷ b ∷ c ∷ d ∷ e ∷ f ∷ g ∷ []) h = absurd (omega arith)
 
-pub word_read : (row : List ℕ) (at n : ℕ) → at + 8 ≤ length row → ((i : ℕ) → get_or row i 0 < 256) → n ≡ from_be_bytes w64 (get_or row at 0 ∷ get_or row (at + 1) 0 ∷ get_or row (at + 2) 0 ∷ get_or row (at + 3) 0 ∷ get_or row (at + 4) 0 ∷ get_or row (at + 5) 0 ∷ get_or row (at + 6) 0 ∷ get_or row (at + 7) 0 ∷ []) → word_pixels n ≡ pixels_in (take 8 (drop at row))
+pub word_read : (row : List ℕ) (at n : ℕ) → at + 8 ≤ length row → ((i : ℕ) → get_or row i 0 < 256) → n ≡ from_be_bytes w64 (get_or row at 0 ∷ get_or row (at + 1) 0 ∷ get_or row (at + 2) 0 ∷ get_or row (at + 3) 0 ∷ get_or row (at + 4) 0 ∷ get_or row (at + 5) 0 ∷ get_or row (at + 6) 0 ∷ get_or row (at + 7) 0 ∷ []) → word_pixels n ≡ pixels_in_bytes (take 8 (drop at row))
 word_read row at n within small is =
     let piece = eight_of at row within in
     let long : length (take 8 (drop at row)) ≡ 8 = length-take-le 8 (drop at row) (omega (arith, length-drop at row)) in
     let bytes = be_bytes_8 (take 8 (drop at row)) n long (λ i. low i (cases_lt i 8)) (is ∙ ap (from_be_bytes w64) (sym piece)) in
-    sym (pixels_of_eight n) ∙ ap (pixels_in) bytes
+    sym (pixels_of_eight n) ∙ ap (pixels_in_bytes) bytes
   where
     low : (i : ℕ) → (i < 8) ⊎ (8 ≤ i) → get_or (take 8 (drop at row)) i 0 < 256
     low i (inl less) = subst (λ (v : ℕ). v < 256) (sym (get_or-take 8 (drop at row) i 0 less ∙ get_or-drop at row i 0)) (small (at + i))

@@ -23,8 +23,8 @@ byte_pixels b =
 
 -- the pixels of bytes in turn
 -- by TIFF 6.0, section 8, FillOrder 1
-abbrev pub pixels_in : List ℕ → List Bool
-pixels_in bytes = flat_map byte_pixels bytes
+abbrev pub pixels_in_bytes : List ℕ → List Bool
+pixels_in_bytes bytes = flat_map byte_pixels bytes
 
 -- the places, counted from one on, of the ones among the k lowest bits of a number, the highest
 -- first

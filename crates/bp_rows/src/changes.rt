@@ -1,7 +1,7 @@
 // The changing elements of packed pixels, found eight bytes at a time (ITU-T T.6, 2.2.2).
 ghost use Rattle.std.specs.Prelude.{◌≡◌, ◌<◌, ◌≤◌, ◌+◌, ◌-◌, ◌*◌, ◌++◌, Bool, false, List, [], ◌∷◌, OnOk, length, take, drop, replicate, slice_index};
 ghost use Rattle.bp_rows.specs.Changes.{changes_from, changes_of, place_at};
-ghost use Rattle.bp_rows.specs.Words.{pixels_in, word_ones, word_pixels};
+ghost use Rattle.bp_rows.specs.Words.{pixels_in_bytes, word_ones, word_pixels};
 
 use crate::limits::MAX_WIDTH;
 use std::alloc::AllocError;
@@ -17,7 +17,8 @@ pub fn place_in(places: &[u32], at: usize, width: u32) -> u32
 /// The places of the changing elements of all pixels of the bytes and of a white one after them.
 pub fn find_changes(bytes: &[u8], places: &mut Vec<u32>) -> Result<(), AllocError>
     requires { 8 * length bytes.now ≤ MAX_WIDTH }
-    ensures { OnOk result (places.new.items ≡ changes_of (pixels_in bytes.now ++ false ∷ [])) }
+    ensures { OnOk result
+        (places.new.items ≡ changes_of (pixels_in_bytes bytes.now ++ false ∷ [])) }
 {
     places.clear();
     let whole = bytes.len() / 8;
@@ -74,7 +75,7 @@ fn push_ones(places: &mut Vec<u32>, base: u32, edges: u64) -> Result<(), AllocEr
 #[inline(always)]
 fn word_at(bytes: &[u8], at: usize) -> u64
     requires { at + 8 ≤ length bytes.now }
-    ensures { word_pixels result ≡ pixels_in (take 8 (drop at bytes.now)) }
+    ensures { word_pixels result ≡ pixels_in_bytes (take 8 (drop at bytes.now)) }
 {
     u64::from_be_bytes([
         bytes[at],
@@ -95,7 +96,7 @@ fn tail_word(bytes: &[u8], at: usize) -> u64
     requires within { at ≤ length bytes.now }
     requires short { length bytes.now - at < 8 }
     ensures { let zeros = replicate (8 - (length bytes.now - at)) 0 in
-        word_pixels result ≡ pixels_in (drop at bytes.now ++ zeros) }
+        word_pixels result ≡ pixels_in_bytes (drop at bytes.now ++ zeros) }
 {
     u64::from_be_bytes([
         byte_at(bytes, at),

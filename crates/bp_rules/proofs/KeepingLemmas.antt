@@ -13,7 +13,7 @@ use Rattle.bp_core.specs.declared.rules.Rule.{Rule}
 use Rattle.bp_core.specs.declared.rules.RuleKind.{RuleKind}
 use Rattle.bp_core.specs.declared.rules.RuleKind.TheVariants as kinds
 use Rattle.bp_matter.specs.Confirming.{boxes_on, confirm_rule, held_on, is_entered}
-use Rattle.bp_matter.specs.Fields.{editor_of}
+use Rattle.bp_matter.specs.Fields.{editor_number}
 use Rattle.bp_matter.specs.LookUps.{call_with, doc_with, field_with, of_row, page_with, staff_with}
 use Rattle.bp_matter.specs.Matter.{Matter}
 use Rattle.bp_matter.specs.Texts.{is_designation}
@@ -46,7 +46,7 @@ use Rattle.bp_rules.specs.Changes.{after, with_produced}
 use Rattle.bp_rules.specs.Keeping.{StepKeeps}
 use Rattle.bp_rules.specs.Refusing.{has_marks, is_box, is_called_redact, is_staff_name, on_doc, on_page, refused, staff_full, staff_there}
 use Rattle.bp_rules.specs.Roles.{may}
-use Rattle.bp_rules.specs.Stepping.{Stepped, add_staff, answered, confirm, confirm_unless, done, drop_box, free_field, freeze, get_production, hold_field, is_member, put_box, put_entry, set_call, staff_by, step_by, step_for, step_of}
+use Rattle.bp_rules.specs.Stepping.{Stepped, add_staff, quiet_answer, confirm, confirm_unless, done, drop_box, free_field, freeze, get_production, hold_field, is_member, put_box, put_entry, set_call, staff_by, step_by, step_for, step_of}
 use Rattle.bp_rules.specs.declared.changes.Edit.{Edit}
 use Rattle.bp_rules.specs.declared.changes.Edit.TheVariants.{Import, Nothing, Produced, Review, Staff}
 
@@ -225,7 +225,7 @@ confirm-unless-keeps m caller row None = keeps-others m (with_call (confirmed_by
 confirm-keeps : (m : Matter) (caller : StaffNo) (doc : ℕ) (found : Option CallRow) → Keeping m (confirm m caller doc found)
 confirm-keeps m caller doc None = tt
 confirm-keeps m caller doc (Some row) =
-    confirm-unless-keeps m caller row (confirm_rule row (editor_of row.state) (boxes_on doc m.boxes) (held_on doc m.held) (is_entered doc m.entries) caller.0)
+    confirm-unless-keeps m caller row (confirm_rule row (editor_number row.state) (boxes_on doc m.boxes) (held_on doc m.held) (is_entered doc m.entries) caller.0)
 
 -- where the id is kept nothing changes, and else a production comes
 after-freeze-keeps : (m : Matter) (f : Production) (kept : Option Production) → StepKeeps m (after_freeze kept f m)
@@ -240,7 +240,7 @@ get-production-keeps : (m : Matter) (kept : Option Production) → Keeping m (ge
 get-production-keeps m None = tt
 get-production-keeps m (Some f) = keeps-itself m
 
-answered-keeps : {A : Type 0} (m : Matter) (reply : A → Reply) (answer : Result A Rule) → Keeping m (answered m reply answer)
+answered-keeps : {A : Type 0} (m : Matter) (reply : A → Reply) (answer : Result A Rule) → Keeping m (quiet_answer m reply answer)
 answered-keeps m reply (Ok value) = keeps-itself m
 answered-keeps m reply (Err rule) = tt
 

@@ -18,7 +18,7 @@ use Rattle.bp_matter.specs.ValidFields.{has_field}
 use Rattle.bp_matter.specs.ValidItems.{are_whole, due_after, held_row_fits, is_due, item_fits, item_marks_fit, item_of, item_texts_fit}
 use Rattle.bp_matter.specs.ValidMarks.{BoxFacts, HeldFacts, box_fits, doc_box_fits, doc_held_fits}
 use Rattle.bp_matter.specs.ValidPages.{inside_page}
-use Rattle.bp_matter.specs.ValidProductions.{ProductionFacts, all_marked_on, blank, field_chosen, is_marked, itself, mark, marked_on, production_fits, request_fits, stand_once}
+use Rattle.bp_matter.specs.ValidProductions.{ProductionFacts, all_marked_on, blank, field_chosen, is_marked_at, itself, mark, marked_on, production_fits, request_fits, stand_once}
 use Rattle.bp_core.specs.Differing.{all_differ}
 use Rattle.bp_matter.specs.ValidRows.{is_numbered, names}
 use Rattle.bp_matter.specs.declared.rows.BoxRow.{BoxRow}
@@ -174,7 +174,7 @@ item-stays fields fields' docs docs' pages pages' i le h =
 -- ---- no document in two items
 
 -- more documents are more places without a mark
-marked-longer : (marks more : List Bool) (n : ℕ) → n < length marks → is_marked n (marks ++ more) ≡ is_marked n marks
+marked-longer : (marks more : List Bool) (n : ℕ) → n < length marks → is_marked_at n (marks ++ more) ≡ is_marked_at n marks
 marked-longer [] more n lt = absurd (omega arith)
 marked-longer (m ∷ marks) more zero lt = refl
 marked-longer (m ∷ marks) more (suc n) lt = marked-longer marks more n (omega arith)
@@ -217,12 +217,12 @@ marked-on-longer n more (i ∷ items) (Some marks) many low =
     let parts = and_parts (leb (i.doc.0 + 1) n) (below n items) low in
     let lt : i.doc.0 < length marks = omega (arith, many, leb-true (i.doc.0 + 1) n parts.0) in
     let doc = i.doc.0 in
-    let next = cond (is_marked doc marks) None (Some (mark doc marks)) in
+    let next = cond (is_marked_at doc marks) None (Some (mark doc marks)) in
     let step : marked_on (Some (marks ++ more)) (i ∷ items) ≡ marked_on (longer more next) items =
     ap (λ (b : Bool). marked_on (cond b None (Some (mark doc (marks ++ more)))) items) (marked-longer marks more doc lt)
-    ∙ ap (λ (l : List Bool). marked_on (cond (is_marked doc marks) None (Some l)) items) (mark-longer marks more doc lt)
-    ∙ ap (λ (o : Option (List Bool)). marked_on o items) (cond-longer more (is_marked doc marks) (mark doc marks)) in
-    let rest = marked-on-longer n more items next (cond-many n (is_marked doc marks) (mark doc marks) (mark-length marks doc ∙ many)) parts.1 in
+    ∙ ap (λ (l : List Bool). marked_on (cond (is_marked_at doc marks) None (Some l)) items) (mark-longer marks more doc lt)
+    ∙ ap (λ (o : Option (List Bool)). marked_on o items) (cond-longer more (is_marked_at doc marks) (mark doc marks)) in
+    let rest = marked-on-longer n more items next (cond-many n (is_marked_at doc marks) (mark doc marks) (mark-length marks doc ∙ many)) parts.1 in
     (step ∙ rest.0, rest.1)
 
 all-marked-longer : (n : ℕ) (more : List Bool) (rows : List ProductionRow) (o : Option (List Bool)) → so_many n o → list_all (λ (row : ProductionRow). below n row.production.items) rows ≡ true → all_marked_on (longer more o) rows ≡ longer more (all_marked_on o rows)

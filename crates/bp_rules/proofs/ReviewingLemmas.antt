@@ -12,7 +12,7 @@ use Rattle.bp_core.specs.declared.rules.RuleKind.{RuleKind}
 use Rattle.std.proofs.lemmas.List.{length-append}
 use Rattle.bp_core.proofs.SortedLemmas.{find-put}
 use Rattle.bp_matter.specs.Confirming.{boxes_on, confirm_rule, held_on, is_entered, may_hold}
-use Rattle.bp_matter.specs.Fields.{editor_of}
+use Rattle.bp_matter.specs.Fields.{editor_number}
 use Rattle.bp_matter.specs.LookUps.{call_with, doc_with, entry_with, field_with, page_with, staff_with}
 use Rattle.bp_matter.specs.Matter.{Matter, box_key, call_key, doc_key, entry_key, field_key, held_key, staff_key}
 use Rattle.bp_matter.specs.Texts.{is_designation}
@@ -260,8 +260,8 @@ confirm-can m caller editor row v named checker found by rule =
     ap (λ (n : ℕ). confirm_rule row n (boxes_on row.doc.0 m.boxes) (held_on row.doc.0 m.held) (is_entered row.doc.0 m.entries) caller.0) (sym (by first is)) ∙ rule in
     confirmed-fits m first caller row v named checker found is same)
 
-first-editor : (row : CallRow) (editor : ℕ) → editor ≡ editor_of row.state → (first : StaffNo) → row.state ≡ First first → editor ≡ first.0
-first-editor row editor e first is = e ∙ ap editor_of is
+first-editor : (row : CallRow) (editor : ℕ) → editor ≡ editor_number row.state → (first : StaffNo) → row.state ≡ First first → editor ≡ first.0
+first-editor row editor e first is = e ∙ ap editor_number is
 
 no_rule : (o : Option RuleKind) → ((kind : RuleKind) → o ≡ Some kind → ⊥) → o ≡ None
 no_rule None h = refl
@@ -269,7 +269,7 @@ no_rule (Some kind) h = absurd (h kind refl)
 
 -- what confirming a call needs, from what was found of it
 pub confirm-made : (m : Matter) (caller : StaffNo) (doc editor : ℕ) (row new : CallRow) (edit : CallEdit) (boxes : List DocBox) (held : List DocHeld) (entered : Bool) (rule : Option RuleKind) (s : State)
-    → IsValid m → names (length m.staff) caller.0 ≡ true → checker_there (find_key staff_key caller.0 m.staff) ≡ true → call_with doc m ≡ Some row → editor ≡ editor_of row.state → boxes ≡ boxes_on doc m.boxes → held ≡ held_on doc m.held → entered ≡ is_entered doc m.entries
+    → IsValid m → names (length m.staff) caller.0 ≡ true → checker_there (find_key staff_key caller.0 m.staff) ≡ true → call_with doc m ≡ Some row → editor ≡ editor_number row.state → boxes ≡ boxes_on doc m.boxes → held ≡ held_on doc m.held → entered ≡ is_entered doc m.entries
     → rule ≡ confirm_rule row editor boxes held entered caller.0 → ((kind : RuleKind) → rule ≡ Some kind → ⊥) → s ≡ confirmed_state caller row.state → new ≡ record row { state = s } → after m (Review edit mark_edits.Stays) ≡ with_call new m → call_there m edit ≡ true
     → (after m (Review edit mark_edits.Stays) ≡ m → call_puts edit ≡ []) → CanBeReviewed m edit mark_edits.Stays
 confirm-made m caller doc editor row new edit boxes held entered rule s v named checker found ed eb eh ee er none es en after_is there fresh =

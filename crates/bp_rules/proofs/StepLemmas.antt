@@ -19,7 +19,7 @@ use Rattle.bp_rules.specs.Changes.{after, puts_of, with_rows}
 use Rattle.bp_rules.specs.ImportRows.{import_rows}
 use Rattle.bp_rules.specs.Importing.{batch_with, import_by, import_of, unless_full}
 use Rattle.bp_rules.specs.Limits.{limit_passed}
-use Rattle.bp_rules.specs.Running.{AnswersOne, Answered, OneAnswered, StopsAt, answered, counted_answer, is_broken, refused_by, reply_answer, to_call, to_import}
+use Rattle.bp_rules.specs.Running.{AnswersOne, Answered, OneAnswered, StopsAt, answered, counted_answer, breaks_rule, refused_by, reply_answer, to_call, to_import}
 use Rattle.bp_rules.specs.Stepping.{Stepped, step_of}
 use Rattle.bp_rules.specs.Steps.{KeepsRows, PutsMade, StepsCall, StepsImport, counted_of}
 use Rattle.bp_rules.specs.declared.changes.Edit.TheVariants.{Nothing}
@@ -88,7 +88,7 @@ import-answered m b keeper (Ok counted) m' keeper' step =
     let to : answered m (asks.Import b) ≡ to_import m (Ok step.imported) = ap (to_import m) step.answer in
     record {
       edit = step.imported.change;
-      changed = (ap (λ (a : Answered). a.matter) to, λ broken. absurd (false≢true (subst (λ (a : Answered). is_broken a.answer ≡ true) to broken)));
+      changed = (ap (λ (a : Answered). a.matter) to, λ broken. absurd (false≢true (subst (λ (a : Answered). breaks_rule a.answer ≡ true) to broken)));
       puts = step.made.puts;
       kept = step.made.kept;
       answered = to ∙ ap (answered_by (answers.Counted (counted_of step.imported))) (sym step.made.matter) ∙ ap (λ (c : Counted). answered_by (answers.Counted c) m') (sym step.numbers);
@@ -109,7 +109,7 @@ call-answered m key call keeper (Ok reply) m' keeper' step =
     let to : answered m (asks.Call key call) ≡ answered_by (answers.Replied reply) (after m step.edit) = ap (to_call m) step.answer in
     record {
       edit = step.edit;
-      changed = (ap (λ (a : Answered). a.matter) to, λ broken. absurd (false≢true (subst (λ (a : Answered). is_broken a.answer ≡ true) to broken)));
+      changed = (ap (λ (a : Answered). a.matter) to, λ broken. absurd (false≢true (subst (λ (a : Answered). breaks_rule a.answer ≡ true) to broken)));
       puts = step.made.puts;
       kept = step.made.kept;
       answered = to ∙ ap (answered_by (answers.Replied reply)) (sym step.made.matter);

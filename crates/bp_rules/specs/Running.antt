@@ -63,14 +63,14 @@ answers_of m (asked ∷ more) =
     (answered m asked).answer ∷ answers_of (answered m asked).matter more
 
 -- a broken rule is answered
-abbrev pub is_broken : RunAnswer → Bool
-is_broken (answers.Refused rule) = true
-is_broken _ = false
+abbrev pub breaks_rule : RunAnswer → Bool
+breaks_rule (answers.Refused rule) = true
+breaks_rule _ = false
 
 -- a change makes the matter after what was asked; a broken rule changes nothing
 abbrev pub IsChange : Matter → Answered → Edit → Type 0
 IsChange m next edit =
-    (next.matter ≡ after m edit) × (IsTrue (is_broken next.answer) → edit ≡ Nothing)
+    (next.matter ≡ after m edit) × (IsTrue (breaks_rule next.answer) → edit ≡ Nothing)
 
 -- the changes of all that was asked, in order
 abbrev pub AreChanges : Matter → List RunStep → List Edit → Type 0
@@ -116,7 +116,7 @@ pub record Ran (before : RunState) (asked : List RunStep) (count : ℕ)
 -- broken rule
 abbrev pub StopsAt : Matter → MatterRefusal → Answered → Type 0
 StopsAt m (stops.Rule rule) next = ⊥
-StopsAt m stops.KeeperFault next = IsTrue (not (is_broken next.answer)) × (next.matter ≢ m)
+StopsAt m stops.KeeperFault next = IsTrue (not (breaks_rule next.answer)) × (next.matter ≢ m)
 StopsAt m stops.OutOfMemory next = Unit {0}
 
 -- only a fault of the keeper raises its count

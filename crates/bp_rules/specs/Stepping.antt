@@ -10,7 +10,7 @@ use Rattle.bp_core.specs.declared.rules.Rule.{Rule}
 use Rattle.bp_core.specs.declared.rules.RuleKind.{RuleKind}
 use Rattle.bp_core.specs.declared.rules.RuleKind.TheVariants as kinds
 use Rattle.bp_matter.specs.Confirming.{boxes_on, confirm_rule, held_on, is_entered}
-use Rattle.bp_matter.specs.Fields.{editor_of, role_number}
+use Rattle.bp_matter.specs.Fields.{editor_number, role_number}
 use Rattle.bp_matter.specs.LookUps.{call_with, doc_with, field_with, page_with, staff_with, words_with}
 use Rattle.bp_matter.specs.Matter.{Matter}
 use Rattle.bp_matter.specs.Texts.{is_designation}
@@ -51,9 +51,9 @@ abbrev pub told : Matter → Reply → Result Stepped Rule
 told m reply = Ok (record { reply = reply; matter = m })
 
 -- an answer that changes nothing, or the rule that the call breaks
-abbrev pub answered : {A : Type 0} → Matter → (A → Reply) → Result A Rule → Result Stepped Rule
-answered m reply (Ok value) = told m (reply value)
-answered m reply (Err rule) = Err rule
+abbrev pub quiet_answer : {A : Type 0} → Matter → (A → Reply) → Result A Rule → Result Stepped Rule
+quiet_answer m reply (Ok value) = told m (reply value)
+quiet_answer m reply (Err rule) = Err rule
 
 -- done, and the matter after it
 abbrev pub done : Matter → Result Stepped Rule
@@ -134,7 +134,7 @@ confirm_unless m caller row None = done (with_call (confirmed_by caller row) m)
 abbrev pub confirm : Matter → StaffNo → ℕ → Option CallRow → Result Stepped Rule
 confirm m caller doc None = refused kinds.NotCalled
 confirm m caller doc (Some row) =
-    confirm_unless m caller row (confirm_rule row (editor_of row.state) (boxes_on doc m.boxes)
+    confirm_unless m caller row (confirm_rule row (editor_number row.state) (boxes_on doc m.boxes)
     (held_on doc m.held) (is_entered doc m.entries) caller.0)
 
 -- the production that a request gives is kept and told; a kept id changes nothing
@@ -195,12 +195,12 @@ step_by m caller (SendBack doc) =
     on_doc doc.0 (doc_with doc.0 m) (λ _. done (without_call doc.0 m))
 step_by m caller (Freeze request) = freeze m (freeze_of m request)
 step_by m caller (GetProduction id) = get_production m (kept_production m.productions id)
-step_by m caller (SeeStates from) = answered m replies.States (see_states m from.0)
-step_by m caller (SeeValues doc) = answered m replies.Values (see_values m doc.0)
+step_by m caller (SeeStates from) = quiet_answer m replies.States (see_states m from.0)
+step_by m caller (SeeValues doc) = quiet_answer m replies.Values (see_values m doc.0)
 step_by m caller SeeStaff = told m (replies.People (people_of m))
 step_by m caller SeeProductions = told m (replies.Productions (productions_of m))
-step_by m caller (Find terms from page) = answered m replies.Found (find m terms from.0 page)
-step_by m caller (Plan request) = answered m replies.Produced (freeze_of m request)
+step_by m caller (Find terms from page) = quiet_answer m replies.Found (find m terms from.0 page)
+step_by m caller (Plan request) = quiet_answer m replies.Produced (freeze_of m request)
 
 -- a call of who has the key
 abbrev pub step_for : Matter → Option StaffRow → Call → Result Stepped Rule

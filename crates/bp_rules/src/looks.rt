@@ -6,7 +6,7 @@ ghost use Rattle.bp_looks.specs.Staff.{people_of};
 ghost use Rattle.bp_looks.specs.States.{see_states};
 ghost use Rattle.bp_looks.specs.Values.{see_values};
 ghost use Rattle.bp_rules.specs.Deciding.{Decides};
-ghost use Rattle.bp_rules.specs.Stepping.{answered, told};
+ghost use Rattle.bp_rules.specs.Stepping.{quiet_answer, told};
 
 use crate::decided::{Decided, told};
 use bp_core::{DocNo, Refusal, TextList};
@@ -14,7 +14,7 @@ use bp_matter::{Reply, Request, Tables};
 use std::alloc::Global;
 
 pub(crate) fn see_states(alloc: Global, tables: &Tables, from: DocNo) -> Result<Decided, Refusal>
-    ensures { Decides tables.now.matter (answered tables.now.matter Reply.States
+    ensures { Decides tables.now.matter (quiet_answer tables.now.matter Reply.States
         (see_states tables.now.matter from.0)) result }
 {
     let states = bp_looks::see_states(alloc, tables, from)?;
@@ -22,7 +22,7 @@ pub(crate) fn see_states(alloc: Global, tables: &Tables, from: DocNo) -> Result<
 }
 
 pub(crate) fn see_values(alloc: Global, tables: &Tables, doc: DocNo) -> Result<Decided, Refusal>
-    ensures { Decides tables.now.matter (answered tables.now.matter Reply.Values
+    ensures { Decides tables.now.matter (quiet_answer tables.now.matter Reply.Values
         (see_values tables.now.matter doc.0)) result }
 {
     let values = bp_looks::see_values(alloc, tables, doc)?;
@@ -52,7 +52,7 @@ pub(crate) fn find(
     from: DocNo,
     page: u32,
 ) -> Result<Decided, Refusal>
-    ensures { Decides tables.now.matter (answered tables.now.matter Reply.Found
+    ensures { Decides tables.now.matter (quiet_answer tables.now.matter Reply.Found
         (find tables.now.matter terms.now from.0 page)) result }
 {
     let found = bp_looks::find(alloc, tables, terms, from, page)?;
@@ -61,7 +61,7 @@ pub(crate) fn find(
 
 // What a freeze would answer. Nothing is kept.
 pub(crate) fn plan(alloc: Global, tables: &Tables, request: &Request) -> Result<Decided, Refusal>
-    ensures { Decides tables.now.matter (answered tables.now.matter Reply.Produced
+    ensures { Decides tables.now.matter (quiet_answer tables.now.matter Reply.Produced
         (freeze_of tables.now.matter request.now)) result }
 {
     let production = bp_looks::plan(alloc, tables, request)?;

@@ -2,7 +2,7 @@
 ghost use Rattle.std.specs.Prelude.{[], ◌≡◌, IsTrue, Some, length};
 ghost use Rattle.bp_core.specs.Sorted.{find_key};
 ghost use Rattle.bp_matter.specs.Confirming.{is_entered};
-ghost use Rattle.bp_matter.specs.Fields.{editor_of};
+ghost use Rattle.bp_matter.specs.Fields.{editor_number};
 ghost use Rattle.bp_matter.specs.LookUps.{call_with};
 ghost use Rattle.bp_matter.specs.Matter.{staff_key};
 ghost use Rattle.bp_matter.specs.ValidRows.{names};
@@ -77,7 +77,7 @@ fn confirm_row(
 }
 
 fn editor_of(state: State) -> u32
-    ensures { result ≡ editor_of state }
+    ensures { result ≡ editor_number state }
 {
     match state {
         State::Uncalled => 0,

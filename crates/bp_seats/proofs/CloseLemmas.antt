@@ -15,9 +15,9 @@ use Rattle.bp_seats.specs.Closing.{Ended, Gathered, Gathering, PeerTold, Told, j
 use Rattle.bp_keep.specs.Keeper.{KeeperView}
 use Rattle.bp_matter.specs.Matter.{Matter}
 use Rattle.bp_rules.specs.Steps.{KeepsRows}
-use Rattle.bp_seats.specs.Seats.{AreSeats, Closes, Desked, Met, Rests, SeatCloses, SeatView, seat_number, seat_view}
+use Rattle.bp_seats.specs.Seats.{AreSeats, SeatsClose, Desked, Met, Rests, SeatCloses, SeatView, seat_number, seat_view}
 use Rattle.bp_desk.specs.Shown.{BookView}
-use Rattle.bp_seats.specs.Turns.{Fits, IsCaller, IsHome, PeerFits, Ruled, Settled, before, both, held, longer, peer_of, raised_by, times, total}
+use Rattle.bp_seats.specs.Turns.{Fits, IsSeatCaller, IsHome, PeerFits, Ruled, Settled, before, both, times_held, longer, peer_of, raised_by, times, total}
 use Rattle.bp_desk.specs.declared.history.Made.{Made}
 use Rattle.bp_seats.specs.declared.views.Opening.{Opening}
 use Rattle.bp_seats.specs.declared.views.Peer.{Peer}
@@ -150,7 +150,7 @@ joined_raised last (seat ∷ seats) = let h = joined_raised last seats in omega 
 
 pub joined_held : (k : ℕ) (last : SeatView) (seats : List SeatView)
     → 0 < k
-    → times k (map seat_number (seats ++ last ∷ [])) ≤ held k (joined last.view seats)
+    → times k (map seat_number (seats ++ last ∷ [])) ≤ times_held k (joined last.view seats)
 joined_held k last [] some_number = omega arith
 joined_held k last (seat ∷ seats) some_number =
     let h = joined_held k last seats some_number in
@@ -169,7 +169,7 @@ pub record Home (key : Opening BookView) (v : View) (slots : List (Option BookVi
   pub book : BookView
   pub there : get_elem? slots 0 ≡ some (Some book)
   pub told : Told book.journal book.keeper.faults v
-  pub callers : All (IsCaller key.seats) book.journal
+  pub callers : All (IsSeatCaller key.seats) book.journal
   pub fits : length book.journal ≤ key.book.value.room
   pub opening : book.opening ≡ key.book.value.opening
   pub stays : StaysWith key.book.value.keeper book.keeper
@@ -178,7 +178,7 @@ pub record Home (key : Opening BookView) (v : View) (slots : List (Option BookVi
 pub ends : (key : Opening BookView) (id : ℕ) (v : View) (words : List ℕ)
     (slots : List (Option BookView))
     → v.holds ≡ false
-    → ((k : ℕ) → 0 < k → k ≤ key.seats → 0 < held k v)
+    → ((k : ℕ) → 0 < k → k ≤ key.seats → 0 < times_held k v)
     → Final (Seen (Ruled key) id v) words slots
     → Home key v slots
 ends key id v words slots off all final =
@@ -195,8 +195,8 @@ ends key id v words slots off all final =
       there = final.4 0 (Some h.book) (ap (λ l. get_elem? l 0) h.there);
       told = subst (λ (x : List Made × ℕ). Told x.0 x.1 v) (λ i. (sym h.journal i, sym h.count i)) t;
       callers =
-          subst (All (IsCaller key.seats)) (sym h.journal)
-          (All-weaker (IsCaller r.given) (IsCaller key.seats)
+          subst (All (IsSeatCaller key.seats)) (sym h.journal)
+          (All-weaker (IsSeatCaller r.given) (IsSeatCaller key.seats)
           (λ m c. (let b = c.1 in (c.0, omega arith))) r.log r.callers);
       fits = subst (λ (l : List Made). length l ≤ key.book.value.room) (sym h.journal) r.fits;
       opening = h.opening;
@@ -235,7 +235,7 @@ ended desk key v slots h result book e is began seats =
     let same : h.book ≡ book = ap (book_in book) (sym (slot_is key v slots h result e) ∙ is) in
     subst (Ended desk v) same (record {
       told = h.told;
-      callers = subst (λ (n : ℕ). All (IsCaller n) h.book.journal) seats h.callers;
+      callers = subst (λ (n : ℕ). All (IsSeatCaller n) h.book.journal) seats h.callers;
       fits = (let f = h.fits in omega arith);
       opening = h.opening ∙ ap (λ (b : BookView). b.opening) began;
       stays = subst (λ (b : BookView). StaysWith b.keeper h.book.keeper) began h.stays;
@@ -292,13 +292,13 @@ pub whole_gathered : (desk : Desked) (seats : List SeatView) (v : View)
     → (n : ℕ)
     → 0 < n
     → n ≤ desk.seats
-    → 0 < held n v
+    → 0 < times_held n v
 whole_gathered desk seats v are g n some_number within =
     let there : 0 < times n (map seat_number (g.others ++ g.last ∷ [])) =
     subst (λ (l : List SeatView). 0 < times n (map seat_number l)) g.parts
     (are.whole n some_number within) in
     let more = joined_held n g.last g.others some_number in
-    subst (λ (u : View). 0 < held n u) (sym g.view) (omega arith)
+    subst (λ (u : View). 0 < times_held n u) (sym g.view) (omega arith)
 
 pub closed : (desk : Desked) (seats : List SeatView) (v : View) (book : BookView)
     (history : List Made) (matter : Matter) (keeper : KeeperView)
@@ -308,16 +308,16 @@ pub closed : (desk : Desked) (seats : List SeatView) (v : View) (book : BookView
     → history ≡ book.journal
     → matter ≡ run_calls book.opening book.journal
     → KeepsRows book.keeper matter
-    → Closes desk seats history matter keeper
+    → SeatsClose desk seats history matter keeper
 closed desk seats v book history matter keeper g e kept told ran rows =
     let t : Told book.journal book.keeper.faults (joined g.last.view g.others) =
     subst (Told book.journal book.keeper.faults) g.view e.told in
     let sum : v.raised ≡ total raised_by (map seat_view (g.others ++ g.last ∷ [])) =
     ap (λ (u : View). u.raised) g.view ∙ joined_raised g.last g.others in
     let upto = e.summed in
-    subst (λ (x : List Made × KeeperView). Closes desk seats x.0 matter x.1)
+    subst (λ (x : List Made × KeeperView). SeatsClose desk seats x.0 matter x.1)
     (λ i. (sym told i, sym kept i))
-    (subst (λ (l : List SeatView). Closes desk l book.journal matter book.keeper) (sym g.parts)
+    (subst (λ (l : List SeatView). SeatsClose desk l book.journal matter book.keeper) (sym g.parts)
     (record {
       each = all_told book.journal book.keeper.faults g.last g.others t;
       callers = e.callers;

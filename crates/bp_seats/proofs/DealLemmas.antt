@@ -11,7 +11,7 @@ use Rattle.atomic_table.proofs.Lists.{at_set}
 use Rattle.bp_seats.specs.Calls.{Begins, calls_by}
 use Rattle.bp_desk.specs.Books.{StaysWith}
 use Rattle.bp_desk.specs.Shown.{BookView}
-use Rattle.bp_seats.specs.Turns.{Fits, IsCaller, IsHome, IsOut, PeerFits, Ruled, before, both, dealer, dealt, first_view, held, longer, note_of, peer_number, peer_of, raised_by, settled, spent, times, total}
+use Rattle.bp_seats.specs.Turns.{Fits, IsSeatCaller, IsHome, BookIsOut, PeerFits, Ruled, before, both, dealer, dealt, first_view, times_held, longer, note_of, peer_number, peer_of, raised_by, settled, spent, times, total}
 use Rattle.bp_desk.specs.declared.history.Made.{Made}
 use Rattle.bp_seats.specs.declared.views.Opening.{Opening}
 use Rattle.bp_seats.specs.declared.views.Peer.{Peer}
@@ -44,7 +44,7 @@ begins key book roomy seats journal opens room faults stays = record {
   roomy = roomy;
   seats = seats;
   fits = omega arith;
-  callers = All-nil (IsCaller 1);
+  callers = All-nil (IsSeatCaller 1);
   each = only (Fits key [] key.book.value.keeper.faults 1) (record {
     known = λ _. (refl, refl, refl, refl);
     began = begins-nil [];
@@ -118,7 +118,7 @@ deals key id v some_given left off s r at =
     let n : u.number ≡ 1 = ((r.each j u e).dealer some_u).1 in
     let a = times_here 1 u.number (map peer_number u.met) n in
     let b = times_here 1 v.number (map peer_number v.met) first in
-    let two = total_two (held 1) s.views j id u v other e at in
+    let two = total_two (times_held 1) s.views j id u v other e at in
     let one = r.once 1 (omega arith) in
     absurd (omega arith)) in
     let set_fits = each_set P s.views id (dealer v)
@@ -164,20 +164,20 @@ deals key id v some_given left off s r at =
           })
           set_fits;
       once = λ k some_number. (
-          let t : total (held k) (set s.views id (dealer v)) + held k v
-          ≡ total (held k) s.views + held k v =
-          total_set (held k) s.views id v (dealer v) at in
-          let p : total (held k) (set s.views id (dealer v) ++ dealt v ∷ [])
-          ≡ total (held k) (set s.views id (dealer v)) + times k ((v.given + 1) ∷ []) =
-          total_push (held k) (set s.views id (dealer v)) (dealt v) in
+          let t : total (times_held k) (set s.views id (dealer v)) + times_held k v
+          ≡ total (times_held k) s.views + times_held k v =
+          total_set (times_held k) s.views id v (dealer v) at in
+          let p : total (times_held k) (set s.views id (dealer v) ++ dealt v ∷ [])
+          ≡ total (times_held k) (set s.views id (dealer v)) + times k ((v.given + 1) ∷ []) =
+          total_push (times_held k) (set s.views id (dealer v)) (dealt v) in
           let one = r.once k some_number in
           let most = times_most k (v.given + 1) in
           ⊎_elim
           (λ (is : v.given + 1 ≡ k).
-          let none : total (held k) s.views ≡ 0 = total_none (held k) s.views (λ j u e.
+          let none : total (times_held k) s.views ≡ 0 = total_none (times_held k) s.views (λ j u e.
           (let g = r.each j u e in
           let low = g.numbered in
-          let a : held k u ≡ times k (map peer_number u.met) =
+          let a : times_held k u ≡ times k (map peer_number u.met) =
           times_else k u.number (map peer_number u.met) (λ same. absurd (omega arith)) in
           let b =
           none_above k r.given u.met (omega arith)
@@ -232,11 +232,11 @@ notes key id v off s r at =
           })
           (each_set P s.views id v f (λ j u _ e. r.each j u e));
       once = λ k some_number. (
-          let t : total (held k) (set s.views id v) + held k v ≡ total (held k) s.views + held k v =
-          total_set (held k) s.views id v v at in
-          let p : total (held k) (set s.views id v ++ note_of v ∷ [])
-          ≡ total (held k) (set s.views id v) + times k (0 ∷ []) =
-          total_push (held k) (set s.views id v) (note_of v) in
+          let t : total (times_held k) (set s.views id v) + times_held k v ≡ total (times_held k) s.views + times_held k v =
+          total_set (times_held k) s.views id v v at in
+          let p : total (times_held k) (set s.views id v ++ note_of v ∷ [])
+          ≡ total (times_held k) (set s.views id v) + times k (0 ∷ []) =
+          total_push (times_held k) (set s.views id v) (note_of v) in
           let n : times k (0 ∷ []) ≡ 0 = times_else k 0 [] (λ same. absurd (omega arith)) in
           let o = r.once k some_number in omega arith);
       summed =
@@ -255,18 +255,18 @@ notes key id v off s r at =
 
 -- ---- a note or a seat is taken in
 
-pub held-both : (k : ℕ) (v w : View) → 0 < k → held k (both v w) ≡ held k v + held k w
+pub held-both : (k : ℕ) (v w : View) → 0 < k → times_held k (both v w) ≡ times_held k v + times_held k w
 held-both k v w some_number =
-    let own : held k (both v w)
+    let own : times_held k (both v w)
     ≡ times k (v.number ∷ (map peer_number v.met ++ (0 ∷ w.number ∷ map peer_number w.met))) =
     ap (λ (ns : List ℕ). times k (v.number ∷ ns))
     (map-append peer_number v.met (before v ∷ peer_of w ∷ w.met)) in
     let cut : times k ((v.number ∷ map peer_number v.met) ++ (0 ∷ w.number ∷ map peer_number w.met))
-    ≡ held k v + times k (0 ∷ w.number ∷ map peer_number w.met) =
+    ≡ times_held k v + times k (0 ∷ w.number ∷ map peer_number w.met) =
     times-append k (v.number ∷ map peer_number v.met) (0 ∷ w.number ∷ map peer_number w.met) in
-    let zero_off : times k (0 ∷ w.number ∷ map peer_number w.met) ≡ held k w =
+    let zero_off : times k (0 ∷ w.number ∷ map peer_number w.met) ≡ times_held k w =
     times_else k 0 (w.number ∷ map peer_number w.met) (λ same. absurd (omega arith)) in
-    own ∙ (cut ∙ ap (λ (n : ℕ). held k v + n) zero_off)
+    own ∙ (cut ∙ ap (λ (n : ℕ). times_held k v + n) zero_off)
 
 pub meets : (key : Opening BookView) (id : ℕ) (v : View) (other : ℕ) (w : View)
     → v.holds ≡ false
@@ -329,11 +329,11 @@ meets key id v other w off off' s r at apart there =
           each_set P views other spent gone
           (λ j u _ e. each_set P s.views id (both v w) fits (λ i x _ e'. r.each i x e') j u e);
       once = λ k some_number. (
-          let t : total (held k) views + held k v ≡ total (held k) s.views + held k (both v w) =
-          total_set (held k) s.views id v (both v w) at in
-          let p : total (held k) (set views other spent) + held k w
-          ≡ total (held k) views + times k (0 ∷ []) =
-          total_set (held k) views other w spent there in
+          let t : total (times_held k) views + times_held k v ≡ total (times_held k) s.views + times_held k (both v w) =
+          total_set (times_held k) s.views id v (both v w) at in
+          let p : total (times_held k) (set views other spent) + times_held k w
+          ≡ total (times_held k) views + times k (0 ∷ []) =
+          total_set (times_held k) views other w spent there in
           let n : times k (0 ∷ []) ≡ 0 = times_else k 0 [] (λ same. absurd (omega arith)) in
           let b = held-both k v w some_number in
           let o = r.once k some_number in omega arith);
@@ -402,11 +402,11 @@ settles key slots id me st off s r len at low =
 pub closes : (key : Opening BookView) (s : St) (r : Ruled key s) (id : ℕ) (v : View)
     → get_elem? s.views id ≡ some v
     → v.holds ≡ false
-    → ((k : ℕ) → 0 < k → k ≤ key.seats → 0 < held k v)
+    → ((k : ℕ) → 0 < k → k ≤ key.seats → 0 < times_held k v)
     → IsHome key r.log r.faults s.homes s.views
 closes key s r id v at off all =
     ⊎_elim (λ (h : (r.turn ≡ 0) × IsHome key r.log r.faults s.homes s.views). h.1)
-    (λ (h : (r.turn ≡ 1) × IsOut r.log r.faults s.views).
+    (λ (h : (r.turn ≡ 1) × BookIsOut r.log r.faults s.views).
     let o = h.1 in
     let apart : o.holder ≢ id =
     λ same.
@@ -422,7 +422,7 @@ closes key s r id v at off all =
     let bound = r.seats in
     let mine = times_here n o.view.number (map peer_number o.view.met) refl in
     let theirs = all n o.numbered (omega arith) in
-    let two = total_two (held n) s.views o.holder id o.view v apart o.there at in
+    let two = total_two (times_held n) s.views o.holder id o.view v apart o.there at in
     let one = r.once n o.numbered in
     absurd (omega arith))
     r.stands

@@ -10,7 +10,7 @@ use Rattle.bp_seats.specs.Calls.{Begins, calls_by}
 use Rattle.bp_seats.specs.Laws.{start_faults}
 use Rattle.bp_seats.specs.Seats.{AltersAfter}
 use Rattle.bp_seats.specs.Serving.{most, own_faults}
-use Rattle.bp_seats.specs.Turns.{StaysAs, began_with, both, dealer, dealt, grown, held, longer, no_matter, note_of, raised_by, spent, total, with_count}
+use Rattle.bp_seats.specs.Turns.{StaysAs, began_with, both, dealer, dealt, grown, times_held, longer, no_matter, note_of, raised_by, spent, total, with_count}
 use Rattle.bp_seats.specs.declared.desk.TheConstants.{MOST_SEATS}
 use Rattle.bp_seats.specs.declared.views.View.{View}
 
@@ -104,14 +104,14 @@ met_mine : (both second (note_of first)).mine ≡ []
 met_mine = refl
 
 -- seat 1 takes seat 2 in: it has both numbers, once each
-joined_two : held 2 (both first second) ≡ 1
+joined_two : times_held 2 (both first second) ≡ 1
 joined_two = refl
 
-joined_one : held 1 (both first second) ≡ 1
+joined_one : times_held 1 (both first second) ≡ 1
 joined_one = refl
 
 -- a number that two seats have counts twice
-alike : total (held 1) (first ∷ first ∷ []) ≡ 2
+alike : total (times_held 1) (first ∷ first ∷ []) ≡ 2
 alike = refl
 
 -- the sum of third numbers of all views stays

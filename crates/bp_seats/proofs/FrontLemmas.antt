@@ -8,7 +8,7 @@ use Rattle.std.proofs.lemmas.List.Elements.{All-weaker, All-head, All-tail, filt
 use lib.Dec.{leb}
 use Rattle.bp_seats.specs.Calls.{Begins, calls_by, is_by}
 use Rattle.bp_desk.specs.History.{AreOthers}
-use Rattle.bp_seats.specs.Turns.{IsCaller, longer}
+use Rattle.bp_seats.specs.Turns.{IsSeatCaller, longer}
 use Rattle.bp_desk.specs.declared.history.Made.{Made}
 
 pub begins-refl : (xs : List Made) → Begins xs xs
@@ -77,21 +77,21 @@ calls_by-other n log made e =
     ∙ append-nil (calls_by n log))
 
 pub calls_by-none : (n given : ℕ) (log : List Made)
-    → All (IsCaller given) log
+    → All (IsSeatCaller given) log
     → ((k : ℕ) → 0 < k → k ≤ given → k ≢ n)
     → calls_by n log ≡ []
 calls_by-none n given [] h off = refl
 calls_by-none n given (x ∷ xs) h off =
-    let first = All-head (IsCaller given) x xs h in
+    let first = All-head (IsSeatCaller given) x xs h in
     ap (λ (b : Bool). cond b (x ∷ calls_by n xs) (calls_by n xs))
     (ne_eqb x.seat n (off x.seat first.0 first.1))
-    ∙ calls_by-none n given xs (All-tail (IsCaller given) x xs h) off
+    ∙ calls_by-none n given xs (All-tail (IsSeatCaller given) x xs h) off
 
 pub callers-more : (given : ℕ) (log : List Made)
-    → All (IsCaller given) log
-    → All (IsCaller (given + 1)) log
+    → All (IsSeatCaller given) log
+    → All (IsSeatCaller (given + 1)) log
 callers-more given log h =
-    All-weaker (IsCaller given) (IsCaller (given + 1)) (λ x c. (let b = c.1 in (c.0, omega arith)))
+    All-weaker (IsSeatCaller given) (IsSeatCaller (given + 1)) (λ x c. (let b = c.1 in (c.0, omega arith)))
     log h
 
 -- ---- where no call of the seat is

@@ -17,7 +17,7 @@ use Rattle.bp_desk.specs.Run.{DoorServed}
 use Rattle.bp_desk.specs.Serving.{RoseBy, raised}
 use Rattle.bp_desk.specs.declared.history.Made.{Made}
 use Rattle.bp_seats.specs.Calls.{calls_by}
-use Rattle.bp_seats.specs.Laws.{DoorLaw, FaultsLaw, FaultsRose, RunLaw, SameSeats, SeatsLaw, start_faults, step_by}
+use Rattle.bp_seats.specs.Laws.{DoorLaw, FaultsLaw, FaultsRose, RunLaw, SameSeats, SeatsLaw, start_faults, step_without_desk}
 use Rattle.bp_seats.specs.Seats.{Desked, IsSeatOf, SeatCloses, SeatView, all_fresh, fresh, fresh_with, others, seat_number, seat_view}
 use Rattle.bp_seats.specs.Serving.{history_at, most, own_faults}
 use Rattle.bp_seats.specs.Turns.{raised_by, times, total}
@@ -38,7 +38,7 @@ pub run_law : RunLaw
 run_law m [] = refl
 run_law m (made ∷ calls) =
     run_law (matter_by m (step_of m made.key made.call)) calls
-    ∙ ap (λ (n : Matter). run_of n (map step_by calls)) (same_matter m (step_of m made.key made.call))
+    ∙ ap (λ (n : Matter). run_of n (map step_without_desk calls)) (same_matter m (step_of m made.key made.call))
 
 -- ---- doors
 

@@ -13,7 +13,7 @@ use Rattle.atomic_table.proofs.Lists.{at_set}
 use Rattle.bp_seats.specs.Calls.{Begins, calls_by}
 use Rattle.bp_desk.specs.Books.{StaysWith}
 use Rattle.bp_desk.specs.Shown.{BookView}
-use Rattle.bp_seats.specs.Turns.{Fits, IsCaller, IsHome, IsOut, PeerFits, Ruled, StaysAs, began_with, counted, freed, grown, held, peer_number, raised_by, released, taking, told, tried, with_count}
+use Rattle.bp_seats.specs.Turns.{Fits, IsSeatCaller, IsHome, BookIsOut, PeerFits, Ruled, StaysAs, began_with, counted, freed, grown, times_held, peer_number, raised_by, released, taking, told_number, tried, with_count}
 use Rattle.bp_desk.specs.declared.history.Made.{Made}
 use Rattle.bp_keep.specs.Keeper.{KeeperView}
 use Rattle.bp_seats.specs.declared.views.KeeperBegan.{KeeperBegan}
@@ -98,7 +98,7 @@ module _ (key : Opening BookView) (id : ℕ) (me : Sat) (st : At) (s : St) (r : 
         dealer = f.dealer;
         peers = peers_grow r.log r.faults r.given me.0.seen h.book.journal me.0.met seen f.peers;
       } in
-      let out : IsOut r.log r.faults (set s.views id w) = record {
+      let out : BookIsOut r.log r.faults (set s.views id w) = record {
         holder = id;
         view = w;
         there = set_at s.views id me.0 w at;
@@ -118,7 +118,7 @@ module _ (key : Opening BookView) (id : ℕ) (me : Sat) (st : At) (s : St) (r : 
         takes 0 (Some h.book),
         ap (λ (l : Homes). get_elem? l 0) h.there,
         steady key s r id me.0 w 1 (slice_set s.homes 0 maybe.none) at fits
-            (λ k. (let n : ℕ = held k me.0 in omega arith)) (omega arith) (inr (refl, out)),
+            (λ k. (let n : ℕ = times_held k me.0 in omega arith)) (omega arith) (inr (refl, out)),
         (
           (λ _. record {
             book = h.book;
@@ -135,7 +135,7 @@ module _ (key : Opening BookView) (id : ℕ) (me : Sat) (st : At) (s : St) (r : 
         ),
       )
 
-  loses : IsOut r.log r.faults s.views
+  loses : BookIsOut r.log r.faults s.views
       → Goes key id me 0 (λ n. either (n == 0) 1 n) (tried st me) s.homes s.views
       (1 ∷ length r.log ∷ r.faults ∷ [])
   loses o = (
@@ -143,7 +143,7 @@ module _ (key : Opening BookView) (id : ℕ) (me : Sat) (st : At) (s : St) (r : 
     keeps,
     tt,
     steady key s r id me.0 me.0 1 s.homes at (r.each id me.0 at)
-        (λ k. (let n : ℕ = held k me.0 in omega arith)) (omega arith)
+        (λ k. (let n : ℕ = times_held k me.0 in omega arith)) (omega arith)
         (stands_set key 1 r.log r.faults s.homes s.views id me.0 me.0 (inr (refl, o)) at off off),
     ((λ (e : 1 ≡ 0). absurd (omega arith)), λ _. refl),
   )
@@ -160,7 +160,7 @@ tries key slots id me st num off none s r len at low =
     (⊎_elim (λ (h : (r.turn ≡ 0) × IsHome key r.log r.faults s.homes s.views).
     subst (λ (t : ℕ). G (t ∷ length r.log ∷ r.faults ∷ [])) (sym h.0)
     (wins key id me st s r at off num none h.1))
-    (λ (h : (r.turn ≡ 1) × IsOut r.log r.faults s.views).
+    (λ (h : (r.turn ≡ 1) × BookIsOut r.log r.faults s.views).
     subst (λ (t : ℕ). G (t ∷ length r.log ∷ r.faults ∷ [])) (sym h.0)
     (loses key id me st s r at off h.1))
     r.stands)
@@ -194,11 +194,11 @@ module _ (key : Opening BookView) (id : ℕ) (me : Sat) (made : Made) (s : St) (
       → Fits key log' r.faults r.given u
   others_fit by j u apart e =
       let f = r.each j u e in
-      let mine : 1 ≤ held made.seat me.0 =
+      let mine : 1 ≤ times_held made.seat me.0 =
       times_here made.seat me.0.number (map peer_number me.0.met) (sym by) in
-      let two = total_two (held made.seat) s.views j id u me.0 apart e at in
+      let two = total_two (times_held made.seat) s.views j id u me.0 apart e at in
       let one = r.once made.seat (let p = hold.numbered in omega arith) in
-      let not : held made.seat u ≡ 0 = omega arith in record {
+      let not : times_held made.seat u ≡ 0 = omega arith in record {
         known = f.known;
         began = begins-push u.seen r.log made f.began;
         own = calls_by-other u.number r.log made (λ same. not_own made.seat u not (sym same)) ∙ f.own;
@@ -240,7 +240,7 @@ module _ (key : Opening BookView) (id : ℕ) (me : Sat) (made : Made) (s : St) (
             All-same (PeerFits log' r.faults r.given w.seen) me.0.met [] alone
             (All-nil (PeerFits log' r.faults r.given w.seen));
       } in
-      let out : IsOut log' r.faults (set s.views id w) = record {
+      let out : BookIsOut log' r.faults (set s.views id w) = record {
         holder = id;
         view = w;
         there = set_at s.views id me.0 w at;
@@ -268,14 +268,14 @@ module _ (key : Opening BookView) (id : ℕ) (me : Sat) (made : Made) (s : St) (
           seats = r.seats;
           fits = omega (arith, length-append r.log (made ∷ []));
           callers =
-              All-push (IsCaller r.given) r.log made r.callers
+              All-push (IsSeatCaller r.given) r.log made r.callers
               (let p = hold.numbered in let n = f.numbered in (omega arith, omega arith));
           each = each_set (Fits key log' r.faults r.given) s.views id w fits (others_fit by);
           once =
               λ k some_number.
-              (let t = total_set (held k) s.views id me.0 w at in
+              (let t = total_set (times_held k) s.views id me.0 w at in
               let o = r.once k some_number in
-              let same : held k w ≡ held k me.0 = refl in omega arith);
+              let same : times_held k w ≡ times_held k me.0 = refl in omega arith);
           summed = (let t = total_set raised_by s.views id me.0 w at in let o = r.summed in omega arith);
           stands = inr (hold.taken, out);
         },
@@ -297,7 +297,7 @@ counts key slots id me st made on by alone lt s r len at low =
 module _ (key : Opening BookView) (id : ℕ) (me : Sat) (st : At) (s : St) (r : Ruled key s)
     (at : get_elem? s.views id ≡ some me.0) (on : me.0.holds ≡ true) where
   tells_goes : me.0.left ≤ st.first
-      → Goes key id me 2 (λ _. st.first) (told st me) s.homes s.views
+      → Goes key id me 2 (λ _. st.first) (told_number st me) s.homes s.views
       (r.turn ∷ length r.log ∷ r.faults ∷ [])
   tells_goes up =
       let h : Holding key r.turn r.log r.faults s.homes s.views id me.0 =
@@ -354,9 +354,9 @@ module _ (key : Opening BookView) (id : ℕ) (me : Sat) (st : At) (s : St) (r : 
               }));
           once =
               λ k some_number.
-              (let t = total_set (held k) s.views id me.0 w at in
+              (let t = total_set (times_held k) s.views id me.0 w at in
               let o = r.once k some_number in
-              let same : held k w ≡ held k me.0 = refl in omega arith);
+              let same : times_held k w ≡ times_held k me.0 = refl in omega arith);
           summed =
               (let t = total_set raised_by s.views id me.0 w at in
               let o = r.summed in let e = h.left in omega arith);
@@ -384,9 +384,9 @@ module _ (key : Opening BookView) (id : ℕ) (me : Sat) (st : At) (s : St) (r : 
 pub tells : (key : Opening BookView) (slots id : ℕ) (me : Sat) (st : At)
     → me.0.holds ≡ true
     → me.0.left ≤ st.first
-    → Allows (Ruled key) slots id me 2 (λ _. st.first) (told st me)
+    → Allows (Ruled key) slots id me 2 (λ _. st.first) (told_number st me)
 tells key slots id me st on up s r len at low =
-    subst (Goes key id me 2 (λ _. st.first) (told st me) s.homes s.views) (sym r.words)
+    subst (Goes key id me 2 (λ _. st.first) (told_number st me) s.homes s.views) (sym r.words)
     (tells_goes key id me st s r at on up)
 
 -- ---- the turn is left
@@ -441,7 +441,7 @@ leaves_goes key id v book st s r len at on comes =
       w,
       gives,
       tt,
-      steady key s r id v w 0 homes at fits (λ k. (let n : ℕ = held k v in omega arith))
+      steady key s r id v w 0 homes at fits (λ k. (let n : ℕ = times_held k v in omega arith))
           (omega arith) (inl (refl, home)),
       refl,
     )

@@ -16,7 +16,7 @@ use Rattle.bp_desk.specs.declared.history.Made.{Made}
 use Rattle.bp_desk.specs.declared.history.TheConstants.{MOST_CALLS}
 use Rattle.bp_seats.specs.Laws.{FaultsRose, SameSeats, start_faults}
 use Rattle.bp_seats.specs.Matters.{ArePaired, AreServed, IsServed, ServeEach, ServesMatter, ServesPosts, post_door, post_seat}
-use Rattle.bp_seats.specs.Seats.{AreSeats, Closes, Desked, IsSeatOf, SeatCloses, SeatView, all_fresh, fresh_with}
+use Rattle.bp_seats.specs.Seats.{AreSeats, SeatsClose, Desked, IsSeatOf, SeatCloses, SeatView, all_fresh, fresh_with}
 use Rattle.bp_seats.specs.Serving.{ServesFor, own_faults}
 use Rattle.bp_seats.specs.declared.doors.PostOf.{PostOf}
 use Rattle.bp_seats.proofs.LawLemmas.{door_law, faults_law, seats_law}
@@ -227,7 +227,7 @@ module _ {D : Type 0} (shows : D → DoorView) (connections : ℕ) (desk : Deske
 
   pub matter_served : (before : KeeperView) (history : List Made) (matter : Matter) (after : KeeperView)
       → Opens before MOST_CALLS desk.book
-      → Closes desk seats history matter after
+      → SeatsClose desk seats history matter after
       → ServesMatter shows desk.seats connections before given history matter after handed
   matter_served before history matter after opens closes =
       let fresh : AreFresh desk 1 (map post_seat posts) =

@@ -8,7 +8,7 @@ use Rattle.bp_matter.specs.Matter.{Matter}
 use Rattle.bp_matter.specs.declared.calls.Reply.{Reply}
 use Rattle.bp_desk.proofs.HistoryLemmas.{run_calls-append}
 use Rattle.bp_desk.specs.Calls.{AltersOn, answer_to, run_calls}
-use Rattle.bp_desk.specs.Exchanges.{Answers, CallsAt, Refuses}
+use Rattle.bp_desk.specs.Exchanges.{AnswersCall, CallsAt, Refuses}
 use Rattle.bp_desk.specs.History.{AreOthers}
 use Rattle.bp_desk.specs.declared.history.Made.{Made}
 use Rattle.bp_desk.specs.declared.refusals.DeskRefusal.{DeskRefusal}
@@ -87,7 +87,7 @@ module _ (v w : View) (within : v.raised ≤ v.left) (turn : Raised v w) where
 module _ (v w : View) (made : Made) (by : made.seat ≡ v.number) (within : v.raised ≤ v.left) where
   answers_at : (answer : Result Reply Rule)
       → Called v made answer w
-      → Answers (history_at v) made answer (history_at w)
+      → AnswersCall (history_at v) made answer (history_at w)
   answers_at answer c =
       record {
         others = c.between;

@@ -9,7 +9,7 @@ use Rattle.atomic_table.specs.Table.{State}
 use Rattle.atomic_table.proofs.Lists.{at_set, at_snoc, set_else, at_longer}
 use Rattle.bp_seats.specs.Calls.{Begins}
 use Rattle.bp_desk.specs.Shown.{BookView}
-use Rattle.bp_seats.specs.Turns.{Fits, IsHome, IsOut, PeerFits, Ruled, Stands, held, raised_by}
+use Rattle.bp_seats.specs.Turns.{Fits, IsHome, BookIsOut, PeerFits, Ruled, Stands, times_held, raised_by}
 use Rattle.bp_desk.specs.declared.history.Made.{Made}
 use Rattle.bp_seats.specs.declared.views.Opening.{Opening}
 use Rattle.bp_seats.specs.declared.views.Peer.{Peer}
@@ -89,7 +89,7 @@ module _ (key : Opening BookView) (turn : ℕ) (log : List Made) (faults : ℕ)
       ⊎_elim
       (λ (h : (turn ≡ 0) × IsHome key log faults homes views).
       off_on v.holds (h.1.free id v at) on)
-      (λ (h : (turn ≡ 1) × IsOut log faults views).
+      (λ (h : (turn ≡ 1) × BookIsOut log faults views).
       let o = h.1 in
       let same : id ≡ o.holder = o.others id v at on in
       let is : o.view ≡ v =
@@ -125,7 +125,7 @@ module _ (key : Opening BookView) (turn : ℕ) (log : List Made) (faults : ℕ)
           free = each_set (λ (u : View). u.holds ≡ false) views id w off' (λ j u _ e. h.1.free j u e);
         },
       ))
-      (λ (h : (turn ≡ 1) × IsOut log faults views).
+      (λ (h : (turn ≡ 1) × BookIsOut log faults views).
       let o = h.1 in
       let apart : o.holder ≢ id =
       λ same.
@@ -176,7 +176,7 @@ module _ (key : Opening BookView) (turn : ℕ) (log : List Made) (faults : ℕ)
           free = each_push (λ (u : View). u.holds ≡ false) views w off' (λ j u e. h.1.free j u e);
         },
       ))
-      (λ (h : (turn ≡ 1) × IsOut log faults views).
+      (λ (h : (turn ≡ 1) × BookIsOut log faults views).
       let o = h.1 in inr (
         h.0,
         record {
@@ -204,7 +204,7 @@ pub steady : (key : Opening BookView) (s : St) (r : Ruled key s) (id : ℕ) (v w
     (homes : List (maybe.Option (Option BookView)))
     → get_elem? s.views id ≡ some v
     → Fits key r.log r.faults r.given w
-    → ((k : ℕ) → held k w ≤ held k v)
+    → ((k : ℕ) → times_held k w ≤ times_held k v)
     → w.raised ≤ v.raised
     → Stands key turn r.log r.faults homes (set s.views id w)
     → Ruled key
@@ -226,7 +226,7 @@ steady key s r id v w turn homes at fits numbers raised stands = record {
   each = each_set (Fits key r.log r.faults r.given) s.views id w fits (λ j u _ e. r.each j u e);
   once =
       λ k some_number.
-      (let t = total_set (held k) s.views id v w at in
+      (let t = total_set (times_held k) s.views id v w at in
       let o = r.once k some_number in let n = numbers k in omega arith);
   summed = (let t = total_set raised_by s.views id v w at in let o = r.summed in omega arith);
   stands = stands;

@@ -7,7 +7,7 @@ use mathlib.Core.Bool.{cond}
 use mathlib.Core.Logic.{⊎_elim}
 use Rattle.std.proofs.lemmas.List.Elements.{All-cons, All-head, All-nil, All-tail}
 use lib.ListN.{get_elem?}
-use Rattle.bp_seats.specs.Turns.{total, times, held, peer_number}
+use Rattle.bp_seats.specs.Turns.{total, times, times_held, peer_number}
 use Rattle.bp_seats.specs.declared.views.Peer.{Peer}
 use Rattle.bp_seats.specs.declared.views.View.{View}
 
@@ -92,10 +92,10 @@ none_there k (p ∷ peers) e =
     let h = times_here k p.number (map peer_number peers) same in absurd (omega arith))
     (none_there k peers t)
 
-pub not_own : (k : ℕ) (v : View) → held k v ≡ 0 → v.number ≢ k
+pub not_own : (k : ℕ) (v : View) → times_held k v ≡ 0 → v.number ≢ k
 not_own k v e same = let h = times_here k v.number (map peer_number v.met) same in absurd (omega arith)
 
-pub not_met : (k : ℕ) (v : View) → held k v ≡ 0 → All (λ (p : Peer). p.number ≢ k) v.met
+pub not_met : (k : ℕ) (v : View) → times_held k v ≡ 0 → All (λ (p : Peer). p.number ≢ k) v.met
 not_met k v e = let h = times_tail k v.number (map peer_number v.met) in none_there k v.met (omega arith)
 
 -- numbers up to a bound hold none above it

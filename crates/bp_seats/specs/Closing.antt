@@ -4,7 +4,7 @@ use Rattle.bp_seats.specs.Calls.{Begins, calls_by}
 use Rattle.bp_seats.specs.Seats.{Desked, SeatView}
 use Rattle.bp_desk.specs.Books.{StaysWith}
 use Rattle.bp_desk.specs.Shown.{BookView}
-use Rattle.bp_seats.specs.Turns.{IsCaller, both}
+use Rattle.bp_seats.specs.Turns.{IsSeatCaller, both}
 use Rattle.bp_desk.specs.declared.history.Made.{Made}
 use Rattle.bp_seats.specs.declared.views.Peer.{Peer}
 use Rattle.bp_seats.specs.declared.views.View.{View}
@@ -46,7 +46,7 @@ pub record Gathering (seats rest : List SeatView) (v : View) : Type 0 where
 -- what a closed table's book is known to have
 pub record Ended (desk : Desked) (v : View) (book : BookView) : Type 0 where
   pub told : Told book.journal book.keeper.faults v
-  pub callers : All (IsCaller desk.seats) book.journal
+  pub callers : All (IsSeatCaller desk.seats) book.journal
   pub fits : length book.journal ≤ desk.book.room
   pub opening : book.opening ≡ desk.book.opening
   pub stays : StaysWith desk.book.keeper book.keeper

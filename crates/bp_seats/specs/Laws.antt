@@ -10,16 +10,17 @@ use Rattle.bp_desk.specs.Calls.{run_calls}
 use Rattle.bp_desk.specs.Run.{DoorServed}
 use Rattle.bp_desk.specs.Serving.{RoseBy}
 use Rattle.bp_desk.specs.declared.history.Made.{Made}
-use Rattle.bp_seats.specs.Seats.{AreSeats, Closes, Desked, IsSeatOf, SameSeat, SeatCloses, SeatView, all_fresh}
+use Rattle.bp_seats.specs.Seats.{AreSeats, SeatsClose, Desked, IsSeatOf, SameSeat, SeatCloses, SeatView, all_fresh}
 use Rattle.bp_seats.specs.Serving.{ServesAt, most, own_faults}
 
 -- a call as it is asked for where there is no desk
-abbrev pub step_by : Made → RunStep
-step_by made = asks.Call made.key made.call
+abbrev pub step_without_desk : Made → RunStep
+step_without_desk made = asks.Call made.key made.call
 
 -- the matter after calls at a desk is that after the same calls without one
 abbrev pub RunLaw : Type 0
-RunLaw = (m : Matter) (calls : List Made) → run_calls m calls ≡ run_of m (map step_by calls)
+RunLaw = (m : Matter) (calls : List Made)
+    → run_calls m calls ≡ run_of m (map step_without_desk calls)
 
 -- A door was served at a seat that had seen nothing, and the desk is closed: the door's new exchanges
 -- use up the calls of the seat in the whole history.
@@ -46,7 +47,7 @@ FaultsRose base (seat ∷ seats) (n ∷ counts) =
 -- over all seats together the keeper failed at least as often as was answered at them
 abbrev pub FaultsLaw : Type 0
 FaultsLaw = (desk : Desked) (seats : List SeatView) (history : List Made) (matter : Matter)
-    (keeper : KeeperView) (counts : List ℕ) → Closes desk seats history matter keeper
+    (keeper : KeeperView) (counts : List ℕ) → SeatsClose desk seats history matter keeper
     → FaultsRose desk.book.keeper.faults seats counts
     → RoseBy (sum counts) desk.book.keeper.faults keeper.faults
 

@@ -16,7 +16,7 @@ use Rattle.bp_desk.specs.declared.history.Made.{Made}
 use Rattle.bp_desk.specs.declared.history.TheConstants.{MOST_CALLS}
 use Rattle.bp_seats.specs.Seats.{SeatView}
 use Rattle.bp_seats.specs.Serving.{ServesFor}
-use Rattle.bp_seats.specs.Turns.{IsCaller}
+use Rattle.bp_seats.specs.Turns.{IsSeatCaller}
 use Rattle.bp_seats.specs.declared.doors.PostOf.{PostOf}
 
 -- ---- what it comes to
@@ -48,7 +48,7 @@ pub record ServesMatter {D : Type 0} (shows : D → DoorView) (desks connections
     (after : KeeperView) (handed : List D) : Type 0 where
   pub book : BookView
   pub opens : Opens before MOST_CALLS book
-  pub callers : All (IsCaller desks) history
+  pub callers : All (IsSeatCaller desks) history
   pub fits : length history ≤ MOST_CALLS
   pub tables : matter ≡ run_calls book.opening history
   pub rows : KeepsRows after matter

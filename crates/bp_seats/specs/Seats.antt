@@ -15,7 +15,7 @@ use Rattle.bp_seats.specs.Calls.{Begins, calls_by}
 use Rattle.bp_desk.specs.Books.{Opens, StaysWith}
 use Rattle.bp_desk.specs.Shown.{BookView}
 use Rattle.bp_seats.specs.declared.desk.TheConstants.{MOST_SEATS}
-use Rattle.bp_seats.specs.Turns.{IsCaller, StaysAs, began_with, grown, raised_by, taking, times, total}
+use Rattle.bp_seats.specs.Turns.{IsSeatCaller, StaysAs, began_with, grown, raised_by, taking, times, total}
 use Rattle.bp_desk.specs.declared.history.Made.{Made}
 use Rattle.bp_desk.specs.declared.refusals.DeskRefusal.{DeskRefusal}
 use Rattle.bp_desk.specs.declared.refusals.DeskRefusal.TheVariants as refusals
@@ -262,10 +262,10 @@ pub record SeatCloses (history : List Made) (faults : ℕ) (seat : SeatView) : T
 
 -- the history, with the tables after it and the keeper that has their rows, which wasn't asked to load
 -- since the start
-pub record Closes (desk : Desked) (seats : List SeatView) (history : List Made) (matter : Matter)
-    (keeper : KeeperView) : Type 0 where
+pub record SeatsClose (desk : Desked) (seats : List SeatView) (history : List Made)
+    (matter : Matter) (keeper : KeeperView) : Type 0 where
   pub each : All (SeatCloses history keeper.faults) seats
-  pub callers : All (IsCaller desk.seats) history
+  pub callers : All (IsSeatCaller desk.seats) history
   pub fits : length history ≤ desk.book.room
   pub tables : matter ≡ run_calls desk.book.opening history
   pub rows : KeepsRows keeper matter

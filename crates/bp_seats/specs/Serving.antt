@@ -2,7 +2,7 @@
 use Rattle.std.specs.Prelude.{◌≡◌, ℕ, ◌-◌, ◌^◌, nat_le, if◌then◌else◌}
 use Rattle.bp_outside.specs.Door.{DoorView}
 use Rattle.bp_desk.specs.History.{HistoryView}
-use Rattle.bp_desk.specs.Serving.{Knocks, ServesDoor}
+use Rattle.bp_desk.specs.Serving.{Knocks, ServesCallDoor}
 use Rattle.bp_seats.specs.Calls.{calls_by}
 use Rattle.bp_seats.specs.Seats.{SameSeat, SeatView}
 use Rattle.bp_seats.specs.declared.views.View.{View}
@@ -25,7 +25,7 @@ history_at v =
 -- what it has seen
 pub record ServesAt (connections : ℕ) (seat : SeatView) (door : DoorView) (seat' : SeatView)
     (door' : DoorView) : Type 0 where
-  pub served : ServesDoor seat.view.number connections (history_at seat.view) door
+  pub served : ServesCallDoor seat.view.number connections (history_at seat.view) door
       (history_at seat'.view) door'
   pub same : SameSeat seat seat'
   pub own : calls_by seat'.view.number seat'.view.seen ≡ seat'.view.mine

@@ -53,8 +53,8 @@ abbrev pub peer_number : Peer → ℕ
 peer_number p = p.number
 
 -- how often a view has a number: as its own, and of those that it took in
-abbrev pub held : ℕ → View → ℕ
-held k v = times k (v.number ∷ map peer_number v.met)
+abbrev pub times_held : ℕ → View → ℕ
+times_held k v = times k (v.number ∷ map peer_number v.met)
 
 -- what is known of a keeper with which a desk begins
 abbrev pub began_with : KeeperView → KeeperBegan
@@ -107,7 +107,7 @@ pub record IsHome (key : Opening BookView) (log : List Made) (faults : ℕ)
 
 -- The book is out: one seat alone holds the turn, one with a number. It has seen the whole log, and its
 -- second number of faults is the word FAULTS.
-pub record IsOut (log : List Made) (faults : ℕ) (views : List View) : Type 0 where
+pub record BookIsOut (log : List Made) (faults : ℕ) (views : List View) : Type 0 where
   pub holder : ℕ
   pub view : View
   pub there : get_elem? views holder ≡ some view
@@ -121,11 +121,11 @@ pub record IsOut (log : List Made) (faults : ℕ) (views : List View) : Type 0 w
 abbrev pub Stands : Opening BookView → ℕ → List Made → ℕ → List (maybe.Option (Option BookView))
     → List View → Type 0
 Stands key turn log faults homes views =
-    ((turn ≡ 0) × IsHome key log faults homes views) ⊎ ((turn ≡ 1) × IsOut log faults views)
+    ((turn ≡ 0) × IsHome key log faults homes views) ⊎ ((turn ≡ 1) × BookIsOut log faults views)
 
 -- a call was made at a seat whose number was given
-abbrev pub IsCaller : ℕ → Made → Type 0
-IsCaller given made = (0 < made.seat) × (made.seat ≤ given)
+abbrev pub IsSeatCaller : ℕ → Made → Type 0
+IsSeatCaller given made = (0 < made.seat) × (made.seat ≤ given)
 
 -- The rule. COUNT is the length of the one history, which fits its room and has calls of given numbers
 -- alone. Each number is one seat's (`once`), and what the seats' turns raised the keeper's count by is,
@@ -139,9 +139,9 @@ pub record Ruled (key : Opening BookView) (s : State (Option BookView) View) : T
   pub roomy : key.book.value.room < 2 ^ 63
   pub seats : given ≤ key.seats
   pub fits : length log ≤ key.book.value.room
-  pub callers : All (IsCaller given) log
+  pub callers : All (IsSeatCaller given) log
   pub each : (id : ℕ) (v : View) → get_elem? s.views id ≡ some v → Fits key log faults given v
-  pub once : (k : ℕ) → 0 < k → total (held k) s.views ≤ 1
+  pub once : (k : ℕ) → 0 < k → total (times_held k) s.views ≤ 1
   pub summed : key.book.value.keeper.faults + total raised_by s.views ≤ faults
   pub stands : Stands key turn log faults s.homes s.views
 
@@ -286,8 +286,8 @@ abbrev pub with_count : View → ℕ → View
 with_count v count = record v { left = count; raised = v.raised + (count - v.left) }
 
 -- 5
-abbrev pub told : At → Sat → ℕ → Sat → Type 0
-told st m n m' = m' ≡ (with_count m.0 st.first, m.1)
+abbrev pub told_number : At → Sat → ℕ → Sat → Type 0
+told_number st m n m' = m' ≡ (with_count m.0 st.first, m.1)
 
 -- the turn is left
 abbrev pub freed : View → View

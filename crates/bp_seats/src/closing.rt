@@ -1,8 +1,8 @@
 // A desk is closed once all its seats are back.
 ghost use Rattle.std.specs.Prelude.{◌≡◌, ℕ, ◌<◌, ◌≤◌, false, IsOkAnd};
 ghost use Rattle.bp_seats.specs.Closing.{Ended, Gathered};
-ghost use Rattle.bp_seats.specs.Seats.{AreSeats, Closes};
-ghost use Rattle.bp_seats.specs.Turns.{held};
+ghost use Rattle.bp_seats.specs.Seats.{AreSeats, SeatsClose};
+ghost use Rattle.bp_seats.specs.Turns.{times_held};
 
 use crate::desk::{Desk, DeskOf};
 use crate::seat::{Place, Seat, SeatOf};
@@ -24,7 +24,7 @@ impl<K: Keeper> Desk<K> {
     /// always Ok.
     pub fn close(self, alloc: Global, seats: Vec<Seat<K>>) -> Result<Closed<K>, NotClosed<K>>
         requires { AreSeats self seats.items }
-        ensures { IsOkAnd result (λ closed. Closes self seats.items closed.history
+        ensures { IsOkAnd result (λ closed. SeatsClose self seats.items closed.history
             closed.tables.matter (K.shows closed.keeper)) }
     {
         let _ = alloc;
@@ -64,7 +64,7 @@ impl<K: Keeper> Desk<K> {
         requires desk { place.table_id ≡ self.id }
         requires free { place.me.0.holds ≡ false }
         requires whole { (number : ℕ) → 0 < number → number ≤ self.seats
-            → 0 < held number place.me.0 }
+            → 0 < times_held number place.me.0 }
         ensures { Ended self place.me.0 result }
     {
         let DeskOf { table, seats: _ } = self;

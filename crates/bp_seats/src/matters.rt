@@ -4,7 +4,7 @@ ghost use Rattle.bp_keep.specs.Keeper.{KeeperView};
 ghost use Rattle.bp_desk.specs.Books.{Opens};
 ghost use Rattle.bp_desk.specs.declared.history.TheConstants.{MOST_CALLS};
 ghost use Rattle.bp_seats.specs.Matters.{ServesMatter, ServesNone, ServesPosts, post_seat};
-ghost use Rattle.bp_seats.specs.Seats.{AreSeats, Closes, all_fresh};
+ghost use Rattle.bp_seats.specs.Seats.{AreSeats, SeatsClose, all_fresh};
 
 use crate::desk::{Desk, MOST_SEATS};
 use crate::doors::{Post, serve_all};
@@ -116,7 +116,8 @@ fn serve_hall<K: Keeper + Send, D: Door + Send, R: Threads + Wait + Sync>(
 // What a desk leaves.
 fn closed_of<K: Keeper>(desk: Desk<K>, alloc: Global, seats: Vec<Seat<K>>) -> Closed<K>
     requires { AreSeats desk seats.items }
-    ensures { Closes desk seats.items result.history result.tables.matter (K.shows result.keeper) }
+    ensures { SeatsClose desk seats.items result.history result.tables.matter
+        (K.shows result.keeper) }
 {
     match desk.close(alloc, seats) {
         Ok(closed) => closed,

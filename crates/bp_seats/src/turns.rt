@@ -64,9 +64,9 @@ impl<K: Keeper, W: Said> Play<Option<Book<K>>, View> for Counts<W> {
 pub(crate) struct Tells;
 
 impl<K: Keeper> Play<Option<Book<K>>, View> for Tells {
-    ghost use Rattle.bp_seats.specs.Turns.{told};
+    ghost use Rattle.bp_seats.specs.Turns.{told_number};
 
-    ghost then = { told };
+    ghost then = { told_number };
 }
 
 // Leaves the turn, with the book at home.

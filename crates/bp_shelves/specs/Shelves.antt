@@ -7,7 +7,7 @@ use Rattle.bp_core.specs.Sorted.{ascends}
 
 -- what contracts see of shelves: the rows of all of them, one shelf behind the other, and how many
 -- rows each shelf takes without more memory
-pub record Shown (T : Type 0) : Type 0 where
+pub record ShelvesShown (T : Type 0) : Type 0 where
   pub rows : List T
   pub rooms : List ℕ
 

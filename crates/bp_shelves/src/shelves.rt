@@ -20,9 +20,9 @@ pub struct Shelves<T: Shelved> {
 
 impl<T: Shelved> Model for Shelves<T> {
     ghost use Rattle.std.specs.Prelude.{IsTrue};
-    ghost use Rattle.bp_shelves.specs.Shelves.{Shown, are_shelved, rooms_on, rows_on};
+    ghost use Rattle.bp_shelves.specs.Shelves.{ShelvesShown, are_shelved, rooms_on, rows_on};
 
-    ghost Value = { Shown T };
+    ghost Value = { ShelvesShown T };
 
     ghost view = { λ s. record {
       rows = rows_on s.shelves.items;

@@ -5,8 +5,8 @@ use Rattle.std.proofs.lemmas.List.{length-append, length-replicate, get_or_appen
 use Rattle.bp_rows.specs.Changes.{differs, Shows}
 use Rattle.bp_t6.specs.declared.reading.Under.{Under}
 use Rattle.bp_t6.specs.Places.{Place, start, least, a1, a2, b1, b2}
-use Rattle.bp_t6.specs.Modes.{Run, Mode, Pass, Horizontal, Vertical, pixels_of, from, after, painted, codes_of, end_of, pixels, Moves, AllMove}
-use Rattle.bp_t6.specs.Written.{run_of, chosen, chosen_modes, row_code}
+use Rattle.bp_t6.specs.Modes.{Run, Mode, Pass, Horizontal, Vertical, pixels_of_run, from, place_after, painted, codes_of, end_of_modes, pixels, Moves, AllMove}
+use Rattle.bp_t6.specs.Written.{written_run, chosen, chosen_modes, row_code}
 use Rattle.bp_t6.specs.Canonical.{AreCanonicalRuns, IsCanonical, AreCanonical, RowIsCoded}
 use Rattle.bp_t6.specs.Reading.{place_under, ModesRead}
 use Rattle.bp_t6.proofs.LeastLemmas.{prev, pix, is_least, hit, least-end}
@@ -86,13 +86,13 @@ module _ (above line : List Bool) (long : length above ≡ length line) where
   first_pixel : (modes : List Mode) (place : Place) → Paint_rest above line place modes → AreCanonical above place modes → 0 < place.right → place.right ≤ length line → get_or (pixels above place modes) 0 false ≡ place.black
   first_pixel [] place rest fine some on = absurd (omega (arith, rest.end, long))
   first_pixel (Pass ∷ modes) place rest fine some on =
-      let next = after above place Pass in first_of (from next - from place) place.black (pixels above next modes) (omega (arith, rest.move.0.onward))
+      let next = place_after above place Pass in first_of (from next - from place) place.black (pixels above next modes) (omega (arith, rest.move.0.onward))
   first_pixel (Vertical n ∷ modes) place rest fine some on =
-      let next = after above place (Vertical n) in first_of (from next - from place) place.black (pixels above next modes) (omega (arith, rest.move.0.onward))
+      let next = place_after above place (Vertical n) in first_of (from next - from place) place.black (pixels above next modes) (omega (arith, rest.move.0.onward))
   first_pixel (Horizontal p q ∷ modes) place rest fine some on =
-      let next = after above place (Horizontal p q) in
-      ap (λ ps. get_or ps 0 false) (append_assoc (replicate (pixels_of p) place.black) (replicate (pixels_of q) (not place.black)) (pixels above next modes))
-      ∙ first_of (pixels_of p) place.black (replicate (pixels_of q) (not place.black) ++ pixels above next modes) (fine.0.begins some)
+      let next = place_after above place (Horizontal p q) in
+      ap (λ ps. get_or ps 0 false) (append_assoc (replicate (pixels_of_run p) place.black) (replicate (pixels_of_run q) (not place.black)) (pixels above next modes))
+      ∙ first_of (pixels_of_run p) place.black (replicate (pixels_of_run q) (not place.black) ++ pixels above next modes) (fine.0.begins some)
 
   colour_before : (modes : List Mode) (place : Place) → Paint_rest above line place modes → AreCanonical above place modes → IsPlace place → place.right ≤ length line → prev line place.right ≡ place.black
   colour_before modes place rest fine white on = elim (cases_lt 0 place.right) [
@@ -104,16 +104,16 @@ module _ (above line : List Bool) (long : length above ≡ length line) where
   ]
 
   -- what is left after the first mode
-  painted_long : (place : Place) (mode : Mode) → Moves above place mode → length (painted place (after above place mode) mode) ≡ from (after above place mode) - from place
-  painted_long place Pass moves = length-replicate (from (after above place Pass) - from place) place.black
-  painted_long place (Vertical n) moves = length-replicate (from (after above place (Vertical n)) - from place) place.black
+  painted_long : (place : Place) (mode : Mode) → Moves above place mode → length (painted place (place_after above place mode) mode) ≡ from (place_after above place mode) - from place
+  painted_long place Pass moves = length-replicate (from (place_after above place Pass) - from place) place.black
+  painted_long place (Vertical n) moves = length-replicate (from (place_after above place (Vertical n)) - from place) place.black
   painted_long place (Horizontal p q) moves =
-      length-append (replicate (pixels_of p) place.black) (replicate (pixels_of q) (not place.black))
-      ∙ omega (arith, length-replicate (pixels_of p) place.black, length-replicate (pixels_of q) (not place.black))
+      length-append (replicate (pixels_of_run p) place.black) (replicate (pixels_of_run q) (not place.black))
+      ∙ omega (arith, length-replicate (pixels_of_run p) place.black, length-replicate (pixels_of_run q) (not place.black))
 
-  rest_after : (mode : Mode) (modes : List Mode) (place : Place) → Paint_rest above line place (mode ∷ modes) → Paint_rest above line (after above place mode) modes
+  rest_after : (mode : Mode) (modes : List Mode) (place : Place) → Paint_rest above line place (mode ∷ modes) → Paint_rest above line (place_after above place mode) modes
   rest_after mode modes place rest =
-      let next = after above place mode in
+      let next = place_after above place mode in
       let step = from next - from place in
       let moves = rest.move.0 in
       let there : from place + step ≡ from next = omega (arith, moves.onward) in
@@ -128,8 +128,8 @@ module _ (above line : List Bool) (long : length above ≡ length line) where
 
   module _ (place : Place) (modes : List Mode) (white : IsPlace place) where
     -- the colour from the new a0 on
-    turned : (mode : Mode) → Paint_rest above line place (mode ∷ modes) → AreCanonical above place (mode ∷ modes) → (after above place mode).right ≤ length line → prev line (after above place mode).right ≡ (after above place mode).black
-    turned mode rest fine on = colour_before modes (after above place mode) (rest_after mode modes place rest) fine.1 (λ e. absurd (omega (arith, rest.move.0.onward))) on
+    turned : (mode : Mode) → Paint_rest above line place (mode ∷ modes) → AreCanonical above place (mode ∷ modes) → (place_after above place mode).right ≤ length line → prev line (place_after above place mode).right ≡ (place_after above place mode).black
+    turned mode rest fine on = colour_before modes (place_after above place mode) (rest_after mode modes place rest) fine.1 (λ e. absurd (omega (arith, rest.move.0.onward))) on
 
     run_pixels : (n to : ℕ) (more : List Bool) → drop (from place) line ≡ replicate n place.black ++ more → n ≡ to - from place → (j : ℕ) → from place ≤ j → j < to → pix line j ≡ place.black
     run_pixels n to more is count j since until =
@@ -137,7 +137,7 @@ module _ (above line : List Bool) (long : length above ≡ length line) where
 
     pass_chosen : Paint_rest above line place (Pass ∷ modes) → AreCanonical above place (Pass ∷ modes) → prev line place.right ≡ place.black → chosen above line place ≡ Pass
     pass_chosen rest fine before =
-        let z = b2 above place in let next = after above place Pass in
+        let z = b2 above place in let next = place_after above place Pass in
         let inside : z < length line = omega (arith, fine.0, long) in
         let last : pix line z ≡ place.black = ap (prev line) (sym (add-one z)) ∙ turned Pass rest fine (omega arith) in
         chosen-pass above line place (a1_past line place before z inside (λ j since until. elim (cases_order j z) [
@@ -150,7 +150,7 @@ module _ (above line : List Bool) (long : length above ≡ length line) where
 
     vertical_chosen : (n : ℕ) → Paint_rest above line place (Vertical n ∷ modes) → AreCanonical above place (Vertical n ∷ modes) → prev line place.right ≡ place.black → chosen above line place ≡ Vertical n
     vertical_chosen n rest fine before =
-        let next = after above place (Vertical n) in let x = from next in let y = b1 above place in
+        let next = place_after above place (Vertical n) in let x = from next in let y = b1 above place in
         let moves = rest.move.0 in
         let right : next.right ≡ x + 1 = omega (arith, moves.onward) in
         let is : a1 line place ≡ x = a1_at line place before x (omega (arith, moves.onward)) (omega (arith, moves.within, long))
@@ -161,9 +161,9 @@ module _ (above line : List Bool) (long : length above ≡ length line) where
 
     horizontal_chosen : (p q : Run) → Paint_rest above line place (Horizontal p q ∷ modes) → AreCanonical above place (Horizontal p q ∷ modes) → prev line place.right ≡ place.black → chosen above line place ≡ Horizontal p q
     horizontal_chosen p q rest fine before =
-        let mode = Horizontal p q in let next = after above place mode in
+        let mode = Horizontal p q in let next = place_after above place mode in
         let moves = rest.move.0 in let runs = fine.0 in
-        let m = pixels_of p in let n = pixels_of q in
+        let m = pixels_of_run p in let n = pixels_of_run q in
         let x = from place + m in let y = x + n in
         let low : place.right ≤ x = elim (cases_lt 0 place.right) [ inl some ↦ omega (arith, runs.begins some) | inr none ↦ omega arith ] in
         let black = place.black in
@@ -182,12 +182,12 @@ module _ (above line : List Bool) (long : length above ≡ length line) where
         let first_is : a1 line place - from place ≡ m = omega (arith, one) in
         let second_is : a2 line place - a1 line place ≡ n = omega (arith, one, two) in
         chosen-horizontal above line place (omega (arith, one, runs.no_pass)) (apart one)
-        ∙ ap (λ k. Horizontal (run_of k) (run_of (a2 line place - a1 line place))) first_is
-        ∙ ap (λ k. Horizontal (run_of m) (run_of k)) second_is
-        ∙ ap (λ r. Horizontal r (run_of n)) (sym runs.first_coded)
+        ∙ ap (λ k. Horizontal (written_run k) (written_run (a2 line place - a1 line place))) first_is
+        ∙ ap (λ k. Horizontal (written_run m) (written_run k)) second_is
+        ∙ ap (λ r. Horizontal r (written_run n)) (sym runs.first_coded)
         ∙ ap (λ r. Horizontal p r) (sym runs.second_coded)
       where
-        apart : a1 line place ≡ from place + pixels_of p → near above line place ≡ false
+        apart : a1 line place ≡ from place + pixels_of_run p → near above line place ≡ false
         apart is = elim fine.0.far [
           | inl more ↦ and_left (nat_le (a1 line place) (b1 above place + 3)) (nat_le (b1 above place) (a1 line place + 3)) (lt-leb (a1 line place) (b1 above place + 3) (omega (arith, is)))
           | inr less ↦ and_right (nat_le (a1 line place) (b1 above place + 3)) (nat_le (b1 above place) (a1 line place + 3)) (lt-leb (b1 above place) (a1 line place + 3) (omega (arith, is)))
@@ -204,12 +204,12 @@ module _ (above line : List Bool) (long : length above ≡ length line) where
   modes_chosen [] place most rest fine white enough = at_end most above line place (omega (arith, rest.end, long))
   modes_chosen (mode ∷ modes) place zero rest fine white enough = absurd (omega (arith, rest.move.0.onward, rest.move.0.within, long))
   modes_chosen (mode ∷ modes) place (suc most) rest fine white enough =
-      let next = after above place mode in
+      let next = place_after above place mode in
       let moves = rest.move.0 in
       let on : place.right ≤ length line = omega (arith, moves.onward, moves.within, long) in
       let is = mode_chosen place modes white mode rest fine (colour_before (mode ∷ modes) place rest fine white on) in
       on_more most above line place on
-      ∙ ap (λ m. m ∷ chosen_modes most above line (after above place m)) is
+      ∙ ap (λ m. m ∷ chosen_modes most above line (place_after above place m)) is
       ∙ ap (λ ms. mode ∷ ms) (modes_chosen modes next most (rest_after mode modes place rest) fine.1 (λ e. absurd (omega (arith, moves.onward))) (omega (arith, moves.onward)))
 
 -- ---- a row

@@ -6,8 +6,8 @@ use Rattle.std.proofs.lemmas.List.{drop_all}
 use Rattle.bp_rows.specs.Changes.{differs}
 use Rattle.bp_rows.proofs.ShownLemmas.{other_pixel, one_run}
 use Rattle.bp_t6.specs.Places.{Place, leaves, a1, a2, b1, b2}
-use Rattle.bp_t6.specs.Modes.{pixels_of, Mode, Pass, Horizontal, Vertical, AreMakeUps, HasCodes, from, after, painted, end_of, pixels, Moves, AllMove}
-use Rattle.bp_t6.specs.Written.{run_of, chosen, chosen_modes}
+use Rattle.bp_t6.specs.Modes.{pixels_of_run, Mode, Pass, Horizontal, Vertical, AreMakeUps, HasCodes, from, place_after, painted, end_of_modes, pixels, Moves, AllMove}
+use Rattle.bp_t6.specs.Written.{written_run, chosen, chosen_modes}
 use Rattle.bp_t6.proofs.LeastLemmas.{prev, pix, least-end, none_before, hit, least-since, colour_stays}
 
 -- ---- runs
@@ -43,10 +43,10 @@ last_sum n = elim (cases_Bool (nat_lt (n % 2560) 64)) [
   | inr many ↦ ap (λ xs. 64 * sum xs + n % 64) (cond-false (nat_lt (n % 2560) 64) [] (n % 2560 / 64 ∷ []) many) ∙ omega arith
 ]
 
-pub run_of_codes : (n : ℕ) → HasCodes (run_of n)
+pub run_of_codes : (n : ℕ) → HasCodes (written_run n)
 run_of_codes n = record { make_ups = all_more (replicate (n / 2560) 40) (last_make_up n) (all_top (n / 2560)) (last_all n); rest = omega arith }
 
-pub run_of_pixels : (n : ℕ) → pixels_of (run_of n) ≡ n
+pub run_of_pixels : (n : ℕ) → pixels_of_run (written_run n) ≡ n
 run_of_pixels n = omega (arith, sum_top (n / 2560) (last_make_up n), last_sum n)
 
 -- ---- one mode
@@ -54,8 +54,8 @@ run_of_pixels n = omega (arith, sum_top (n / 2560) (last_make_up n), last_sum n)
 -- a mode from a place: it moves, paints what stands there, and the colour is that of the new a0
 pub record Right_step (above line : List Bool) (place : Place) (mode : Mode) : Type 0 where
   pub moves : Moves above place mode
-  pub paints : drop (from place) line ≡ painted place (after above place mode) mode ++ drop (from (after above place mode)) line
-  pub colour : (after above place mode).right ≤ length line → prev line (after above place mode).right ≡ (after above place mode).black
+  pub paints : drop (from place) line ≡ painted place (place_after above place mode) mode ++ drop (from (place_after above place mode)) line
+  pub colour : (place_after above place mode).right ≤ length line → prev line (place_after above place mode).right ≡ (place_after above place mode).black
 
 module _ (above line : List Bool) (place : Place) (long : length above ≡ length line) (within : place.right ≤ length line) (before : prev line place.right ≡ place.black) where
   -- pixels from a0 up to a1 have a0's colour
@@ -151,7 +151,7 @@ module _ (above line : List Bool) (place : Place) (long : length above ≡ lengt
       twice true = refl
       twice false = refl
 
-  horizontal_step : Right_step above line place (Horizontal (run_of first_run) (run_of second_run))
+  horizontal_step : Right_step above line place (Horizontal (written_run first_run) (written_run second_run))
   horizontal_step =
       let x = a1 line place in let z = a2 line place in
       let low : place.right ≤ x = least-since differs place.right line within in
@@ -162,8 +162,8 @@ module _ (above line : List Bool) (place : Place) (long : length above ≡ lengt
         | inr other ↦ elim other [ inl less ↦ (let h = hit differs (x + 1) line less in omega (arith, h.0)) | inr past ↦ absurd (omega arith) ]
       ] in
       let one = run_of_pixels first_run in let two = run_of_pixels second_run in
-      let there : from place + (pixels_of (run_of first_run) + pixels_of (run_of second_run)) + 1 ≡ z + 1 = omega arith in
-      let back : from place + (pixels_of (run_of first_run) + pixels_of (run_of second_run)) + 1 - 1 ≡ z = omega arith in
+      let there : from place + (pixels_of_run (written_run first_run) + pixels_of_run (written_run second_run)) + 1 ≡ z + 1 = omega arith in
+      let back : from place + (pixels_of_run (written_run first_run) + pixels_of_run (written_run second_run)) + 1 - 1 ≡ z = omega arith in
       let rest : drop x line ≡ replicate second_run (not place.black) ++ drop z line =
       one_run line x second_run (not place.black) (omega arith) (λ i since until. second_pixel i since (omega arith))
       ∙ ap (λ k. replicate second_run (not place.black) ++ drop k line) (omega arith) in
@@ -172,8 +172,8 @@ module _ (above line : List Bool) (place : Place) (long : length above ≡ lengt
         paints = to_run x (omega arith) (omega arith) ∙ ap (λ ps. replicate first_run place.black ++ ps) rest
             ∙ sym (append_assoc (replicate first_run place.black) (replicate second_run (not place.black)) (drop z line))
             ∙ ap (λ k. (replicate k place.black ++ replicate second_run (not place.black)) ++ drop z line) (sym one)
-            ∙ ap (λ k. (replicate (pixels_of (run_of first_run)) place.black ++ replicate k (not place.black)) ++ drop z line) (sym two)
-            ∙ ap (λ k. (replicate (pixels_of (run_of first_run)) place.black ++ replicate (pixels_of (run_of second_run)) (not place.black)) ++ drop k line) (sym back);
+            ∙ ap (λ k. (replicate (pixels_of_run (written_run first_run)) place.black ++ replicate k (not place.black)) ++ drop z line) (sym two)
+            ∙ ap (λ k. (replicate (pixels_of_run (written_run first_run)) place.black ++ replicate (pixels_of_run (written_run second_run)) (not place.black)) ++ drop k line) (sym back);
         colour = λ h. ap (prev line) (there ∙ add-one z) ∙ at_a2 (omega arith);
       }
 
@@ -182,7 +182,7 @@ module _ (above line : List Bool) (place : Place) (long : length above ≡ lengt
 chosen_step : (above line : List Bool) (place : Place) → length above ≡ length line → place.right ≤ length line → prev line place.right ≡ place.black → Right_step above line place (chosen above line place)
 chosen_step above line place long within before =
     let x = a1 line place in let y = b1 above place in let z = b2 above place in
-    let V = Vertical (x + 3 - y) in let H = Horizontal (run_of (x - from place)) (run_of (a2 line place - x)) in
+    let V = Vertical (x + 3 - y) in let H = Horizontal (written_run (x - from place)) (written_run (a2 line place - x)) in
     let near = nat_le x (y + 3) && nat_le y (x + 3) in
     let P : Mode → Type 0 = Right_step above line place in
     elim (cases_Bool (nat_lt z x)) [
@@ -198,7 +198,7 @@ chosen_step above line place long within before =
 -- modes from a place paint the rest of the line
 pub record Paint_rest (above line : List Bool) (place : Place) (modes : List Mode) : Type 0 where
   pub move : AllMove above place modes
-  pub end : (end_of above place modes).right ≡ length above + 1
+  pub end : (end_of_modes above place modes).right ≡ length above + 1
   pub paint : drop (from place) line ≡ pixels above place modes
 
 pub chosen_modes_paint : (most : ℕ) (above line : List Bool) (place : Place) → length above ≡ length line → length line + 1 ≤ most + place.right → place.right ≤ length line + 1 → (place.right ≤ length line → prev line place.right ≡ place.black) → Paint_rest above line place (chosen_modes most above line place)
@@ -208,7 +208,7 @@ chosen_modes_paint zero above line place long enough within before = record {
   paint = drop_all (from place) line (omega arith);
 }
 chosen_modes_paint (suc most) above line place long enough within before =
-    let next = after above place (chosen above line place) in
+    let next = place_after above place (chosen above line place) in
     let more = chosen above line place ∷ chosen_modes most above line next in
     let pick : Bool → List Mode = λ b. elim b [ true ↦ more | false ↦ [] ] in
     elim (cases_Bool (nat_le place.right (length line))) [

@@ -2,7 +2,7 @@
 use Rattle.std.proofs.Common.{ℕ, zero, suc, ◌+◌, ◌*◌, ◌^◌, ◌<◌, ◌≤◌, ◌≡◌, Bool, true, false, cond, List, [], ◌∷◌, ◌++◌, length, map, slice_get, Some, nat_le, refl, ap, sym, ◌∙◌, subst, arith, if◌then◌else◌}
 use Rattle.std.proofs.lemmas.Bool.{and_parts, leb-true}
 use Rattle.bp_codes.specs.declared.code.Code.{Code}
-use Rattle.bp_codes.specs.Bits.{number_of, code_bits, code_of_bits, low_bits}
+use Rattle.bp_codes.specs.Bits.{number_of_bits, code_bits, code_of_bits, low_bits}
 use Rattle.bp_codes.specs.CodeLists.{white_codes, black_codes, mode_codes}
 use Rattle.bp_codes.proofs.BitListLemmas.{number_of-below}
 use Rattle.bp_t6.specs.Modes.{code, run_codes}
@@ -17,14 +17,14 @@ first_bit : (b : Bool) → low_bits 1 (cond b 1 0) ≡ b ∷ []
 first_bit true = refl
 first_bit false = refl
 
-pub low_bits-number_of : (bits : List Bool) → low_bits (length bits) (number_of bits) ≡ bits
+pub low_bits-number_of : (bits : List Bool) → low_bits (length bits) (number_of_bits bits) ≡ bits
 low_bits-number_of [] = refl
 low_bits-number_of (b ∷ bits) =
     let size : suc (length bits) ≡ 1 + length bits = omega arith in
-    ap (λ n. low_bits n ((if b then 2 ^ length bits else 0) + number_of bits)) size
-    ∙ ap (λ v. low_bits (1 + length bits) (v + number_of bits)) (first_worth b (length bits))
-    ∙ low_bits-append 1 (length bits) (cond b 1 0) (number_of bits) (number_of-below bits)
-    ∙ ap (λ bs. bs ++ low_bits (length bits) (number_of bits)) (first_bit b)
+    ap (λ n. low_bits n ((if b then 2 ^ length bits else 0) + number_of_bits bits)) size
+    ∙ ap (λ v. low_bits (1 + length bits) (v + number_of_bits bits)) (first_worth b (length bits))
+    ∙ low_bits-append 1 (length bits) (cond b 1 0) (number_of_bits bits) (number_of-below bits)
+    ∙ ap (λ bs. bs ++ low_bits (length bits) (number_of_bits bits)) (first_bit b)
     ∙ ap (λ bs. b ∷ bs) (low_bits-number_of bits)
 
 -- what the table gives

@@ -4,8 +4,8 @@ use Rattle.std.proofs.lemmas.Bool.{cases_Bool, cases_lt, cond-true, cond-false, 
 use Rattle.bp_codes.specs.CodeLists.{mode_codes}
 use Rattle.bp_rows.specs.Changes.{differs, place_at, Shows}
 use Rattle.bp_t6.specs.Places.{Place, leaves, a1, a2, b1, b2}
-use Rattle.bp_t6.specs.Modes.{Mode, Pass, Horizontal, Vertical, code, run_codes, run_bits, run_bits_in, vertical_rows, mode_bits, from, after, codes_of, pixels_of}
-use Rattle.bp_t6.specs.Written.{run_of, chosen, chosen_modes}
+use Rattle.bp_t6.specs.Modes.{Mode, Pass, Horizontal, Vertical, code, run_codes, run_bits, run_bits_in, vertical_rows, mode_bits, from, place_after, codes_of, pixels_of_run}
+use Rattle.bp_t6.specs.Written.{written_run, chosen, chosen_modes}
 use Rattle.bp_t6.specs.Coding.{rest_code, IsNext, IsNextFrom}
 use Rattle.bp_t6.proofs.LeastLemmas.{least-since, least-end, hit}
 use Rattle.bp_t6.proofs.ChosenLemmas.{run_of_pixels}
@@ -21,7 +21,7 @@ module _ (above line : List Bool) (place : Place) where
   V = Vertical (a1 line place + 3 - b1 above place)
 
   abbrev H : Mode
-  H = Horizontal (run_of (a1 line place - from place)) (run_of (a2 line place - a1 line place))
+  H = Horizontal (written_run (a1 line place - from place)) (written_run (a2 line place - a1 line place))
 
   pub chosen-pass : b2 above place < a1 line place → chosen above line place ≡ Pass
   chosen-pass h = cond-true (nat_lt (b2 above place) (a1 line place)) Pass (if near then V else H) (lt-ltb (b2 above place) (a1 line place) h)
@@ -36,12 +36,12 @@ module _ (above line : List Bool) (place : Place) where
       cond-false (nat_lt (b2 above place) (a1 line place)) Pass (if near then V else H) (le-ltb (b2 above place) (a1 line place) h) ∙ cond-false near V H far
 
   -- it moves a0
-  pub chosen_moves : length above ≡ length line → place.right ≤ length line → place.right < (after above place (chosen above line place)).right
+  pub chosen_moves : length above ≡ length line → place.right ≤ length line → place.right < (place_after above place (chosen above line place)).right
   chosen_moves long within =
       let x = a1 line place in let y = b1 above place in let z = b2 above place in let u = a2 line place in
       let low : place.right ≤ x = least-since differs place.right line within in
       let end = least-end differs place.right line in
-      let P : Mode → Type 0 = λ m. place.right < (after above place m).right in
+      let P : Mode → Type 0 = λ m. place.right < (place_after above place m).right in
       elim (cases_lt z x) [
         | inl pass ↦ subst P (sym (chosen-pass pass)) (let since = hit differs (y + 1) above (omega arith) in let first = least-since (leaves place.black) place.right above (omega arith) in omega (arith, since.0))
         | inr far ↦ elim (cases_Bool near) [
@@ -55,16 +55,16 @@ module _ (above line : List Bool) (place : Place) where
 
 -- ---- the number of modes that are allowed does not matter
 
-pub on_more : (most : ℕ) (above line : List Bool) (place : Place) → place.right ≤ length line → chosen_modes (suc most) above line place ≡ chosen above line place ∷ chosen_modes most above line (after above place (chosen above line place))
+pub on_more : (most : ℕ) (above line : List Bool) (place : Place) → place.right ≤ length line → chosen_modes (suc most) above line place ≡ chosen above line place ∷ chosen_modes most above line (place_after above place (chosen above line place))
 on_more most above line place h =
-    let more = chosen above line place ∷ chosen_modes most above line (after above place (chosen above line place)) in
+    let more = chosen above line place ∷ chosen_modes most above line (place_after above place (chosen above line place)) in
     let pick : Bool → List Mode = λ b. elim b [ true ↦ more | false ↦ [] ] in
     ap pick (le-leb place.right (length line) h)
 
 pub at_end : (most : ℕ) (above line : List Bool) (place : Place) → length line < place.right → chosen_modes most above line place ≡ []
 at_end zero above line place h = refl
 at_end (suc most) above line place h =
-    let more = chosen above line place ∷ chosen_modes most above line (after above place (chosen above line place)) in
+    let more = chosen above line place ∷ chosen_modes most above line (place_after above place (chosen above line place)) in
     let pick : Bool → List Mode = λ b. elim b [ true ↦ more | false ↦ [] ] in
     ap pick (lt-leb place.right (length line) h)
 
@@ -77,29 +77,29 @@ enough (suc m) (suc n) above line place long h k =
       | inr on ↦
           let moved = chosen_moves above line place long on in
           on_more m above line place on
-          ∙ ap (λ ms. chosen above line place ∷ ms) (enough m n above line (after above place (chosen above line place)) long (omega arith) (omega arith))
+          ∙ ap (λ ms. chosen above line place ∷ ms) (enough m n above line (place_after above place (chosen above line place)) long (omega arith) (omega arith))
           ∙ sym (on_more n above line place on)
     ]
 
 pub rest-end : (above line : List Bool) (place : Place) → length line < place.right → rest_code above line place ≡ []
 rest-end above line place h = ap (codes_of above place) (at_end (length line + 1) above line place h)
 
-pub rest_more : (above line : List Bool) (place : Place) (mode : Mode) → length above ≡ length line → place.right ≤ length line → chosen above line place ≡ mode → rest_code above line place ≡ mode_bits place.black mode ++ rest_code above line (after above place mode)
+pub rest_more : (above line : List Bool) (place : Place) (mode : Mode) → length above ≡ length line → place.right ≤ length line → chosen above line place ≡ mode → rest_code above line place ≡ mode_bits place.black mode ++ rest_code above line (place_after above place mode)
 rest_more above line place mode long on is =
-    let next = after above place (chosen above line place) in
+    let next = place_after above place (chosen above line place) in
     let moved = chosen_moves above line place long on in
     let count : length line + 1 ≡ suc (length line) = omega arith in
     ap (λ n. codes_of above place (chosen_modes n above line place)) count
     ∙ ap (codes_of above place) (on_more (length line) above line place on)
     ∙ ap (λ ms. mode_bits place.black (chosen above line place) ++ codes_of above next ms) (enough (length line) (length line + 1) above line next long (omega arith) (omega arith))
-    ∙ ap (λ m. mode_bits place.black m ++ rest_code above line (after above place m)) is
+    ∙ ap (λ m. mode_bits place.black m ++ rest_code above line (place_after above place m)) is
 
 -- put is what was still to be written
-pub put_more : (above line : List Bool) (place next : Place) (mode : Mode) (old new : List Bool) → length above ≡ length line → place.right ≤ length line → chosen above line place ≡ mode → after above place mode ≡ next → new ≡ old ++ mode_bits place.black mode → old ++ rest_code above line place ≡ new ++ rest_code above line next
+pub put_more : (above line : List Bool) (place next : Place) (mode : Mode) (old new : List Bool) → length above ≡ length line → place.right ≤ length line → chosen above line place ≡ mode → place_after above place mode ≡ next → new ≡ old ++ mode_bits place.black mode → old ++ rest_code above line place ≡ new ++ rest_code above line next
 put_more above line place next mode old new long on is there put =
     ap (λ bs. old ++ bs) (rest_more above line place mode long on is)
-    ∙ sym (append_assoc old (mode_bits place.black mode) (rest_code above line (after above place mode)))
-    ∙ ap (λ bs. bs ++ rest_code above line (after above place mode)) (sym put)
+    ∙ sym (append_assoc old (mode_bits place.black mode) (rest_code above line (place_after above place mode)))
+    ∙ ap (λ bs. bs ++ rest_code above line (place_after above place mode)) (sym put)
     ∙ ap (λ p. new ++ rest_code above line p) there
 
 -- ---- in lists of places
@@ -152,19 +152,19 @@ module _ (line above : List ℕ) (width : ℕ) (right : ℕ) (black : Bool) (c r
       (ap (λ m. at_place m (not black)) to)
       (put ∙ ap (λ k. old ++ code mode_codes k) row_is)
 
-  pub horizontal_put : (old first second new : List Bool) → x ≤ z → ((y + 3 < x) ⊎ (x + 3 < y)) → first ≡ old ++ code mode_codes 1 → second ≡ first ++ run_bits_in (run_codes black) (run_of (x - (right - 1))) → new ≡ second ++ run_bits_in (run_codes (not black)) (run_of (u - x)) → old ++ rest_code over row here ≡ new ++ rest_code over row (at_place (u + 1) black)
+  pub horizontal_put : (old first second new : List Bool) → x ≤ z → ((y + 3 < x) ⊎ (x + 3 < y)) → first ≡ old ++ code mode_codes 1 → second ≡ first ++ run_bits_in (run_codes black) (written_run (x - (right - 1))) → new ≡ second ++ run_bits_in (run_codes (not black)) (written_run (u - x)) → old ++ rest_code over row here ≡ new ++ rest_code over row (at_place (u + 1) black)
   horizontal_put old first second new h apart one two three =
-      let A = run_of (x - (right - 1)) in let B = run_of (u - x) in
+      let A = written_run (x - (right - 1)) in let B = written_run (u - x) in
       let far : near over row here ≡ false = elim apart [
         | inl more ↦ far_left more
         | inr less ↦ far_right less
       ] in
       let is : chosen over row here ≡ Horizontal A B = chosen-horizontal over row here (omega (arith, x_is, z_is)) far
-      ∙ ap (λ a. Horizontal (run_of (a - (right - 1))) (run_of (a2 row here - a))) x_is ∙ ap (λ b. Horizontal A (run_of (b - x))) u_is in
+      ∙ ap (λ a. Horizontal (written_run (a - (right - 1))) (written_run (a2 row here - a))) x_is ∙ ap (λ b. Horizontal A (written_run (b - x))) u_is in
       let low : right ≤ x = next.ahead in
       let up : x ≤ u = up_to in
       let p = run_of_pixels (x - (right - 1)) in let q = run_of_pixels (u - x) in
-      let to : (right - 1) + (pixels_of A + pixels_of B) + 1 ≡ u + 1 = omega arith in
+      let to : (right - 1) + (pixels_of_run A + pixels_of_run B) + 1 ≡ u + 1 = omega arith in
       put_more over row here (at_place (u + 1) black) (Horizontal A B) old new wide (omega (arith, shows.long)) is (ap (λ m. at_place m black) to)
       (three ∙ ap (λ bs. bs ++ run_bits (not black) B) (two ∙ ap (λ bs. bs ++ run_bits black A) one)
       ∙ append_assoc (old ++ code mode_codes 1) (run_bits black A) (run_bits (not black) B)

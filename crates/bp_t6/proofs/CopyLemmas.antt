@@ -4,7 +4,7 @@ use Rattle.std.specs.Prelude.{slice_get, slice_range}
 use Rattle.std.proofs.lemmas.Nat.{div_below, pow-add, pow_below, pow_pos}
 use Rattle.std.proofs.lemmas.List.{drop-drop, drop-take, get_or-take, length-replicate, length-take, take-append-drop, take_at, take_more}
 use Rattle.bp_codes.specs.Ahead.{IsAhead}
-use Rattle.bp_codes.specs.Bits.{low_bits, number_of}
+use Rattle.bp_codes.specs.Bits.{low_bits, number_of_bits}
 use Rattle.bp_codes.proofs.AheadLemmas.{window_ahead}
 use Rattle.bp_rows.specs.Bits.{row_bytes}
 use Rattle.bp_rows.specs.Image.{Image, IsPage, row_of}
@@ -38,7 +38,7 @@ bit_there (x ∷ bits) zero b e = let same : x ≡ b = cc in ap (λ (y : Bool). 
 bit_there (x ∷ bits) (suc at) b e = bit_there bits at b e
 
 -- the first bits of a look-ahead, as a number
-first_number : (word len : ℕ) (bits : List Bool) → IsAhead word bits → len ≤ 13 → word < 2 ^ 64 → word / 2 ^ (64 - len) ≡ number_of (take len bits)
+first_number : (word len : ℕ) (bits : List Bool) → IsAhead word bits → len ≤ 13 → word < 2 ^ 64 → word / 2 ^ (64 - len) ≡ number_of_bits (take len bits)
 first_number word len bits ahead short small =
     let same : word ≡ word * 2 ^ 0 % 2 ^ 64 = omega (arith, small) in
     ap (λ v. v / 2 ^ (64 - len)) same ∙ window_ahead word 0 len bits ahead (omega arith)
@@ -48,7 +48,7 @@ first_code word len number bits ahead short small is =
     let front = take len bits in
     let long : length front ≡ len = omega (arith, length-take len bits, ahead.long) in
     ap (low_bits len) (is ∙ first_number word len bits ahead short small)
-    ∙ ap (λ n. low_bits n (number_of front)) (sym long) ∙ low_bits-number_of front
+    ∙ ap (λ n. low_bits n (number_of_bits front)) (sym long) ∙ low_bits-number_of front
 
 pub first_below : (word len : ℕ) → len ≤ 13 → word < 2 ^ 64 → word / 2 ^ (64 - len) < 2 ^ len
 first_below word len short small =

@@ -6,7 +6,7 @@ use Rattle.std.proofs.lemmas.List.{take_at, length-append, length-replicate, rep
 use Rattle.std.proofs.lemmas.Nat.{pow_pos, shl_whole, shl_below}
 use Rattle.std.proofs.lemmas.Nat.Bits.{bit_at-zero}
 use Rattle.bp_codes.specs.declared.span.Fill.TheVariants.{High}
-use Rattle.bp_codes.specs.Bits.{byte_bits, bits_of, low_bits, number_of}
+use Rattle.bp_codes.specs.Bits.{byte_bits, bits_of, low_bits, number_of_bits}
 use Rattle.bp_codes.proofs.BitListLemmas.{number-high, length-bits_of}
 use Rattle.bp_rows.specs.Bits.{row_bytes}
 use Rattle.bp_rows.specs.Packed.{digit_at, packed_byte, packed_row}
@@ -30,7 +30,7 @@ same_bytes (x ∷ xs) [] h k e = cc
 same_bytes (x ∷ xs) (y ∷ ys) h k e =
     let first : byte_bits High x ≡ byte_bits High y = cc in
     let rest : bits_of High xs ≡ bits_of High ys = cc in
-    let same : x ≡ y = sym (number-high x (h 0)) ∙ ap number_of first ∙ number-high y (k 0) in
+    let same : x ≡ y = sym (number-high x (h 0)) ∙ ap number_of_bits first ∙ number-high y (k 0) in
     ap (λ b. b ∷ xs) same ∙ ap (λ bs. y ∷ bs) (same_bytes xs ys (λ i. h (suc i)) (λ i. k (suc i)) rest)
 
 digit_of_small : (b : Bool) → cond b 1 0 < 2

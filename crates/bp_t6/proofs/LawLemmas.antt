@@ -7,7 +7,7 @@ use Rattle.bp_codes.specs.Bits.{bits_of}
 use Rattle.bp_rows.specs.Bits.{row_bytes}
 use Rattle.bp_rows.specs.Image.{Image, IsPage}
 use Rattle.bp_t6.specs.Places.{start}
-use Rattle.bp_t6.specs.Written.{chosen_modes, row_code, lines_code, white_line, strip_bits, strip_of}
+use Rattle.bp_t6.specs.Written.{chosen_modes, row_code, lines_code, white_line, strip_bits, bits_strip}
 use Rattle.bp_t6.specs.Read.{RowReads, LinesRead, StripReads}
 use Rattle.bp_t6.proofs.ChosenLemmas.{chosen_modes_paint}
 use Rattle.bp_rows.proofs.PixelLemmas.{pixels_in-packed_row}
@@ -30,7 +30,7 @@ lines_read width above rest (line ∷ lines) long wide =
     let P : List Bool → Type 0 = λ bs. RowReads above bs line bits in
     (bits, subst P (sym (append_assoc (row_code above line) (lines_code line lines) rest)) first, lines_read width line rest lines here (λ i h. wide (suc i) (omega arith)))
 
-pub strip_read : (p : Image) → IsPage p → StripReads (bits_of High (strip_of p)) p.width p.height p.rows
+pub strip_read : (p : Image) → IsPage p → StripReads (bits_of High (bits_strip p)) p.width p.height p.rows
 strip_read p page =
     let rest = replicate (8 * row_bytes (length (strip_bits p)) - length (strip_bits p)) false in
     let P : List Bool → Type 0 = λ bs. LinesRead (white_line p.width) bs p.rows in
@@ -40,9 +40,9 @@ strip_read p page =
           (lines_read p.width (white_line p.width) rest p.rows (length-replicate p.width false) (λ i h. page.grid.across i (subst (λ (n : ℕ). i < n) page.grid.down h)));
     }
 
-pub strip_read_only : (p : Image) (lines : List (List Bool)) → AreFree → IsPage p → StripReads (bits_of High (strip_of p)) p.width p.height lines ↔ (lines ≡ p.rows)
+pub strip_read_only : (p : Image) (lines : List (List Bool)) → AreFree → IsPage p → StripReads (bits_of High (bits_strip p)) p.width p.height lines ↔ (lines ≡ p.rows)
 strip_read_only p lines free page =
     let own = strip_read p page in (
-      λ h. one_page (white_line p.width) (bits_of High (strip_of p)) lines p.rows free (h.count ∙ sym own.count) h.read own.read,
-      λ e. subst (StripReads (bits_of High (strip_of p)) p.width p.height) (sym e) own,
+      λ h. one_page (white_line p.width) (bits_of High (bits_strip p)) lines p.rows free (h.count ∙ sym own.count) h.read own.read,
+      λ e. subst (StripReads (bits_of High (bits_strip p)) p.width p.height) (sym e) own,
     )

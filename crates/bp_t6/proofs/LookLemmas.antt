@@ -6,9 +6,9 @@ use Rattle.std.proofs.lemmas.List.{append-nil, length-append, drop-drop, replica
 use Rattle.std.proofs.lemmas.List.Sums.{sum_by-append, sum_by-cons}
 use Rattle.bp_codes.specs.declared.code.NoCode.{NoCode}
 use Rattle.bp_codes.specs.CodeLists.{mode_codes}
-use Rattle.bp_codes.specs.NextCode.{begins, same_bit, row_at, row_or, no_code, next_row}
-use Rattle.bp_t6.specs.Modes.{Run, pixels_of, AreMakeUps, HasCodes, code, run_codes, run_bits_in}
-use Rattle.bp_t6.specs.Written.{run_of}
+use Rattle.bp_codes.specs.NextCode.{begins_code, same_bit, row_at, row_or, no_code, next_row}
+use Rattle.bp_t6.specs.Modes.{Run, pixels_of_run, AreMakeUps, HasCodes, code, run_codes, run_bits_in}
+use Rattle.bp_t6.specs.Written.{written_run}
 use Rattle.bp_core.specs.declared.rules.RuleKind.TheVariants.{T6BadPlace}
 use Rattle.bp_t6.specs.Faults.{RunFault, missing_code, row_pixels}
 use Rattle.bp_t6.proofs.RunCodeLemmas.{flat_map-append, make_up}
@@ -19,11 +19,11 @@ same_when false false e = refl
 same_when true false e = cc
 same_when false true e = cc
 
-begins_split : (c bits : List Bool) → begins c bits ≡ true → bits ≡ c ++ drop (length c) bits
+begins_split : (c bits : List Bool) → begins_code c bits ≡ true → bits ≡ c ++ drop (length c) bits
 begins_split [] bits e = refl
 begins_split (x ∷ c) [] e = cc
 begins_split (x ∷ c) (y ∷ bits) e =
-    let both = and_parts (same_bit x y) (begins c bits) e in
+    let both = and_parts (same_bit x y) (begins_code c bits) e in
     ap (λ b. b ∷ bits) (same_when x y both.0) ∙ ap (λ bs. x ∷ bs) (begins_split c bits both.1)
 
 abbrev Found : (List Bool → Bool) → ℕ → List (List Bool) → ℕ → Type 0
@@ -50,14 +50,14 @@ from_row_or (Some r) why row e = let same : r ≡ row = cc in ap Some same
 -- the bits begin with the code of the row
 pub row_found : (codes : List (List Bool)) (bits : List Bool) (row : ℕ) → next_row codes bits ≡ Ok row → bits ≡ code codes row ++ drop (length (code codes row)) bits
 row_found codes bits row e =
-    let found = found_from (λ c. begins c bits) 0 codes row (from_row_or (row_at codes bits) (no_code codes bits) row e) in
+    let found = found_from (λ c. begins_code c bits) 0 codes row (from_row_or (row_at codes bits) (no_code codes bits) row e) in
     let same : found.0 ≡ row = omega (arith, found.1) in
-    begins_split (code codes row) bits (ap (λ j. begins (get_or codes j []) bits) (sym same) ∙ found.3)
+    begins_split (code codes row) bits (ap (λ j. begins_code (get_or codes j []) bits) (sym same) ∙ found.3)
 
 -- the row is one of the table's
 pub row_in_table : (codes : List (List Bool)) (bits : List Bool) (row : ℕ) → next_row codes bits ≡ Ok row → row < length codes
 row_in_table codes bits row e =
-    let found = found_from (λ c. begins c bits) 0 codes row (from_row_or (row_at codes bits) (no_code codes bits) row e) in
+    let found = found_from (λ c. begins_code c bits) 0 codes row (from_row_or (row_at codes bits) (no_code codes bits) row e) in
     omega (arith, found.1, found.2)
 
 -- ---- the make-up codes of a run so far
@@ -69,7 +69,7 @@ pub record MakeUps (codes : List (List Bool)) (bits : List Bool) (start at pixel
   pub total : 64 * sum ns ≡ pixels
   pub reads : drop start bits ≡ flat_map (make_up codes) ns ++ drop at bits
   pub long : at ≡ start + length (flat_map (make_up codes) ns)
-  pub chosen : canonical ≡ true → ns ≡ (run_of pixels).make_ups
+  pub chosen : canonical ≡ true → ns ≡ (written_run pixels).make_ups
 
 pub none_yet : (codes : List (List Bool)) (bits : List Bool) (start : ℕ) → MakeUps codes bits start start 0 true
 none_yet codes bits start = record { ns = []; are = tt; total = refl; reads = refl; long = omega arith; chosen = λ e. refl }
@@ -79,7 +79,7 @@ are_more [] n h low high = ((low, high), tt)
 are_more (m ∷ ns) n h low high = (h.0, are_more ns n h.1 low high)
 
 -- behind longest make-up codes alone one of any length is the coder's
-run_more : (pixels n : ℕ) → pixels % 2560 ≡ 0 → 1 ≤ n → n ≤ 40 → (run_of (pixels + 64 * n)).make_ups ≡ (run_of pixels).make_ups ++ n ∷ []
+run_more : (pixels n : ℕ) → pixels % 2560 ≡ 0 → 1 ≤ n → n ≤ 40 → (written_run (pixels + 64 * n)).make_ups ≡ (written_run pixels).make_ups ++ n ∷ []
 run_more pixels n whole low high = elim (cases_lt n 40) [
   | inl less ↦
       let count : (pixels + 64 * n) / 2560 ≡ k = omega (arith, whole) in
@@ -108,17 +108,17 @@ run_more pixels n whole low high = elim (cases_lt n 40) [
     few_left : pixels % 2560 < 64
     few_left = omega (arith, whole)
 
-    front : (run_of pixels).make_ups ≡ replicate k 40
+    front : (written_run pixels).make_ups ≡ replicate k 40
     front = ap (λ ns. replicate k 40 ++ ns) (cond-true (nat_lt (pixels % 2560) 64) [] (pixels % 2560 / 64 ∷ []) (lt-ltb (pixels % 2560) 64 few_left)) ∙ append-nil (replicate k 40)
 
 -- a terminating code ends the coder's run
-run_ended : (pixels rest : ℕ) (ns : List ℕ) → rest < 64 → pixels % 64 ≡ 0 → ns ≡ (run_of pixels).make_ups → ◌≡◌ {A = Run} (record { make_ups = ns; rest = rest }) (run_of (pixels + rest))
+run_ended : (pixels rest : ℕ) (ns : List ℕ) → rest < 64 → pixels % 64 ≡ 0 → ns ≡ (written_run pixels).make_ups → ◌≡◌ {A = Run} (record { make_ups = ns; rest = rest }) (written_run (pixels + rest))
 run_ended pixels rest ns few whole is =
     let all = pixels + rest in
     let count : pixels / 2560 ≡ all / 2560 = omega (arith, whole) in
     let own : rest ≡ all % 64 = omega (arith, whole) in
     ap (λ ms. run ms rest) (is ∙ ap (λ j. replicate j 40 ++ last_make_up pixels) count ∙ ap (λ ms. replicate (all / 2560) 40 ++ ms) (same_last (cases_lt (pixels % 2560) 64)))
-    ∙ ap (run (run_of all).make_ups) own
+    ∙ ap (run (written_run all).make_ups) own
   where
     run : List ℕ → ℕ → Run
     run ms r = record { make_ups = ms; rest = r }
@@ -162,8 +162,8 @@ make_up_more codes bits start at pixels row len old new so is long low high fine
 pub record RunEnds (table : List (List Bool)) (bits : List Bool) (n : ℕ) (canonical : Bool) (rest : List Bool) : Type 0 where
   pub run : Run
   pub has : HasCodes run
-  pub size : pixels_of run ≡ n
-  pub chosen : canonical ≡ true → run ≡ run_of n
+  pub size : pixels_of_run run ≡ n
+  pub chosen : canonical ≡ true → run ≡ written_run n
   pub codes : bits ≡ run_bits_in table run ++ rest
 
 -- a terminating code

@@ -8,7 +8,7 @@ use Rattle.bp_core.specs.declared.rules.RuleKind.{RuleKind}
 use Rattle.bp_core.specs.declared.rules.RuleKind.TheVariants.{T6ShortData, T6EarlyEnd, T6Extension}
 use Rattle.bp_codes.specs.declared.code.NoCode.{NoCode}
 use Rattle.bp_codes.specs.declared.code.NoCode.TheVariants.{Ends, Strange}
-use Rattle.bp_codes.specs.NextCode.{begins, is_cut, row_at, no_code, row_or, next_row}
+use Rattle.bp_codes.specs.NextCode.{begins_code, is_cut, row_at, no_code, row_or, next_row}
 use Rattle.bp_codes.specs.CodeLists.{mode_codes, extension_code, end_of_block}
 use Rattle.bp_t6.specs.declared.missing.Front.{Front}
 use Rattle.bp_t6.specs.declared.missing.Front.TheVariants as fronts
@@ -17,9 +17,9 @@ use Rattle.bp_t6.specs.Reading.{front_of}
 use Rattle.bp_t6.proofs.OneReadingLemmas.{mode_rows}
 
 abbrev pub Stands : Front → List Bool → List Bool → Type 0
-Stands fronts.Begins code bits = begins code bits ≡ true
-Stands fronts.Ends code bits = (begins code bits ≡ false) × (is_cut code bits ≡ true)
-Stands fronts.Differs code bits = (begins code bits ≡ false) × (is_cut code bits ≡ false)
+Stands fronts.Begins code bits = begins_code code bits ≡ true
+Stands fronts.Ends code bits = (begins_code code bits ≡ false) × (is_cut code bits ≡ true)
+Stands fronts.Differs code bits = (begins_code code bits ≡ false) × (is_cut code bits ≡ false)
 
 again_true : (f : Front) (code bits : List Bool) → Stands f code bits → Stands f (true ∷ code) (true ∷ bits)
 again_true fronts.Begins code bits s = s
@@ -52,7 +52,7 @@ front_differs false false code bits e = absurd (e refl)
 front_differs true false code bits e = refl
 front_differs false true code bits e = refl
 
-begins_long : (code bits : List Bool) → begins code bits ≡ true → length code ≤ length bits
+begins_long : (code bits : List Bool) → begins_code code bits ≡ true → length code ≤ length bits
 begins_long [] bits e = omega arith
 begins_long (c ∷ code) [] e = absurd (cc)
 begins_long (true ∷ code) (true ∷ bits) e = omega (arith, begins_long code bits e)
@@ -95,12 +95,12 @@ none_of : (o : Option ℕ) (n why : NoCode) → row_or o n ≡ Err why → (o �
 none_of None n why e = let same : n ≡ why = cc in (refl, same)
 none_of (Some r) n why e = cc
 
-due_tail : (bits : List Bool) (why : NoCode) → next_row mode_codes bits ≡ Err why → next_row due_codes bits ≡ tail (begins extension_code bits) (begins end_of_block bits) (list_any (λ code. is_cut code bits) mode_codes) (is_cut extension_code bits) (is_cut end_of_block bits)
+due_tail : (bits : List Bool) (why : NoCode) → next_row mode_codes bits ≡ Err why → next_row due_codes bits ≡ tail (begins_code extension_code bits) (begins_code end_of_block bits) (list_any (λ code. is_cut code bits) mode_codes) (is_cut extension_code bits) (is_cut end_of_block bits)
 due_tail bits why e =
     let parts = none_of (row_at mode_codes bits) (no_code mode_codes bits) why e in
     let more = extension_code ∷ end_of_block ∷ [] in
-    ap (λ r. row_or r (no_code due_codes bits)) (position-append (λ code. begins code bits) 0 9 mode_codes more parts.0 (omega (arith, mode_rows)))
-    ∙ ap (λ b. row_or (position_from (λ code. begins code bits) 9 more) (if b then Ends else Strange)) (any-append (λ code. is_cut code bits) mode_codes more)
+    ap (λ r. row_or r (no_code due_codes bits)) (position-append (λ code. begins_code code bits) 0 9 mode_codes more parts.0 (omega (arith, mode_rows)))
+    ∙ ap (λ b. row_or (position_from (λ code. begins_code code bits) 9 more) (if b then Ends else Strange)) (any-append (λ code. is_cut code bits) mode_codes more)
 
 abbrev Five : Bool → Bool → Bool → Bool → Bool → Option RuleKind
 Five x e a c d = mode_fault (tail x e a c d)
@@ -118,8 +118,8 @@ neither true why e = ap (λ w. Some (missing_code w)) e
 neither false why e = ap (λ w. Some (missing_code w)) e
 
 -- the block does not begin where the bits end within an extension
-not_block : (bits : List Bool) → is_cut extension_code bits ≡ true → begins end_of_block bits ≡ false
-not_block bits cut = elim (cases_Bool (begins end_of_block bits)) [
+not_block : (bits : List Bool) → is_cut extension_code bits ≡ true → begins_code end_of_block bits ≡ false
+not_block bits cut = elim (cases_Bool (begins_code end_of_block bits)) [
   | inl is ↦ (let long : 24 ≤ length bits = begins_long end_of_block bits is in let short : length bits < 7 = cut_short extension_code bits cut in absurd (omega arith))
   | inr not ↦ not
 ]
@@ -131,18 +131,18 @@ module _ (bits : List Bool) (why : NoCode) (none : next_row mode_codes bits ≡ 
   abbrev All : Bool → Bool → Bool → Bool → Option RuleKind
   All x e c d = Five x e A c d
 
-  is_all : mode_fault (next_row due_codes bits) ≡ All (begins extension_code bits) (begins end_of_block bits) (is_cut extension_code bits) (is_cut end_of_block bits)
+  is_all : mode_fault (next_row due_codes bits) ≡ All (begins_code extension_code bits) (begins_code end_of_block bits) (is_cut extension_code bits) (is_cut end_of_block bits)
   is_all = ap mode_fault (due_tail bits why none)
 
   pub extension_stands : front_of extension_code bits ≡ fronts.Begins → mode_fault (next_row due_codes bits) ≡ Some T6Extension
   extension_stands e =
       let s = subst (λ (f : Front). Stands f extension_code bits) e (stands extension_code bits) in
-      is_all ∙ ap (λ x. All x (begins end_of_block bits) (is_cut extension_code bits) (is_cut end_of_block bits)) s
+      is_all ∙ ap (λ x. All x (begins_code end_of_block bits) (is_cut extension_code bits) (is_cut end_of_block bits)) s
 
   pub extension_ends : front_of extension_code bits ≡ fronts.Ends → mode_fault (next_row due_codes bits) ≡ Some T6ShortData
   extension_ends e =
       let s = subst (λ (f : Front). Stands f extension_code bits) e (stands extension_code bits) in
-      is_all ∙ ap (λ x. All x (begins end_of_block bits) (is_cut extension_code bits) (is_cut end_of_block bits)) s.0
+      is_all ∙ ap (λ x. All x (begins_code end_of_block bits) (is_cut extension_code bits) (is_cut end_of_block bits)) s.0
       ∙ ap (λ x. All false x (is_cut extension_code bits) (is_cut end_of_block bits)) (not_block bits s.1)
       ∙ ap (λ x. All false false x (is_cut end_of_block bits)) s.1 ∙ any_true A (is_cut end_of_block bits)
 
@@ -150,14 +150,14 @@ module _ (bits : List Bool) (why : NoCode) (none : next_row mode_codes bits ≡ 
   block_stands e f =
       let s = subst (λ (f : Front). Stands f extension_code bits) e (stands extension_code bits) in
       let t = subst (λ (f : Front). Stands f end_of_block bits) f (stands end_of_block bits) in
-      is_all ∙ ap (λ x. All x (begins end_of_block bits) (is_cut extension_code bits) (is_cut end_of_block bits)) s.0
+      is_all ∙ ap (λ x. All x (begins_code end_of_block bits) (is_cut extension_code bits) (is_cut end_of_block bits)) s.0
       ∙ ap (λ x. All false x (is_cut extension_code bits) (is_cut end_of_block bits)) t
 
   pub block_ends : front_of extension_code bits ≡ fronts.Differs → front_of end_of_block bits ≡ fronts.Ends → mode_fault (next_row due_codes bits) ≡ Some T6ShortData
   block_ends e f =
       let s = subst (λ (f : Front). Stands f extension_code bits) e (stands extension_code bits) in
       let t = subst (λ (f : Front). Stands f end_of_block bits) f (stands end_of_block bits) in
-      is_all ∙ ap (λ x. All x (begins end_of_block bits) (is_cut extension_code bits) (is_cut end_of_block bits)) s.0
+      is_all ∙ ap (λ x. All x (begins_code end_of_block bits) (is_cut extension_code bits) (is_cut end_of_block bits)) s.0
       ∙ ap (λ x. All false x (is_cut extension_code bits) (is_cut end_of_block bits)) t.0
       ∙ ap (λ x. All false false x (is_cut end_of_block bits)) s.1
       ∙ ap (λ x. All false false false x) t.1 ∙ last_true A
@@ -166,7 +166,7 @@ module _ (bits : List Bool) (why : NoCode) (none : next_row mode_codes bits ≡ 
   neither_stands e f =
       let s = subst (λ (f : Front). Stands f extension_code bits) e (stands extension_code bits) in
       let t = subst (λ (f : Front). Stands f end_of_block bits) f (stands end_of_block bits) in
-      is_all ∙ ap (λ x. All x (begins end_of_block bits) (is_cut extension_code bits) (is_cut end_of_block bits)) s.0
+      is_all ∙ ap (λ x. All x (begins_code end_of_block bits) (is_cut extension_code bits) (is_cut end_of_block bits)) s.0
       ∙ ap (λ x. All false x (is_cut extension_code bits) (is_cut end_of_block bits)) t.0
       ∙ ap (λ x. All false false x (is_cut end_of_block bits)) s.1
       ∙ ap (λ x. All false false false x) t.1 ∙ neither A why (none_of (row_at mode_codes bits) (no_code mode_codes bits) why none).1

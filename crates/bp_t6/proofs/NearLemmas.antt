@@ -4,7 +4,7 @@ use Rattle.std.proofs.lemmas.Bool.{and_parts, leb-true, eqb-true, le-ltb}
 use Rattle.std.proofs.lemmas.List.{take-take, take-append-le, drop-take, length-replicate, length-take-le}
 use Rattle.bp_codes.specs.declared.mode_index.TheConstants.{MODE_INDEX}
 use Rattle.bp_codes.specs.Ahead.{IsAhead}
-use Rattle.bp_codes.specs.Bits.{number_of}
+use Rattle.bp_codes.specs.Bits.{number_of_bits}
 use Rattle.bp_codes.specs.CodeLists.{mode_codes}
 use Rattle.bp_codes.specs.NextCode.{next_row}
 use Rattle.bp_codes.specs.Index.{entry_number}
@@ -31,7 +31,7 @@ held_less word n m bits less h = record {
   same = sym (take-take m n h.digits less) ∙ ap (take m) h.same ∙ take-take m n bits less;
 }
 
-number-zeros : (n : ℕ) → number_of (replicate n false) ≡ 0
+number-zeros : (n : ℕ) → number_of_bits (replicate n false) ≡ 0
 number-zeros zero = refl
 number-zeros (suc n) = omega (arith, number-zeros n)
 
@@ -51,11 +51,11 @@ held_on word n k bits less h =
       whole = length-append rest (replicate k false) ∙ omega (arith, left, length-replicate {A = Bool} k false, h.short);
       number =
           number_of-append rest (replicate k false)
-          ∙ ap (λ v. number_of rest * 2 ^ length (replicate {A = Bool} k false) + v) (number-zeros k) ∙ add-zero (number_of rest * 2 ^ length (replicate {A = Bool} k false))
-          ∙ ap (λ m. number_of rest * 2 ^ m) (length-replicate {A = Bool} k false)
+          ∙ ap (λ v. number_of_bits rest * 2 ^ length (replicate {A = Bool} k false) + v) (number-zeros k) ∙ add-zero (number_of_bits rest * 2 ^ length (replicate {A = Bool} k false))
+          ∙ ap (λ m. number_of_bits rest * 2 ^ m) (length-replicate {A = Bool} k false)
           ∙ ap (λ v. v * 2 ^ k) (number_of-drop k (64 - k) digits size)
-          ∙ sym (shifted_out (number_of digits) k (64 - k))
-          ∙ ap (λ m. number_of digits * 2 ^ k % 2 ^ m) all
+          ∙ sym (shifted_out (number_of_bits digits) k (64 - k))
+          ∙ ap (λ m. number_of_bits digits * 2 ^ k % 2 ^ m) all
           ∙ ap (λ v. v * 2 ^ k % 2 ^ 64) h.number;
       short = omega (arith, h.short);
       long = omega (arith, h.long, length-drop k bits);
@@ -63,9 +63,9 @@ held_on word n k bits less h =
     }
 
 -- the first seven as a number
-pub first_seven : (word n : ℕ) (bits : List Bool) → 7 ≤ n → Holds word n bits → word / 2 ^ 57 ≡ number_of (take 7 bits)
+pub first_seven : (word n : ℕ) (bits : List Bool) → 7 ≤ n → Holds word n bits → word / 2 ^ 57 ≡ number_of_bits (take 7 bits)
 first_seven word n bits more h =
-    ap (λ v. v / 2 ^ 57) (sym h.number) ∙ sym (number_of-take 7 57 h.digits h.whole) ∙ ap number_of (sym (take-take 7 n h.digits more) ∙ ap (take 7) h.same ∙ take-take 7 n bits more)
+    ap (λ v. v / 2 ^ 57) (sym h.number) ∙ sym (number_of-take 7 57 h.digits h.whole) ∙ ap number_of_bits (sym (take-take 7 n h.digits more) ∙ ap (take 7) h.same ∙ take-take 7 n bits more)
 
 -- ---- the index
 
@@ -119,7 +119,7 @@ row_small (suc (suc (suc (suc (suc zero))))) = omega arith
 row_small (suc (suc (suc (suc (suc (suc zero)))))) = omega arith
 row_small (suc (suc (suc (suc (suc (suc (suc k))))))) = omega arith
 
-modes_at : (bits : List Bool) → 7 ≤ length bits → get_or MODE_INDEX (128 + number_of (take 7 bits)) 0 ≡ entry_number mode_codes (next_row mode_codes bits)
+modes_at : (bits : List Bool) → 7 ≤ length bits → get_or MODE_INDEX (128 + number_of_bits (take 7 bits)) 0 ≡ entry_number mode_codes (next_row mode_codes bits)
 unfolding mode_codes
 modes_at bits long = entry_is mode_codes 7 MODE_INDEX bits 7 modes_kept refl (omega arith)
 
@@ -130,7 +130,7 @@ few_modes = omega arith
 -- an entry at the first seven bits that a word holds says which mode begins them
 pub begins_near : (word n entry : ℕ) (bits : List Bool) (near : Near) → Holds word n bits → 7 ≤ n → entry ≡ get_or NEAR_INDEX (word / 2 ^ 57) 0 → 256 ≤ entry → near.shift ≡ entry % 256 → near.len ≡ entry / 256 → BeginsNear bits near
 begins_near word n entry bits near h more is big shift len =
-    let i = number_of (take 7 bits) in
+    let i = number_of_bits (take 7 bits) in
     let seven : length (take 7 bits) ≡ 7 = length-take-le 7 bits (omega (arith, h.long)) in
     let below : i < 128 = (let P : ℕ → Type 0 = λ m. i < 2 ^ m in subst P seven (number_of-below (take 7 bits))) in
     let here : entry ≡ get_or NEAR_INDEX i 0 = is ∙ ap (λ k. get_or NEAR_INDEX k 0) (first_seven word n bits more h) in

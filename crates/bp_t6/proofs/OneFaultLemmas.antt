@@ -13,7 +13,7 @@ use Rattle.std.proofs.lemmas.Bool.{cond-false, ne_eqb}
 use Rattle.std.proofs.lemmas.List.{get_or_append_left, length-append}
 use Rattle.bp_t6.specs.Places.{Place, start}
 use Rattle.bp_t6.specs.Read.{RowReads, LinesRead}
-use Rattle.bp_t6.specs.Modes.{Run, pixels_of, AreMakeUps, HasCodes, code, run_codes, run_bits, Mode, Pass, Horizontal, Vertical, IsMode, mode_bits, from, after, Moves, AllMove, codes_of, end_of}
+use Rattle.bp_t6.specs.Modes.{Run, pixels_of_run, AreMakeUps, HasCodes, code, run_codes, run_bits, Mode, Pass, Horizontal, Vertical, IsMode, mode_bits, from, place_after, Moves, AllMove, codes_of, end_of_modes}
 use Rattle.bp_t6.specs.Faults.{RunFault, ModeFault, RowFault, LinesFault, stops, here, later, row_pixels, due_codes, mode_fault}
 use Rattle.bp_t6.proofs.CodeLemmas.{low_bits-number_of}
 use Rattle.bp_t6.proofs.RunCodeLemmas.{make_up}
@@ -79,7 +79,7 @@ free_of free true = free.black
 free_of free false = free.white
 
 -- where a run is read within the room, no fault of a run stands
-pub no_run_fault : {black : Bool} {room : ℕ} {bits : List Bool} {kind : RuleKind} {at : ℕ} → RunFault black room bits kind at → (x : List Bool) (run : Run) → ReadsBack (run_codes black) → AreFree → HasCodes run → pixels_of run ≤ room → bits ≡ run_bits black run ++ x → ⊥
+pub no_run_fault : {black : Bool} {room : ℕ} {bits : List Bool} {kind : RuleKind} {at : ℕ} → RunFault black room bits kind at → (x : List Bool) (run : Run) → ReadsBack (run_codes black) → AreFree → HasCodes run → pixels_of_run run ≤ room → bits ≡ run_bits black run ++ x → ⊥
 no_run_fault {black} {room} (RunFault.missing ns r why are within e) x run back free has fits same =
     missing_not (run_codes black) back (free_of free black) (run_rows black) ns run.make_ups r x why run.rest are has.make_ups has.rest e
     (same ∙ append_assoc (flat_map (make_up (run_codes black)) run.make_ups) (code (run_codes black) run.rest) x)
@@ -118,13 +118,13 @@ no_first above place rest x kind at (Horizontal p q) b moves fault e =
     no_run_fault fault (run_bits (not place.black) q ++ x) p (b.runs place.black) b.free moves.coded.0 (omega (arith, moves.within))
     ((horizontal_only place.black (Horizontal p q) rest x b.free moves.coded e).1 ∙ append_assoc (run_bits place.black p) (run_bits (not place.black) q) x)
 
-no_second : (above : List Bool) (place : Place) (run : Run) (rest x : List Bool) (kind : RuleKind) (at : ℕ) (mode : Mode) → Backs → HasCodes run → Moves above place mode → RunFault (not place.black) (length above - from place - pixels_of run) rest kind at → code mode_codes 1 ++ (run_bits place.black run ++ rest) ≡ mode_bits place.black mode ++ x → ⊥
+no_second : (above : List Bool) (place : Place) (run : Run) (rest x : List Bool) (kind : RuleKind) (at : ℕ) (mode : Mode) → Backs → HasCodes run → Moves above place mode → RunFault (not place.black) (length above - from place - pixels_of_run run) rest kind at → code mode_codes 1 ++ (run_bits place.black run ++ rest) ≡ mode_bits place.black mode ++ x → ⊥
 no_second above place run rest x kind at Pass b has moves fault e = absurd (omega (arith, (horizontal_only place.black Pass (run_bits place.black run ++ rest) x b.free moves.coded e).0))
 no_second above place run rest x kind at (Vertical n) b has moves fault e = absurd (omega (arith, (horizontal_only place.black (Vertical n) (run_bits place.black run ++ rest) x b.free moves.coded e).0, (vertical_row n moves.coded).1))
 no_second above place run rest x kind at (Horizontal p q) b has moves fault e =
     let after_one = (horizontal_only place.black (Horizontal p q) (run_bits place.black run ++ rest) x b.free moves.coded e).1 ∙ append_assoc (run_bits place.black p) (run_bits (not place.black) q) x in
     let same = one_run place.black run p rest (run_bits (not place.black) q ++ x) b.free has moves.coded.0 after_one in
-    no_run_fault fault x q (b.runs (not place.black)) b.free moves.coded.1 (omega (arith, ap pixels_of same.0, moves.within)) same.1
+    no_run_fault fault x q (b.runs (not place.black)) b.free moves.coded.1 (omega (arith, ap pixels_of_run same.0, moves.within)) same.1
 
 -- where a mode is read that moves, no fault of a mode stands
 pub no_mode_fault : {above : List Bool} {place : Place} {bits : List Bool} {kind : RuleKind} {at : ℕ} → ModeFault above place bits kind at → (mode : Mode) (x : List Bool) → Backs → Moves above place mode → bits ≡ mode_bits place.black mode ++ x → ⊥
@@ -135,27 +135,27 @@ no_mode_fault {above} {place} (ModeFault.missing bits kind e) mode x b moves sam
     no_fault_of (row_of mode) kind low (ap mode_fault (sym found) ∙ e)
 no_mode_fault {above} {place} (ModeFault.stays other rest is still) mode x b moves same =
     let one = one_mode place.black other mode rest x b.free is moves.coded same in
-    omega (arith, ap (λ m. (after above place m).right) one.0, moves.onward, still)
+    omega (arith, ap (λ m. (place_after above place m).right) one.0, moves.onward, still)
 no_mode_fault {above} {place} (ModeFault.passes n rest is past) mode x b moves same =
     let one = one_mode place.black (Vertical n) mode rest x b.free is moves.coded same in
-    omega (arith, ap (λ m. (after above place m).right) one.0, moves.within, past)
+    omega (arith, ap (λ m. (place_after above place m).right) one.0, moves.within, past)
 no_mode_fault {above} {place} (ModeFault.first rest kind at fault) mode x b moves same = no_first above place rest x kind at mode b moves fault same
 no_mode_fault {above} {place} (ModeFault.second run rest kind at has within fault) mode x b moves same = no_second above place run rest x kind at mode b has moves fault same
 
 -- ---- a row, and the rows
 
-no_fault_from : (above : List Bool) (place : Place) (ns ms : List Mode) (r x : List Bool) (kind : RuleKind) (at : ℕ) → Backs → AllMove above place ns → AllMove above place ms → (end_of above place ns).right ≤ length above → (end_of above place ms).right ≡ length above + 1 → ModeFault above (end_of above place ns) r kind at → codes_of above place ns ++ r ≡ codes_of above place ms ++ x → ⊥
+no_fault_from : (above : List Bool) (place : Place) (ns ms : List Mode) (r x : List Bool) (kind : RuleKind) (at : ℕ) → Backs → AllMove above place ns → AllMove above place ms → (end_of_modes above place ns).right ≤ length above → (end_of_modes above place ms).right ≡ length above + 1 → ModeFault above (end_of_modes above place ns) r kind at → codes_of above place ns ++ r ≡ codes_of above place ms ++ x → ⊥
 no_fault_from above place [] [] r x kind at b hn hm en em fault e = omega arith
 no_fault_from above place [] (m ∷ ms) r x kind at b hn hm en em fault e =
-    no_mode_fault fault m (codes_of above (after above place m) ms ++ x) b hm.0 (e ∙ append_assoc (mode_bits place.black m) (codes_of above (after above place m) ms) x)
+    no_mode_fault fault m (codes_of above (place_after above place m) ms ++ x) b hm.0 (e ∙ append_assoc (mode_bits place.black m) (codes_of above (place_after above place m) ms) x)
 no_fault_from above place (n ∷ ns) [] r x kind at b hn hm en em fault e = omega (arith, hn.0.onward, hn.0.within)
 no_fault_from above place (n ∷ ns) (m ∷ ms) r x kind at b hn hm en em fault e =
-    let one = one_mode place.black n m (codes_of above (after above place n) ns ++ r) (codes_of above (after above place m) ms ++ x) b.free hn.0.coded hm.0.coded
-    (sym (append_assoc (mode_bits place.black n) (codes_of above (after above place n) ns) r) ∙ e ∙ append_assoc (mode_bits place.black m) (codes_of above (after above place m) ms) x) in
-    let P : Mode → Type 0 = λ k. AllMove above (after above place k) ms in
-    let Q : Mode → Type 0 = λ k. (end_of above (after above place k) ms).right ≡ length above + 1 in
-    no_fault_from above (after above place n) ns ms r x kind at b hn.1 (subst P (sym one.0) hm.1) en (subst Q (sym one.0) em) fault
-    (one.1 ∙ ap (λ k. codes_of above (after above place k) ms ++ x) (sym one.0))
+    let one = one_mode place.black n m (codes_of above (place_after above place n) ns ++ r) (codes_of above (place_after above place m) ms ++ x) b.free hn.0.coded hm.0.coded
+    (sym (append_assoc (mode_bits place.black n) (codes_of above (place_after above place n) ns) r) ∙ e ∙ append_assoc (mode_bits place.black m) (codes_of above (place_after above place m) ms) x) in
+    let P : Mode → Type 0 = λ k. AllMove above (place_after above place k) ms in
+    let Q : Mode → Type 0 = λ k. (end_of_modes above (place_after above place k) ms).right ≡ length above + 1 in
+    no_fault_from above (place_after above place n) ns ms r x kind at b hn.1 (subst P (sym one.0) hm.1) en (subst Q (sym one.0) em) fault
+    (one.1 ∙ ap (λ k. codes_of above (place_after above place k) ms ++ x) (sym one.0))
 
 -- where a line is read, no fault of a row stands
 pub no_row_fault : {above bits : List Bool} {kind : RuleKind} {at : ℕ} → RowFault above bits kind at → (line rest : List Bool) → Backs → RowReads above bits line rest → ⊥

@@ -1,17 +1,17 @@
 -- Bits are read in one way.
 use Rattle.std.proofs.Common.{ℕ, zero, suc, ◌+◌, ◌<◌, ◌≤◌, ◌≡◌, Bool, true, false, not, List, [], ◌∷◌, ◌++◌, length, get_or, refl, ap, sym, ◌∙◌, subst, arith, inl, inr, ◌⊎◌, append_assoc}
 use Rattle.std.specs.List.{flat_map}
-use Rattle.bp_codes.specs.NextCode.{begins}
+use Rattle.bp_codes.specs.NextCode.{begins_code}
 use Rattle.bp_codes.specs.Laws.{IsPrefixFree}
 use Rattle.bp_codes.specs.CodeLists.{white_codes, black_codes, mode_codes}
 use Rattle.bp_t6.specs.Places.{Place, start}
-use Rattle.bp_t6.specs.Modes.{Run, Mode, Pass, Horizontal, Vertical, AreMakeUps, HasCodes, IsMode, code, run_codes, run_bits, mode_bits, vertical_rows, after, codes_of, end_of, pixels, AllMove}
+use Rattle.bp_t6.specs.Modes.{Run, Mode, Pass, Horizontal, Vertical, AreMakeUps, HasCodes, IsMode, code, run_codes, run_bits, mode_bits, vertical_rows, place_after, codes_of, end_of_modes, pixels, AllMove}
 use Rattle.bp_t6.specs.Read.{RowReads, LinesRead}
 
 -- ---- one code
 
 -- of two lists that begin the same bits one begins the other
-pub one_begins : (a b x y : List Bool) → a ++ x ≡ b ++ y → (begins a b ≡ true) ⊎ (begins b a ≡ true)
+pub one_begins : (a b x y : List Bool) → a ++ x ≡ b ++ y → (begins_code a b ≡ true) ⊎ (begins_code b a ≡ true)
 one_begins [] b x y e = inl refl
 one_begins (p ∷ a) [] x y e = inr refl
 one_begins (true ∷ a) (true ∷ b) x y e = let rest : a ++ x ≡ b ++ y = cc in one_begins a b x y rest
@@ -147,18 +147,18 @@ one_mode black p q x y free hp hq e =
 -- ---- modes up to the width
 
 pub one_line : (above : List Bool) (place : Place) (ms ns : List Mode) (x y : List Bool) → AreFree → AllMove above place ms → AllMove above place ns
-    → (end_of above place ms).right ≡ length above + 1 → (end_of above place ns).right ≡ length above + 1
+    → (end_of_modes above place ms).right ≡ length above + 1 → (end_of_modes above place ns).right ≡ length above + 1
     → codes_of above place ms ++ x ≡ codes_of above place ns ++ y → (ms ≡ ns) × (x ≡ y)
 one_line above place [] [] x y free hm hn em en e = (refl, e)
 one_line above place [] (n ∷ ns) x y free hm hn em en e = absurd (omega (arith, hn.0.onward, hn.0.within, em))
 one_line above place (m ∷ ms) [] x y free hm hn em en e = absurd (omega (arith, hm.0.onward, hm.0.within, en))
 one_line above place (m ∷ ms) (n ∷ ns) x y free hm hn em en e =
-    let one = one_mode place.black m n (codes_of above (after above place m) ms ++ x) (codes_of above (after above place n) ns ++ y) free hm.0.coded hn.0.coded
-    (sym (append_assoc (mode_bits place.black m) (codes_of above (after above place m) ms) x) ∙ e ∙ append_assoc (mode_bits place.black n) (codes_of above (after above place n) ns) y) in
-    let P : Mode → Type 0 = λ k. AllMove above (after above place k) ns in
-    let Q : Mode → Type 0 = λ k. (end_of above (after above place k) ns).right ≡ length above + 1 in
-    let rest = one_line above (after above place m) ms ns x y free hm.1 (subst P (sym one.0) hn.1) em (subst Q (sym one.0) en)
-    (one.1 ∙ ap (λ k. codes_of above (after above place k) ns ++ y) (sym one.0)) in
+    let one = one_mode place.black m n (codes_of above (place_after above place m) ms ++ x) (codes_of above (place_after above place n) ns ++ y) free hm.0.coded hn.0.coded
+    (sym (append_assoc (mode_bits place.black m) (codes_of above (place_after above place m) ms) x) ∙ e ∙ append_assoc (mode_bits place.black n) (codes_of above (place_after above place n) ns) y) in
+    let P : Mode → Type 0 = λ k. AllMove above (place_after above place k) ns in
+    let Q : Mode → Type 0 = λ k. (end_of_modes above (place_after above place k) ns).right ≡ length above + 1 in
+    let rest = one_line above (place_after above place m) ms ns x y free hm.1 (subst P (sym one.0) hn.1) em (subst Q (sym one.0) en)
+    (one.1 ∙ ap (λ k. codes_of above (place_after above place k) ns ++ y) (sym one.0)) in
     (ap (λ k. k ∷ ms) one.0 ∙ ap (λ ks. n ∷ ks) rest.0, rest.1)
 
 pub one_row : (above bits first second x y : List Bool) → AreFree → RowReads above bits first x → RowReads above bits second y → (first ≡ second) × (x ≡ y)

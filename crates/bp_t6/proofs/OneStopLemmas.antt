@@ -10,7 +10,7 @@ use Rattle.bp_codes.specs.NextCode.{next_row}
 use Rattle.bp_codes.specs.CodeLists.{mode_codes}
 use Rattle.bp_t6.specs.Places.{Place, start}
 use Rattle.bp_t6.specs.Read.{RowReads}
-use Rattle.bp_t6.specs.Modes.{Run, pixels_of, AreMakeUps, HasCodes, code, run_codes, run_bits, Mode, Pass, Horizontal, Vertical, IsMode, mode_bits, from, after, AllMove, codes_of, end_of}
+use Rattle.bp_t6.specs.Modes.{Run, pixels_of_run, AreMakeUps, HasCodes, code, run_codes, run_bits, Mode, Pass, Horizontal, Vertical, IsMode, mode_bits, from, place_after, AllMove, codes_of, end_of_modes}
 use Rattle.bp_t6.specs.Faults.{RunFault, ModeFault, RowFault, LinesFault, stops, here, later, row_pixels, missing_code, due_codes, mode_fault}
 use Rattle.bp_t6.proofs.RunCodeLemmas.{make_up}
 use Rattle.bp_t6.proofs.LookLemmas.{many_pixels}
@@ -86,10 +86,10 @@ one_run_fault {black} {room} {bits} {other} {k} {l} backs first second same =
 -- the runs of a horizontal mode are within the width
 abbrev InRoom : List Bool → Place → Mode → Type 0
 InRoom above place Pass = Unit {0}
-InRoom above place (Horizontal p q) = from place + (pixels_of p + pixels_of q) ≤ length above
+InRoom above place (Horizontal p q) = from place + (pixels_of_run p + pixels_of_run q) ≤ length above
 InRoom above place (Vertical n) = Unit {0}
 
-in_room : (above : List Bool) (place : Place) (mode : Mode) → place.right ≤ length above → (after above place mode).right ≤ place.right → InRoom above place mode
+in_room : (above : List Bool) (place : Place) (mode : Mode) → place.right ≤ length above → (place_after above place mode).right ≤ place.right → InRoom above place mode
 in_room above place Pass on still = tt
 in_room above place (Horizontal p q) on still = omega arith
 in_room above place (Vertical n) on still = tt
@@ -98,7 +98,7 @@ data Form (above : List Bool) (place : Place) : List Bool → RuleKind → ℕ �
   none : (bits : List Bool) (kind : RuleKind) → mode_fault (next_row due_codes bits) ≡ Some kind → Form above place bits kind 0
   whole : (mode : Mode) (rest : List Bool) → IsMode mode → InRoom above place mode → Form above place (mode_bits place.black mode ++ rest) T6BadPlace 0
   early : (rest : List Bool) (kind : RuleKind) (at : ℕ) → RunFault place.black (length above - from place) rest kind at → Form above place (code mode_codes 1 ++ rest) kind (3 + at)
-  late : (run : Run) (rest : List Bool) (kind : RuleKind) (at : ℕ) → HasCodes run → from place + pixels_of run ≤ length above → RunFault (not place.black) (length above - from place - pixels_of run) rest kind at
+  late : (run : Run) (rest : List Bool) (kind : RuleKind) (at : ℕ) → HasCodes run → from place + pixels_of_run run ≤ length above → RunFault (not place.black) (length above - from place - pixels_of_run run) rest kind at
       → Form above place (code mode_codes 1 ++ (run_bits place.black run ++ rest)) kind (3 + length (run_bits place.black run) + at)
 
 form_of : {above : List Bool} {place : Place} {bits : List Bool} {kind : RuleKind} {at : ℕ} → place.right ≤ length above → ModeFault above place bits kind at → Form above place bits kind at
@@ -123,15 +123,15 @@ whole_first above place (Horizontal p q) r x kind at b is room fault e =
     no_run_fault fault (run_bits (not place.black) q ++ r) p (b.runs place.black) b.free is.0 (omega (arith, room))
     ((horizontal_only place.black (Horizontal p q) x r b.free is e).1 ∙ append_assoc (run_bits place.black p) (run_bits (not place.black) q) r)
 
-whole_second : (above : List Bool) (place : Place) (mode : Mode) (run : Run) (r x : List Bool) (kind : RuleKind) (at : ℕ) → Backs → IsMode mode → InRoom above place mode → HasCodes run → RunFault (not place.black) (length above - from place - pixels_of run) x kind at → code mode_codes 1 ++ (run_bits place.black run ++ x) ≡ mode_bits place.black mode ++ r → ⊥
+whole_second : (above : List Bool) (place : Place) (mode : Mode) (run : Run) (r x : List Bool) (kind : RuleKind) (at : ℕ) → Backs → IsMode mode → InRoom above place mode → HasCodes run → RunFault (not place.black) (length above - from place - pixels_of_run run) x kind at → code mode_codes 1 ++ (run_bits place.black run ++ x) ≡ mode_bits place.black mode ++ r → ⊥
 whole_second above place Pass run r x kind at b is room has fault e = omega (arith, (horizontal_only place.black Pass (run_bits place.black run ++ x) r b.free is e).0)
 whole_second above place (Vertical n) run r x kind at b is room has fault e = omega (arith, (horizontal_only place.black (Vertical n) (run_bits place.black run ++ x) r b.free is e).0, (vertical_row n is).1)
 whole_second above place (Horizontal p q) run r x kind at b is room has fault e =
     let after_one = (horizontal_only place.black (Horizontal p q) (run_bits place.black run ++ x) r b.free is e).1 ∙ append_assoc (run_bits place.black p) (run_bits (not place.black) q) r in
     let same = one_run place.black run p x (run_bits (not place.black) q ++ r) b.free has is.0 after_one in
-    no_run_fault fault r q (b.runs (not place.black)) b.free is.1 (omega (arith, ap pixels_of same.0, room)) same.1
+    no_run_fault fault r q (b.runs (not place.black)) b.free is.1 (omega (arith, ap pixels_of_run same.0, room)) same.1
 
-first_second : (above : List Bool) (place : Place) (run : Run) (r x : List Bool) (kind : RuleKind) (at : ℕ) → Backs → HasCodes run → from place + pixels_of run ≤ length above → RunFault place.black (length above - from place) x kind at → code mode_codes 1 ++ x ≡ code mode_codes 1 ++ (run_bits place.black run ++ r) → ⊥
+first_second : (above : List Bool) (place : Place) (run : Run) (r x : List Bool) (kind : RuleKind) (at : ℕ) → Backs → HasCodes run → from place + pixels_of_run run ≤ length above → RunFault place.black (length above - from place) x kind at → code mode_codes 1 ++ x ≡ code mode_codes 1 ++ (run_bits place.black run ++ r) → ⊥
 first_second above place run r x kind at b has within fault e =
     no_run_fault fault r run (b.runs place.black) b.free has (omega arith) (same_rest (code mode_codes 1) x (run_bits place.black run ++ r) e)
 
@@ -156,32 +156,32 @@ one_form {above} {place} backs (Form.late run x k a has within fault) (Form.whol
 one_form {above} {place} backs (Form.late run r k a has within fault) (Form.early x l b other) same = absurd (first_second above place run r x l b backs has within other (sym same))
 one_form {above} {place} backs (Form.late run x k a has within fault) (Form.late run' y l b has' within' other) same =
     let runs = one_run place.black run run' x y backs.free has has' (same_rest (code mode_codes 1) (run_bits place.black run ++ x) (run_bits place.black run' ++ y) same) in
-    let P : Run → Type 0 = λ r. RunFault (not place.black) (length above - from place - pixels_of r) y l b in
+    let P : Run → Type 0 = λ r. RunFault (not place.black) (length above - from place - pixels_of_run r) y l b in
     let one = one_run_fault backs fault (subst P (sym runs.0) other) runs.1 in
     (one.0, ap (λ r. 3 + length (run_bits place.black r) + a) runs.0 ∙ ap (λ n. 3 + length (run_bits place.black run') + n) one.1)
 
 -- ---- a row
 
-fault_from : (above : List Bool) (place : Place) (ns ms : List Mode) (r x : List Bool) (k l : RuleKind) (a b : ℕ) → Backs → AllMove above place ns → AllMove above place ms → (end_of above place ns).right ≤ length above → (end_of above place ms).right ≤ length above
-    → ModeFault above (end_of above place ns) r k a → ModeFault above (end_of above place ms) x l b → codes_of above place ns ++ r ≡ codes_of above place ms ++ x → (k ≡ l) × (length (codes_of above place ns) + a ≡ length (codes_of above place ms) + b)
+fault_from : (above : List Bool) (place : Place) (ns ms : List Mode) (r x : List Bool) (k l : RuleKind) (a b : ℕ) → Backs → AllMove above place ns → AllMove above place ms → (end_of_modes above place ns).right ≤ length above → (end_of_modes above place ms).right ≤ length above
+    → ModeFault above (end_of_modes above place ns) r k a → ModeFault above (end_of_modes above place ms) x l b → codes_of above place ns ++ r ≡ codes_of above place ms ++ x → (k ≡ l) × (length (codes_of above place ns) + a ≡ length (codes_of above place ms) + b)
 fault_from above place [] [] r x k l a b backs hn hm en em fault other e =
     let one = one_form backs (form_of en fault) (form_of em other) e in (one.0, omega (arith, one.1))
 fault_from above place [] (m ∷ ms) r x k l a b backs hn hm en em fault other e =
-    absurd (no_mode_fault fault m (codes_of above (after above place m) ms ++ x) backs hm.0 (e ∙ append_assoc (mode_bits place.black m) (codes_of above (after above place m) ms) x))
+    absurd (no_mode_fault fault m (codes_of above (place_after above place m) ms ++ x) backs hm.0 (e ∙ append_assoc (mode_bits place.black m) (codes_of above (place_after above place m) ms) x))
 fault_from above place (n ∷ ns) [] r x k l a b backs hn hm en em fault other e =
-    absurd (no_mode_fault other n (codes_of above (after above place n) ns ++ r) backs hn.0 (sym e ∙ append_assoc (mode_bits place.black n) (codes_of above (after above place n) ns) r))
+    absurd (no_mode_fault other n (codes_of above (place_after above place n) ns ++ r) backs hn.0 (sym e ∙ append_assoc (mode_bits place.black n) (codes_of above (place_after above place n) ns) r))
 fault_from above place (n ∷ ns) (m ∷ ms) r x k l a b backs hn hm en em fault other e =
-    let one = one_mode place.black n m (codes_of above (after above place n) ns ++ r) (codes_of above (after above place m) ms ++ x) backs.free hn.0.coded hm.0.coded
-    (sym (append_assoc (mode_bits place.black n) (codes_of above (after above place n) ns) r) ∙ e ∙ append_assoc (mode_bits place.black m) (codes_of above (after above place m) ms) x) in
-    let P : Mode → Type 0 = λ v. AllMove above (after above place v) ms in
-    let Q : Mode → Type 0 = λ v. (end_of above (after above place v) ms).right ≤ length above in
-    let R : Mode → Type 0 = λ v. ModeFault above (end_of above (after above place v) ms) x l b in
-    let rest = fault_from above (after above place n) ns ms r x k l a b backs hn.1 (subst P (sym one.0) hm.1) en (subst Q (sym one.0) em) fault (subst R (sym one.0) other)
-    (one.1 ∙ ap (λ v. codes_of above (after above place v) ms ++ x) (sym one.0)) in
-    let left = length-append (mode_bits place.black n) (codes_of above (after above place n) ns) in
-    let right = length-append (mode_bits place.black m) (codes_of above (after above place m) ms) in
+    let one = one_mode place.black n m (codes_of above (place_after above place n) ns ++ r) (codes_of above (place_after above place m) ms ++ x) backs.free hn.0.coded hm.0.coded
+    (sym (append_assoc (mode_bits place.black n) (codes_of above (place_after above place n) ns) r) ∙ e ∙ append_assoc (mode_bits place.black m) (codes_of above (place_after above place m) ms) x) in
+    let P : Mode → Type 0 = λ v. AllMove above (place_after above place v) ms in
+    let Q : Mode → Type 0 = λ v. (end_of_modes above (place_after above place v) ms).right ≤ length above in
+    let R : Mode → Type 0 = λ v. ModeFault above (end_of_modes above (place_after above place v) ms) x l b in
+    let rest = fault_from above (place_after above place n) ns ms r x k l a b backs hn.1 (subst P (sym one.0) hm.1) en (subst Q (sym one.0) em) fault (subst R (sym one.0) other)
+    (one.1 ∙ ap (λ v. codes_of above (place_after above place v) ms ++ x) (sym one.0)) in
+    let left = length-append (mode_bits place.black n) (codes_of above (place_after above place n) ns) in
+    let right = length-append (mode_bits place.black m) (codes_of above (place_after above place m) ms) in
     let front = ap (λ v. length (mode_bits place.black v)) one.0 in
-    let back = ap (λ v. length (codes_of above (after above place v) ms)) one.0 in
+    let back = ap (λ v. length (codes_of above (place_after above place v) ms)) one.0 in
     (rest.0, omega (arith, rest.1, left, right, front, back))
 
 one_row_fault : {above bits other : List Bool} {k l : RuleKind} {a b : ℕ} → Backs → RowFault above bits k a → RowFault above other l b → bits ≡ other → (k ≡ l) × (a ≡ b)

@@ -6,7 +6,7 @@ use Rattle.std.specs.Int.{from_bool}
 use Rattle.bp_rows.specs.Changes.{differs, place_at, odd, Rises, Shows}
 use Rattle.bp_rows.proofs.ShownLemmas.{odd_one, odd_two, twice, up}
 use Rattle.bp_t6.specs.Places.{Place, leaves, least, a1, b1}
-use Rattle.bp_t6.specs.Coding.{IsNext, IsNextFrom, Stepped}
+use Rattle.bp_t6.specs.Coding.{IsNext, IsNextFrom, SteppedTo}
 use Rattle.bp_t6.proofs.LeastLemmas.{prev, pix, is_least, least-end, hit}
 
 pub same_differs : (x y : Bool) → x ≡ y → differs x y ≡ false
@@ -163,7 +163,7 @@ next_two places width k rises on =
     subst (λ (n : ℕ). IsNext places width n (place_at places width (k + 1) + 1)) same (next_one places width (k + 1) rises on)
 
 -- those of b1, after the steps of two
-pub from_same : (places : List ℕ) (width k at right to : ℕ) (black : Bool) → IsNextFrom places width k right black → right ≤ to → to ≤ width → Stepped places width k at to → IsNextFrom places width at to black
+pub from_same : (places : List ℕ) (width k at right to : ℕ) (black : Bool) → IsNextFrom places width k right black → right ≤ to → to ≤ width → SteppedTo places width k at to → IsNextFrom places width at to black
 from_same places width k at right to black next more on step = record {
   colour = step.colour ∙ next.colour;
   behind = step.behind (λ j e. let h = next.behind j e in omega arith);
@@ -174,7 +174,7 @@ back_odd : (k back : ℕ) → (0 < k → back ≡ k - 1) → (k ≡ 0 → back �
 back_odd zero back h i = ap odd (i refl)
 back_odd (suc k) back h i = let e : back ≡ k = omega (arith, h (omega arith)) in ap odd e ∙ sym (twice (odd k))
 
-pub from_back : (places : List ℕ) (width k back at right to : ℕ) (black : Bool) → Rises places width → IsNextFrom places width k right black → (0 < k → back ≡ k - 1) → (k ≡ 0 → back ≡ 1) → right ≤ to → to ≤ width → Stepped places width back at to → IsNextFrom places width at to (not black)
+pub from_back : (places : List ℕ) (width k back at right to : ℕ) (black : Bool) → Rises places width → IsNextFrom places width k right black → (0 < k → back ≡ k - 1) → (k ≡ 0 → back ≡ 1) → right ≤ to → to ≤ width → SteppedTo places width back at to → IsNextFrom places width at to (not black)
 from_back places width k back at right to black rises next some none more on step = record {
   colour = step.colour ∙ back_odd k back some none ∙ ap not next.colour;
   behind = step.behind (λ j e. before j e (cases_lt 0 k));

@@ -2,7 +2,7 @@
 use Rattle.std.proofs.Common.{ℕ, zero, suc, ◌+◌, ◌-◌, ◌*◌, ◌/◌, ◌%◌, ◌^◌, ◌<◌, ◌≤◌, ◌≡◌, Bool, true, not, List, [], ◌∷◌, ◌++◌, length, get_or, replicate, take, drop, refl, ap, sym, ◌∙◌, subst, arith, append_assoc}
 use Rattle.std.proofs.lemmas.List.{drop-drop, length-replicate, length-take, replicate-append-replicate, take-append-drop, take-replicate}
 use Rattle.bp_codes.specs.Ahead.{IsAhead}
-use Rattle.bp_codes.specs.Bits.{low_bits, number_of}
+use Rattle.bp_codes.specs.Bits.{low_bits, number_of_bits}
 use Rattle.bp_codes.specs.CodeLists.{mode_codes}
 use Rattle.bp_codes.proofs.AheadLemmas.{window_ahead}
 use Rattle.bp_codes.proofs.BitListLemmas.{number_of-take}
@@ -80,11 +80,11 @@ ones_at word count bits ahead few small is =
     let size : count + (64 - count) ≡ 64 = omega arith in
     let long : length front ≡ count = omega (arith, length-take count bits, ahead.long) in
     let same : word ≡ word * 2 ^ 0 % 2 ^ 64 = omega (arith, small) in
-    let number : word / 2 ^ (64 - count) ≡ number_of front = ap (λ v. v / 2 ^ (64 - count)) same ∙ window_ahead word 0 count bits ahead (omega arith) in
+    let number : word / 2 ^ (64 - count) ≡ number_of_bits front = ap (λ v. v / 2 ^ (64 - count)) same ∙ window_ahead word 0 count bits ahead (omega arith) in
     let sixty_four : length (replicate 64 true) ≡ count + (64 - count) = sym size in
-    let ones : number_of all ≡ 18446744073709551615 / 2 ^ (64 - count) =
-    ap number_of (sym (take-replicate count 64 true (omega arith))) ∙ number_of-take count (64 - count) (replicate 64 true) sixty_four in
-    sym (low_bits-number_of front) ∙ ap (λ n. low_bits n (number_of front)) (long ∙ sym (length-replicate count true))
+    let ones : number_of_bits all ≡ 18446744073709551615 / 2 ^ (64 - count) =
+    ap number_of_bits (sym (take-replicate count 64 true (omega arith))) ∙ number_of-take count (64 - count) (replicate 64 true) sixty_four in
+    sym (low_bits-number_of front) ∙ ap (λ n. low_bits n (number_of_bits front)) (long ∙ sym (length-replicate count true))
     ∙ ap (low_bits (length all)) (sym number ∙ is ∙ sym ones) ∙ low_bits-number_of all
 
 -- bits that begin so

@@ -20,12 +20,12 @@ use Rattle.bp_rows.proofs.ShownLemmas.{all_white, shows_white, shows_row}
 use Rattle.bp_t6.specs.declared.reading.Stop.{Stop}
 use Rattle.bp_t6.specs.declared.reading.Stop.TheVariants as answers
 use Rattle.bp_t6.specs.Places.{start}
-use Rattle.bp_t6.specs.Modes.{Mode, Pass, Horizontal, Vertical, IsMode, code, run_bits, mode_bits, vertical_rows, after, codes_of, end_of, AllMove}
-use Rattle.bp_t6.specs.Written.{row_code, lines_code, white_line, strip_of}
+use Rattle.bp_t6.specs.Modes.{Mode, Pass, Horizontal, Vertical, IsMode, code, run_bits, mode_bits, vertical_rows, place_after, codes_of, end_of_modes, AllMove}
+use Rattle.bp_t6.specs.Written.{row_code, lines_code, white_line, bits_strip}
 use Rattle.bp_t6.specs.Read.{RowReads, LinesRead, StripReads}
 use Rattle.bp_t6.specs.Faults.{LinesFault, here, later, StripFault}
 use Rattle.bp_t6.specs.Reading.{IfFault, RowIsRead, RowStops}
-use Rattle.bp_t6.specs.SoFar.{last_line, HaveWidth, codes_so_far, AddedSoFar, HasAdded, IsWriter, LinesTo, ReadSoFar, HasRead, ReadsLine, ReadsNext, ReadsPage, unread}
+use Rattle.bp_t6.specs.SoFar.{last_line, HaveWidth, codes_so_far, AddedSoFar, HasAdded, IsWriter, LinesTo, ReadSoFar, HasRead, ReadsLine, ReadsNextRow, ReadsPage, unread}
 use Rattle.bp_t6.specs.Strips.{fault_rule, refusal_for, SaysFault}
 use Rattle.bp_t6.proofs.StripLemmas.{lines_to-read, lines_more, last-more, lines_fault}
 
@@ -90,7 +90,7 @@ codes_end above [] = refl
 codes_end above (line ∷ lines) =
     append_assoc (row_code above line) (codes_so_far line lines) end_of_block ∙ ap (λ bs. row_code above line ++ bs) (codes_end line lines)
 
-pub strip_ended : (p : Image) (writer : AddedSoFar) (bytes : List ℕ) → p.width ≡ writer.width → HasAdded writer p.rows → bytes ≡ packed_row (writer.bits ++ end_of_block) → bytes ≡ strip_of p
+pub strip_ended : (p : Image) (writer : AddedSoFar) (bytes : List ℕ) → p.width ≡ writer.width → HasAdded writer p.rows → bytes ≡ packed_row (writer.bits ++ end_of_block) → bytes ≡ bits_strip p
 strip_ended p writer bytes same has is =
     is ∙ ap (λ bs. packed_row (bs ++ end_of_block)) (has.coded ∙ ap (λ w. codes_so_far (white_line w) p.rows) (sym same))
     ∙ ap packed_row (codes_end (white_line p.width) p.rows)
@@ -122,10 +122,10 @@ mode_long black (Horizontal first second) is =
     omega (arith, horizontal_long, length-append (code mode_codes 1) (run_bits black first ++ run_bits (not black) second))
 mode_long black (Vertical n) is = vertical_long n is
 
-modes_long : (above : List Bool) (modes : List Mode) → AllMove above start modes → (end_of above start modes).right ≡ length above + 1 → 0 < length (codes_of above start modes)
+modes_long : (above : List Bool) (modes : List Mode) → AllMove above start modes → (end_of_modes above start modes).right ≡ length above + 1 → 0 < length (codes_of above start modes)
 modes_long above [] move end = absurd (omega (arith, end))
 modes_long above (mode ∷ modes) move end =
-    omega (arith, mode_long start.black mode move.0.coded, length-append (mode_bits start.black mode) (codes_of above (after above start mode) modes))
+    omega (arith, mode_long start.black mode move.0.coded, length-append (mode_bits start.black mode) (codes_of above (place_after above start mode) modes))
 
 row_takes : (above bits line rest : List Bool) → RowReads above bits line rest → length rest < length bits
 row_takes above bits line rest reads =
@@ -167,7 +167,7 @@ line_shown old new lines has same_bits same_width one_more read =
     }
 
 pub line_read : (old new : ReadSoFar) (lines : List (List Bool)) (runs : List ℕ) → HasRead old lines → new.bits ≡ old.bits → new.width ≡ old.width → new.row ≡ old.row + 1
-    → ((over : List Bool) → Shows old.above old.width over → RowIsRead over old.bits old.at new.at old.width new.above) → ((row : List Bool) → Shows new.above old.width row → IsRuns runs row) → ReadsNext lines new runs
+    → ((over : List Bool) → Shows old.above old.width over → RowIsRead over old.bits old.at new.at old.width new.above) → ((row : List Bool) → Shows new.above old.width row → IsRuns runs row) → ReadsNextRow lines new runs
 line_read old new lines runs has same_bits same_width one_more read are =
     let one = line_shown old new lines has same_bits same_width one_more read in
     record { line = one.line; are = are one.line (subst (λ (w : ℕ). Shows new.above w one.line) same_width one.shows); so = one.so }
@@ -204,19 +204,19 @@ fault_more (later above line bits rest left kind row at reads fault) more h =
     subst (λ (n : ℕ). LinesFault above bits n kind (row + 1) (length bits - length rest + at)) same
     (later above line bits rest (more - 1) kind row at reads (fault_more fault (more - 1) (omega arith)))
 
-pub page_begins : (p : Image) (reader : ReadSoFar) → reader ≡ unread (bits_of High (strip_of p)) p.width → ReadsPage p 0 reader
+pub page_begins : (p : Image) (reader : ReadSoFar) → reader ≡ unread (bits_of High (bits_strip p)) p.width → ReadsPage p 0 reader
 page_begins p reader is = record {
   bits = ap (λ (r : ReadSoFar). r.bits) is;
   width = ap (λ (r : ReadSoFar). r.width) is;
   fault = ap (λ (r : ReadSoFar). r.fault) is;
-  read = none_read reader (bits_of High (strip_of p)) p.width is;
+  read = none_read reader (bits_of High (bits_strip p)) p.width is;
 }
 
 -- the line that was read is the page's
-same_line : (p : Image) (count : ℕ) (old new : ReadSoFar) (line : List Bool) → ((lines : List (List Bool)) → StripReads (bits_of High (strip_of p)) p.width (count + 1) lines → lines ≡ take (count + 1) p.rows) → IsPage p → count < p.height → ReadsPage p count old
+same_line : (p : Image) (count : ℕ) (old new : ReadSoFar) (line : List Bool) → ((lines : List (List Bool)) → StripReads (bits_of High (bits_strip p)) p.width (count + 1) lines → lines ≡ take (count + 1) p.rows) → IsPage p → count < p.height → ReadsPage p count old
     → new.bits ≡ old.bits → new.width ≡ old.width → new.fault ≡ None → HasRead new (take count p.rows ++ line ∷ []) → (line ≡ row_of p count) × ReadsPage p (count + 1) new
 same_line p count old new line only page less reads same_bits same_width none so =
-    let bits = bits_of High (strip_of p) in
+    let bits = bits_of High (bits_strip p) in
     let bits_are : new.bits ≡ bits = same_bits ∙ reads.bits in
     let width_is : new.width ≡ p.width = same_width ∙ reads.width in
     let lines = take count p.rows ++ line ∷ [] in
@@ -232,27 +232,27 @@ same_line p count old new line only page less reads same_bits same_width none so
       record { bits = bits_are; width = width_is; fault = none; read = subst (HasRead new) all so },
     )
 
-pub page_line : (p : Image) (count : ℕ) (old new : ReadSoFar) → ((lines : List (List Bool)) → StripReads (bits_of High (strip_of p)) p.width (count + 1) lines → lines ≡ take (count + 1) p.rows) → IsPage p → count < p.height → ReadsPage p count old
+pub page_line : (p : Image) (count : ℕ) (old new : ReadSoFar) → ((lines : List (List Bool)) → StripReads (bits_of High (bits_strip p)) p.width (count + 1) lines → lines ≡ take (count + 1) p.rows) → IsPage p → count < p.height → ReadsPage p count old
     → new.bits ≡ old.bits → new.width ≡ old.width → new.fault ≡ None → ReadsLine (take count p.rows) new → Shows new.above new.width (row_of p count) × ReadsPage p (count + 1) new
 page_line p count old new only page less reads same_bits same_width none next =
     let both = same_line p count old new next.line only page less reads same_bits same_width none next.so in
     (subst (Shows new.above new.width) both.0 next.shows, both.1)
 
-pub page_next : (p : Image) (count : ℕ) (old new : ReadSoFar) (runs : List ℕ) → ((lines : List (List Bool)) → StripReads (bits_of High (strip_of p)) p.width (count + 1) lines → lines ≡ take (count + 1) p.rows) → IsPage p → count < p.height → ReadsPage p count old
-    → new.bits ≡ old.bits → new.width ≡ old.width → new.fault ≡ None → ReadsNext (take count p.rows) new runs → IsRuns runs (row_of p count) × ReadsPage p (count + 1) new
+pub page_next : (p : Image) (count : ℕ) (old new : ReadSoFar) (runs : List ℕ) → ((lines : List (List Bool)) → StripReads (bits_of High (bits_strip p)) p.width (count + 1) lines → lines ≡ take (count + 1) p.rows) → IsPage p → count < p.height → ReadsPage p count old
+    → new.bits ≡ old.bits → new.width ≡ old.width → new.fault ≡ None → ReadsNextRow (take count p.rows) new runs → IsRuns runs (row_of p count) × ReadsPage p (count + 1) new
 page_next p count old new runs only page less reads same_bits same_width none next =
     let both = same_line p count old new next.line only page less reads same_bits same_width none next.so in
     (subst (IsRuns runs) both.0 next.are, both.1)
 
-pub only_front : (p : Image) (count : ℕ) → IsPage p → count < p.height → StripReads (bits_of High (strip_of p)) p.width p.height p.rows → StripReads (bits_of High (strip_of p)) p.width (count + 1) (take (count + 1) p.rows)
+pub only_front : (p : Image) (count : ℕ) → IsPage p → count < p.height → StripReads (bits_of High (bits_strip p)) p.width p.height p.rows → StripReads (bits_of High (bits_strip p)) p.width (count + 1) (take (count + 1) p.rows)
 only_front p count page less reads = record {
   count = (let down = page.grid.down in omega (arith, length-take (count + 1) p.rows));
-  read = front_read (white_line p.width) (bits_of High (strip_of p)) p.rows (count + 1) reads.read;
+  read = front_read (white_line p.width) (bits_of High (bits_strip p)) p.rows (count + 1) reads.read;
 }
 
-pub page_fault : (p : Image) (count : ℕ) (reader : ReadSoFar) (rule : BrokenRule) → IsPage p → count < p.height → ReadsPage p count reader → (says : SaysFault reader.bits reader.width (reader.row + 1) 0 rule) → StripFault (bits_of High (strip_of p)) p.width p.height says.kind says.row says.at
+pub page_fault : (p : Image) (count : ℕ) (reader : ReadSoFar) (rule : BrokenRule) → IsPage p → count < p.height → ReadsPage p count reader → (says : SaysFault reader.bits reader.width (reader.row + 1) 0 rule) → StripFault (bits_of High (bits_strip p)) p.width p.height says.kind says.row says.at
 page_fault p count reader rule page less reads says =
     let row : reader.row ≡ count = sym reads.read.count ∙ (let down = page.grid.down in omega (arith, length-take count p.rows)) in
-    subst (λ (w : ℕ). StripFault (bits_of High (strip_of p)) w p.height says.kind says.row says.at) reads.width
+    subst (λ (w : ℕ). StripFault (bits_of High (bits_strip p)) w p.height says.kind says.row says.at) reads.width
     (subst (λ (bs : List Bool). StripFault bs reader.width p.height says.kind says.row says.at) reads.bits
     (fault_more says.fault p.height (omega (arith, row))))

@@ -8,7 +8,7 @@ use Rattle.bp_codes.specs.NextCode.{next_row}
 use Rattle.bp_codes.specs.CodeLists.{mode_codes, extension_code, end_of_block}
 use Rattle.bp_rows.specs.Changes.{differs}
 use Rattle.bp_t6.specs.Places.{Place, start, b1}
-use Rattle.bp_t6.specs.Modes.{Run, Mode, Pass, Horizontal, Vertical, HasCodes, IsMode, pixels_of, code, run_codes, run_bits, mode_bits, vertical_rows, from, after, codes_of, end_of, pixels, Moves, AllMove}
+use Rattle.bp_t6.specs.Modes.{Run, Mode, Pass, Horizontal, Vertical, HasCodes, IsMode, pixels_of_run, code, run_codes, run_bits, mode_bits, vertical_rows, from, place_after, codes_of, end_of_modes, pixels, Moves, AllMove}
 use Rattle.bp_t6.specs.Written.{white_line}
 use Rattle.bp_t6.specs.Read.{RowReads, LinesRead, StripReads}
 use Rattle.bp_t6.specs.Faults.{RunFault, ModeFault, RowFault, LinesFault, StripFault, stops, here, later, missing_code, mode_fault, due_codes, row_pixels}
@@ -30,7 +30,7 @@ record RunFits (black : Bool) (room : ℕ) (bits : List Bool) : Type 0 where
   run : Run
   rest : List Bool
   has : HasCodes run
-  fits : pixels_of run ≤ room
+  fits : pixels_of_run run ≤ room
   codes : bits ≡ run_bits black run ++ rest
 
 abbrev RunAnswer : Bool → ℕ → List Bool → Type 0
@@ -93,10 +93,10 @@ module _ (above : List Bool) (place : Place) (bits : List Bool) where
   within_width :
       (mode : Mode) (rest : List Bool)
       → IsMode mode
-      → (after above place mode).right ≤ length above + 1
+      → (place_after above place mode).right ≤ length above + 1
       → bits ≡ mode_bits place.black mode ++ rest
       → ModeAnswer above place bits
-  within_width mode rest is within codes = elim (cases_lt place.right (after above place mode).right) [
+  within_width mode rest is within codes = elim (cases_lt place.right (place_after above place mode).right) [
     | inl onward ↦ inl (record {
       mode = mode;
       rest = rest;
@@ -107,7 +107,7 @@ module _ (above : List Bool) (place : Place) (bits : List Bool) where
   ]
 
   vertical_answer : (n : ℕ) (rest : List Bool) → n ≤ 6 → bits ≡ mode_bits place.black (Vertical n) ++ rest → ModeAnswer above place bits
-  vertical_answer n rest small codes = elim (cases_lt (length above + 1) (after above place (Vertical n)).right) [
+  vertical_answer n rest small codes = elim (cases_lt (length above + 1) (place_after above place (Vertical n)).right) [
     | inl past ↦ fault_here codes (ModeFault.passes n rest small past)
     | inr within ↦ within_width (Vertical n) rest small within codes
   ]
@@ -118,7 +118,7 @@ module _ (above : List Bool) (place : Place) (bits : List Bool) where
     | inl p ↦
         let first = run_bits place.black p.run in
         let up_to = same ∙ ap (λ bs. code mode_codes 1 ++ bs) p.codes in
-        elim (run_answer (not place.black) (length above - from place - pixels_of p.run) p.rest) [
+        elim (run_answer (not place.black) (length above - from place - pixels_of_run p.run) p.rest) [
           | inr fault ↦ fault_here up_to (ModeFault.second p.run p.rest fault.0 fault.1 p.has (omega (arith, p.fits)) fault.2)
           | inl q ↦
               let second = run_bits (not place.black) q.run in
@@ -177,7 +177,7 @@ record EndsAt (above : List Bool) (place : Place) (bits : List Bool) : Type 0 wh
   modes : List Mode
   rest : List Bool
   move : AllMove above place modes
-  end : (end_of above place modes).right ≡ length above + 1
+  end : (end_of_modes above place modes).right ≡ length above + 1
   codes : bits ≡ codes_of above place modes ++ rest
 
 record StopsAt (above : List Bool) (place : Place) (bits : List Bool) : Type 0 where
@@ -186,18 +186,18 @@ record StopsAt (above : List Bool) (place : Place) (bits : List Bool) : Type 0 w
   kind : RuleKind
   at : ℕ
   move : AllMove above place modes
-  on : (end_of above place modes).right ≤ length above
-  fault : ModeFault above (end_of above place modes) rest kind at
+  on : (end_of_modes above place modes).right ≤ length above
+  fault : ModeFault above (end_of_modes above place modes) rest kind at
   codes : bits ≡ codes_of above place modes ++ rest
 
 one_more :
     (above : List Bool) (place : Place) (bits rest : List Bool) (mode : Mode) (modes : List Mode) (last : List Bool)
     → bits ≡ mode_bits place.black mode ++ rest
-    → rest ≡ codes_of above (after above place mode) modes ++ last
+    → rest ≡ codes_of above (place_after above place mode) modes ++ last
     → bits ≡ codes_of above place (mode ∷ modes) ++ last
 one_more above place bits rest mode modes last first others =
     first ∙ ap (λ bs. mode_bits place.black mode ++ bs) others
-    ∙ sym (append_assoc (mode_bits place.black mode) (codes_of above (after above place mode) modes) last)
+    ∙ sym (append_assoc (mode_bits place.black mode) (codes_of above (place_after above place mode) modes) last)
 
 -- each mode takes a0 to the right, so what is left of the width is enough of them
 row_from :
@@ -210,7 +210,7 @@ row_from above (suc most) place bits within few = elim (cases_lt (length above) 
   | inl past ↦ inl (record { modes = []; rest = bits; move = tt; end = omega arith; codes = refl })
   | inr on ↦ elim (mode_answer above place bits on) [
     | inr fault ↦ inr (record { modes = []; rest = bits; kind = fault.0; at = fault.1; move = tt; on = on; fault = fault.2; codes = refl })
-    | inl step ↦ elim (row_from above most (after above place step.mode) step.rest step.moves.within (omega (arith, step.moves.onward))) [
+    | inl step ↦ elim (row_from above most (place_after above place step.mode) step.rest step.moves.within (omega (arith, step.moves.onward))) [
       | inl row ↦ inl (record {
         modes = step.mode ∷ row.modes;
         rest = row.rest;

@@ -8,12 +8,12 @@ use Rattle.bp_t6.specs.declared.run_reader.ReadFault.{ReadFault}
 use Rattle.std.proofs.lemmas.List.{append-nil, drop-drop}
 use Rattle.bp_codes.specs.NextCode.{next_row}
 use Rattle.bp_t6.specs.Places.{Place, start, b1, b2}
-use Rattle.bp_t6.specs.Modes.{Run, Mode, Pass, Horizontal, Vertical, HasCodes, pixels_of, code, run_bits, mode_bits, vertical_rows, after, painted, Moves, AllMove, codes_of, end_of, pixels}
+use Rattle.bp_t6.specs.Modes.{Run, Mode, Pass, Horizontal, Vertical, HasCodes, pixels_of_run, code, run_bits, mode_bits, vertical_rows, place_after, painted, Moves, AllMove, codes_of, end_of_modes, pixels}
 use Rattle.bp_t6.specs.Faults.{RunFault, ModeFault, RowFault, stops, due_codes, mode_fault}
 use Rattle.bp_rows.specs.Changes.{place_at, odd, Shows, Rises}
 use Rattle.std.specs.Int.{from_bool}
 use Rattle.std.proofs.lemmas.Bool.{cond-false}
-use Rattle.bp_t6.specs.Coding.{IsNextFrom, Stepped}
+use Rattle.bp_t6.specs.Coding.{IsNextFrom, SteppedTo}
 use Rattle.bp_t6.specs.Turns.{Turns}
 use Rattle.bp_t6.specs.declared.near_reader.Near.{Near}
 use Rattle.bp_t6.specs.Near.{BeginsNear, near_mode}
@@ -46,7 +46,7 @@ module _ (above : List ℕ) (width : ℕ) (over : List Bool) (u : Under) (shows_
   pub b2-there : b2 over (place_under u) ≡ place_at above width (u.from + 1)
   b2-there = after_is above width over u.from (b1 over (place_under u)) shows_over b1-there
 
-  pub vertical_right : (n : ℕ) → (after over (place_under u) (Vertical n)).right ≡ place_at above width u.from + 1 + n - 3
+  pub vertical_right : (n : ℕ) → (place_after over (place_under u) (Vertical n)).right ≡ place_at above width u.from + 1 + n - 3
   vertical_right n = ap (λ k. k + 1 + n - 3) b1-there
 
   pub vertical_steps : (ts new : List ℕ) (v : Under) (n : ℕ) (px : List Bool) → n ≤ 6 → Turns ts (u.right - 1) → odd (length ts) ≡ u.black → Shows ts (u.right - 1) px
@@ -74,7 +74,7 @@ module _ (above : List ℕ) (width : ℕ) (over : List Bool) (u : Under) (shows_
       }
 
 module _ (bits : List Bool) (width : ℕ) (above : List ℕ) (u : Under) where
-  pub horizontal_steps : (over px : List Bool) (ts mid new : List ℕ) (v : Under) (p q : Run) (m n middle : ℕ) → Shows above width over → HasCodes p → HasCodes q → pixels_of p ≡ m → pixels_of q ≡ n
+  pub horizontal_steps : (over px : List Bool) (ts mid new : List ℕ) (v : Under) (p q : Run) (m n middle : ℕ) → Shows above width over → HasCodes p → HasCodes q → pixels_of_run p ≡ m → pixels_of_run q ≡ n
       → Turns ts (u.right - 1) → odd (length ts) ≡ u.black → Shows ts (u.right - 1) px
       → middle ≡ u.right - 1 + m → v.right ≡ middle + n + 1 → v.black ≡ u.black → u.right < v.right → v.right ≤ width + 1
       → Turns mid middle → odd (length mid) ≡ not (odd (length ts)) → ((pixels : List Bool) → Shows ts middle pixels → Shows mid middle pixels)
@@ -87,13 +87,13 @@ module _ (bits : List Bool) (width : ℕ) (above : List ℕ) (u : Under) where
       let px-one = px ++ replicate (middle - (u.right - 1)) c in
       let half = turned_mid px-one (grown ts (u.right - 1) middle px c turns shows colour (omega arith)) in
       let whole = turned (px-one ++ replicate (v.right - 1 - middle) (not c)) (grown mid middle (v.right - 1) px-one (not c) turns_mid half (colour_mid ∙ ap not colour) (omega arith)) in
-      let same : px-one ++ replicate (v.right - 1 - middle) (not c) ≡ px ++ (replicate (pixels_of p) c ++ replicate (pixels_of q) (not c)) =
+      let same : px-one ++ replicate (v.right - 1 - middle) (not c) ≡ px ++ (replicate (pixels_of_run p) c ++ replicate (pixels_of_run q) (not c)) =
       append_assoc px (replicate (middle - (u.right - 1)) c) (replicate (v.right - 1 - middle) (not c))
       ∙ ap (λ (k : ℕ). px ++ (replicate k c ++ replicate (v.right - 1 - middle) (not c))) (one ∙ sym is_m)
-      ∙ ap (λ (k : ℕ). px ++ (replicate (pixels_of p) c ++ replicate k (not c))) (two ∙ sym is_n) in
+      ∙ ap (λ (k : ℕ). px ++ (replicate (pixels_of_run p) c ++ replicate k (not c))) (two ∙ sym is_n) in
       record {
         moves = record { coded = (has_p, has_q); onward = omega arith; within = omega (arith, shows_over.long) };
-        there = same_place (u.right - 1 + (pixels_of p + pixels_of q) + 1) v.right c v.black (omega arith) (sym black);
+        there = same_place (u.right - 1 + (pixels_of_run p + pixels_of_run q) + 1) v.right c v.black (omega arith) (sym black);
         shows = subst (λ (ps : List Bool). Shows new (v.right - 1) ps) same whole;
         chosen = fine;
       }
@@ -115,7 +115,7 @@ module _ (bits : List Bool) (width : ℕ) (above : List ℕ) (u : Under) where
         (ModeFault.first (drop at bits) f.kind (f.bit - at) here));
   }
 
-  pub second_stops : (f : ReadFault) (p : Run) (at start middle m : ℕ) → at ≡ u.at + 3 → at ≤ length bits → middle ≤ length bits → middle ≤ f.bit → start ≡ u.right - 1 → u.right ≤ width → HasCodes p → pixels_of p ≡ m → m ≤ width - start
+  pub second_stops : (f : ReadFault) (p : Run) (at start middle m : ℕ) → at ≡ u.at + 3 → at ≤ length bits → middle ≤ length bits → middle ≤ f.bit → start ≡ u.right - 1 → u.right ≤ width → HasCodes p → pixels_of_run p ≡ m → m ≤ width - start
       → drop u.at bits ≡ code mode_codes 1 ++ drop at bits → drop at bits ≡ run_bits u.black p ++ drop middle bits → RunFault (not u.black) (width - start - m) (drop middle bits) f.kind (f.bit - middle) → ModeStops bits width above u f
   second_stops f p at start middle m three low high since is on has is_m fits reads first fault =
       let size : length (run_bits u.black p) ≡ middle - at = omega (arith, ap length first, length-append (run_bits u.black p) (drop middle bits), length-drop at bits, length-drop middle bits) in
@@ -123,7 +123,7 @@ module _ (bits : List Bool) (width : ℕ) (above : List ℕ) (u : Under) where
       record {
         since = omega arith;
         fault = λ over shows.
-            let room : width - start - m ≡ length over - (u.right - 1) - pixels_of p = omega (arith, shows.long) in
+            let room : width - start - m ≡ length over - (u.right - 1) - pixels_of_run p = omega (arith, shows.long) in
             let count : 3 + length (run_bits u.black p) + (f.bit - middle) ≡ f.bit - u.at = omega arith in
             let here = subst (λ (r : ℕ). RunFault (not u.black) r (drop middle bits) f.kind (f.bit - middle)) room fault in
             subst (λ (bs : List Bool). ModeFault over (place_under u) bs f.kind (f.bit - u.at)) (sym (reads ∙ ap (λ x. code mode_codes 1 ++ x) first))
@@ -139,7 +139,7 @@ module _ (bits : List Bool) (width : ℕ) (above : List ℕ) (u : Under) where
       (subst (λ (n : ℕ). ModeFault over (place_under u) (mode_bits u.black mode ++ drop at bits) kind n) none
       (subst (λ (k : RuleKind). ModeFault over (place_under u) (mode_bits u.black mode ++ drop at bits) k 0) (sym is) fault))
 
-  pub horizontal_stops : (f : ReadFault) (p q : Run) (at : ℕ) → f.kind ≡ T6BadPlace → f.bit ≡ u.at → HasCodes p → HasCodes q → drop u.at bits ≡ mode_bits u.black (Horizontal p q) ++ drop at bits → u.right - 1 + (pixels_of p + pixels_of q) < u.right → ModeStops bits width above u f
+  pub horizontal_stops : (f : ReadFault) (p q : Run) (at : ℕ) → f.kind ≡ T6BadPlace → f.bit ≡ u.at → HasCodes p → HasCodes q → drop u.at bits ≡ mode_bits u.black (Horizontal p q) ++ drop at bits → u.right - 1 + (pixels_of_run p + pixels_of_run q) < u.right → ModeStops bits width above u f
   horizontal_stops f p q at kind bit has_p has_q reads still = record {
     since = omega arith;
     fault = λ over shows. stays_there over (Horizontal p q) at f.bit f.kind (ModeFault.stays (Horizontal p q) (drop at bits) (has_p, has_q) (omega arith)) reads bit kind;
@@ -205,29 +205,29 @@ at_most (Err e) at n is h = tt
 
 -- ---- a row under way
 
-all_more : (over : List Bool) (place : Place) (ms : List Mode) (m : Mode) → AllMove over place ms → Moves over (end_of over place ms) m → AllMove over place (ms ++ m ∷ [])
+all_more : (over : List Bool) (place : Place) (ms : List Mode) (m : Mode) → AllMove over place ms → Moves over (end_of_modes over place ms) m → AllMove over place (ms ++ m ∷ [])
 all_more over place [] m all here = (here, tt)
-all_more over place (k ∷ ms) m all here = (all.0, all_more over (after over place k) ms m all.1 here)
+all_more over place (k ∷ ms) m all here = (all.0, all_more over (place_after over place k) ms m all.1 here)
 
-chosen_more : (over : List Bool) (place : Place) (ms : List Mode) (m : Mode) → AreCanonical over place ms → IsCanonical over (end_of over place ms) m → AreCanonical over place (ms ++ m ∷ [])
+chosen_more : (over : List Bool) (place : Place) (ms : List Mode) (m : Mode) → AreCanonical over place ms → IsCanonical over (end_of_modes over place ms) m → AreCanonical over place (ms ++ m ∷ [])
 chosen_more over place [] m all here = (here, tt)
-chosen_more over place (k ∷ ms) m all here = (all.0, chosen_more over (after over place k) ms m all.1 here)
+chosen_more over place (k ∷ ms) m all here = (all.0, chosen_more over (place_after over place k) ms m all.1 here)
 
-codes_more : (over : List Bool) (place : Place) (ms : List Mode) (m : Mode) → codes_of over place (ms ++ m ∷ []) ≡ codes_of over place ms ++ mode_bits (end_of over place ms).black m
+codes_more : (over : List Bool) (place : Place) (ms : List Mode) (m : Mode) → codes_of over place (ms ++ m ∷ []) ≡ codes_of over place ms ++ mode_bits (end_of_modes over place ms).black m
 codes_more over place [] m = append-nil (mode_bits place.black m)
 codes_more over place (k ∷ ms) m =
-    ap (λ bs. mode_bits place.black k ++ bs) (codes_more over (after over place k) ms m)
-    ∙ sym (append_assoc (mode_bits place.black k) (codes_of over (after over place k) ms) (mode_bits (end_of over place (k ∷ ms)).black m))
+    ap (λ bs. mode_bits place.black k ++ bs) (codes_more over (place_after over place k) ms m)
+    ∙ sym (append_assoc (mode_bits place.black k) (codes_of over (place_after over place k) ms) (mode_bits (end_of_modes over place (k ∷ ms)).black m))
 
-end_more : (over : List Bool) (place : Place) (ms : List Mode) (m : Mode) → end_of over place (ms ++ m ∷ []) ≡ after over (end_of over place ms) m
+end_more : (over : List Bool) (place : Place) (ms : List Mode) (m : Mode) → end_of_modes over place (ms ++ m ∷ []) ≡ place_after over (end_of_modes over place ms) m
 end_more over place [] m = refl
-end_more over place (k ∷ ms) m = end_more over (after over place k) ms m
+end_more over place (k ∷ ms) m = end_more over (place_after over place k) ms m
 
-pixels_more : (over : List Bool) (place : Place) (ms : List Mode) (m : Mode) → pixels over place (ms ++ m ∷ []) ≡ pixels over place ms ++ painted (end_of over place ms) (after over (end_of over place ms) m) m
-pixels_more over place [] m = append-nil (painted place (after over place m) m)
+pixels_more : (over : List Bool) (place : Place) (ms : List Mode) (m : Mode) → pixels over place (ms ++ m ∷ []) ≡ pixels over place ms ++ painted (end_of_modes over place ms) (place_after over (end_of_modes over place ms) m) m
+pixels_more over place [] m = append-nil (painted place (place_after over place m) m)
 pixels_more over place (k ∷ ms) m =
-    ap (λ ps. painted place (after over place k) k ++ ps) (pixels_more over (after over place k) ms m)
-    ∙ sym (append_assoc (painted place (after over place k) k) (pixels over (after over place k) ms) (painted (end_of over place (k ∷ ms)) (after over (end_of over place (k ∷ ms)) m) m))
+    ap (λ ps. painted place (place_after over place k) k ++ ps) (pixels_more over (place_after over place k) ms m)
+    ∙ sym (append_assoc (painted place (place_after over place k) k) (pixels over (place_after over place k) ms) (painted (end_of_modes over place (k ∷ ms)) (place_after over (end_of_modes over place (k ∷ ms)) m) m))
 
 pub none_read : (over bits : List Bool) (first : ℕ) (line : List ℕ) (u : Under) → line ≡ [] → u.right ≡ 0 → u.black ≡ false → u.at ≡ first → ModesRead over bits first line u
 none_read over bits first line u none right black here = record {
@@ -244,7 +244,7 @@ mode_more over bits first width above old new u v shows_over so more =
     let one = more over (pixels over start so.modes) shows_over so.shows in
     let m = one.mode in let step = one.steps in let p = place_under u in
     let E : Place → Type 0 = λ q. Moves over q m in
-    let black : (end_of over start so.modes).black ≡ u.black = ap (λ (q : Place). q.black) so.there in
+    let black : (end_of_modes over start so.modes).black ≡ u.black = ap (λ (q : Place). q.black) so.there in
     record {
       modes = so.modes ++ m ∷ [];
       move = all_more over start so.modes m so.move (subst E (sym so.there) step.moves);
@@ -252,9 +252,9 @@ mode_more over bits first width above old new u v shows_over so more =
           ∙ sym (append_assoc (codes_of over start so.modes) (mode_bits u.black m) (drop v.at bits))
           ∙ ap (λ c. (codes_of over start so.modes ++ mode_bits c m) ++ drop v.at bits) (sym black)
           ∙ ap (λ bs. bs ++ drop v.at bits) (sym (codes_more over start so.modes m));
-      there = end_more over start so.modes m ∙ ap (λ q. after over q m) so.there ∙ step.there;
+      there = end_more over start so.modes m ∙ ap (λ q. place_after over q m) so.there ∙ step.there;
       shows = subst (λ (ps : List Bool). Shows new (v.right - 1) ps)
-          (sym (pixels_more over start so.modes m ∙ ap (λ q. pixels over start so.modes ++ painted q (after over q m) m) so.there ∙ ap (λ q. pixels over start so.modes ++ painted p q m) step.there)) step.shows;
+          (sym (pixels_more over start so.modes m ∙ ap (λ q. pixels over start so.modes ++ painted q (place_after over q m) m) so.there ∙ ap (λ q. pixels over start so.modes ++ painted p q m) step.there)) step.shows;
       chosen = λ e. (let f = step.chosen e in chosen_more over start so.modes m (so.chosen f.0) (subst (λ (q : Place). IsCanonical over q m) (sym so.there) f.1));
     }
 
@@ -280,7 +280,7 @@ row_stops over bits first width above line u f shows_over so on low high stop =
     let size : u.at ≡ first + length (codes_of over start modes) = omega (arith, long, length-drop first bits, length-drop u.at bits) in
     let count : length (codes_of over start modes) + (f.bit - u.at) ≡ f.bit - first = omega (arith, stop.since) in
     let fault = subst (λ (q : Place). ModeFault over q (drop u.at bits) f.kind (f.bit - u.at)) (sym so.there) (stop.fault over shows_over) in
-    let right : (end_of over start modes).right ≡ u.right = ap (λ (q : Place). q.right) so.there in
+    let right : (end_of_modes over start modes).right ≡ u.right = ap (λ (q : Place). q.right) so.there in
     record {
       since = omega (arith, stop.since);
       fault = subst (λ (bs : List Bool). RowFault over bs f.kind (f.bit - first)) (sym so.reads)
@@ -356,7 +356,7 @@ near_reads bits width above old new u v near begins there steps = λ over px sho
 -- the place under way after a mode near b1, which stays in its colour or turns it
 pub near_under : (stays : Bool) (above old new : List ℕ) (width change : ℕ) (u v : Under) → Rises above width → IsUnder above old width u → 0 < u.right → u.right ≤ width → change ≡ u.from + from_bool stays → 0 < change
     → (stays ≡ true → new ≡ old) → (stays ≡ false → new ≡ old ++ (v.right - 1) ∷ []) → (stays ≡ true → v.black ≡ u.black) → (stays ≡ false → v.black ≡ not u.black)
-    → u.right < v.right → v.right ≤ width → Stepped above width (change - 1) v.from v.right → IsUnder above new width v
+    → u.right < v.right → v.right ≤ width → SteppedTo above width (change - 1) v.from v.right → IsUnder above new width v
 near_under true above old new width change u v rises so onward on is some same put kept turned less within step =
     let back : change - 1 ≡ u.from = omega arith in
     record {
@@ -364,7 +364,7 @@ near_under true above old new width change u v rises so onward on is some same p
       turns = subst (λ (ts : List ℕ). Turns ts (v.right - 1)) (sym (same refl)) (turns_grown old (u.right - 1) (v.right - 1) so.turns (omega arith));
       colour = ap (λ (ts : List ℕ). odd (length ts)) (same refl) ∙ so.colour ∙ sym (kept refl);
       from = λ h. subst (λ (b : Bool). IsNextFrom above width v.from v.right b) (sym (kept refl))
-          (from_same above width u.from v.from u.right v.right u.black (so.from on) (omega arith) within (subst (λ (n : ℕ). Stepped above width n v.from v.right) back step));
+          (from_same above width u.from v.from u.right v.right u.black (so.from on) (omega arith) within (subst (λ (n : ℕ). SteppedTo above width n v.from v.right) back step));
     }
 near_under false above old new width change u v rises so onward on is some same put kept turned less within step =
     let here : change ≡ u.from = omega arith in

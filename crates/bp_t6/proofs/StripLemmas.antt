@@ -6,7 +6,7 @@ use Rattle.bp_core.specs.declared.rules.RuleKind.{RuleKind}
 use Rattle.bp_core.specs.declared.refusals.Refusal.{Refusal}
 use Rattle.bp_core.specs.declared.refusals.Refusal.TheVariants as refusals
 use Rattle.bp_rows.specs.Packed.{packed_row, packed_rows}
-use Rattle.bp_rows.specs.Bits.{rows_in, row_bytes}
+use Rattle.bp_rows.specs.Bits.{rows_in_bytes, row_bytes}
 use Rattle.bp_rows.proofs.PackedLemmas.{rows_in-packed_rows, length-packed_rows}
 use Rattle.bp_rows.specs.Limits.{sides_are_allowed}
 use Rattle.bp_t6.specs.declared.reading.Stop.{Stop}
@@ -136,5 +136,5 @@ strip_is bits w h before strip none read = read.packed ∙ ap (λ bytes. bytes +
 pub strip_long : (bits : List Bool) (w h : ℕ) (before strip : List ℕ) → before ≡ [] → AppendsLines bits w h before strip → length strip ≡ h * row_bytes w
 strip_long bits w h before strip none read = ap length (strip_is bits w h before strip none read) ∙ length-packed_rows w h read.lines read.grid
 
-pub strip_rows : (bits : List Bool) (w h : ℕ) (before strip : List ℕ) → before ≡ [] → (read : AppendsLines bits w h before strip) → rows_in w h strip ≡ read.lines
-strip_rows bits w h before strip none read = ap (rows_in w h) (strip_is bits w h before strip none read) ∙ sym (rows_in-packed_rows w h read.lines read.grid)
+pub strip_rows : (bits : List Bool) (w h : ℕ) (before strip : List ℕ) → before ≡ [] → (read : AppendsLines bits w h before strip) → rows_in_bytes w h strip ≡ read.lines
+strip_rows bits w h before strip none read = ap (rows_in_bytes w h) (strip_is bits w h before strip none read) ∙ sym (rows_in-packed_rows w h read.lines read.grid)

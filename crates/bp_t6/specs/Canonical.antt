@@ -5,23 +5,23 @@ use Rattle.bp_rows.specs.Changes.{Shows}
 use Rattle.bp_rows.specs.Image.{IsGrid}
 use Rattle.bp_t6.specs.declared.lengths.TheConstants.{VERTICAL_REACH}
 use Rattle.bp_t6.specs.Places.{Place, b1, b2}
-use Rattle.bp_t6.specs.Modes.{Run, Mode, Pass, Horizontal, Vertical, pixels_of, from, after}
-use Rattle.bp_t6.specs.Written.{run_of, row_code, white_line, strip_of}
+use Rattle.bp_t6.specs.Modes.{Run, Mode, Pass, Horizontal, Vertical, pixels_of_run, from, place_after}
+use Rattle.bp_t6.specs.Written.{written_run, row_code, white_line, bits_strip}
 use Rattle.bp_t6.specs.SoFar.{HaveWidth, codes_so_far, last_line}
-use Rattle.bp_t6.specs.Strips.{page_of}
+use Rattle.bp_t6.specs.Strips.{page_of_lines}
 
 -- Two runs for which the coder chooses horizontal mode. Each is coded as the coder codes it; the first
 -- is empty at the start of a line alone, and the second at its end alone; a1 is no further than b2, and
 -- more than 3 from b1.
 -- by ITU-T T.6, 2.2.4
 pub record AreCanonicalRuns (above : List Bool) (place : Place) (first second : Run) : Type 0 where
-  pub first_coded : first ≡ run_of (pixels_of first)
-  pub second_coded : second ≡ run_of (pixels_of second)
-  pub begins : 0 < place.right → 0 < pixels_of first
-  pub goes_on : from place + pixels_of first < length above → 0 < pixels_of second
-  pub no_pass : from place + pixels_of first ≤ b2 above place
-  pub far : (b1 above place + VERTICAL_REACH < from place + pixels_of first)
-      ⊎ (from place + pixels_of first + VERTICAL_REACH < b1 above place)
+  pub first_coded : first ≡ written_run (pixels_of_run first)
+  pub second_coded : second ≡ written_run (pixels_of_run second)
+  pub begins : 0 < place.right → 0 < pixels_of_run first
+  pub goes_on : from place + pixels_of_run first < length above → 0 < pixels_of_run second
+  pub no_pass : from place + pixels_of_run first ≤ b2 above place
+  pub far : (b1 above place + VERTICAL_REACH < from place + pixels_of_run first)
+      ⊎ (from place + pixels_of_run first + VERTICAL_REACH < b1 above place)
 
 -- a mode that the coder chooses, if those after it are such, too: pass mode with b2 left of the end, and
 -- vertical mode with a1 no further than b2
@@ -36,14 +36,14 @@ IsCanonical above place (Vertical n) = b1 above place + n ≤ b2 above place + V
 abbrev pub AreCanonical : List Bool → Place → List Mode → Type 0
 AreCanonical above place [] = Unit {0}
 AreCanonical above place (mode ∷ modes) =
-    IsCanonical above place mode × AreCanonical above (after above place mode) modes
+    IsCanonical above place mode × AreCanonical above (place_after above place mode) modes
 
 -- the bytes are the strip of some lines of these sides
 -- by ITU-T T.6, 2.2.4; EOFB; pad bits
 pub record IsCanonicalStrip (width height : ℕ) (bytes : List ℕ) : Type 0 where
   pub lines : List (List Bool)
   pub grid : IsGrid width height lines
-  pub strip : bytes ≡ strip_of (page_of width height lines)
+  pub strip : bytes ≡ bits_strip (page_of_lines width height lines)
 
 -- ---- the steps of a check
 

@@ -1,6 +1,6 @@
 -- Modes read near b1, out of a word.
 use Rattle.std.specs.Prelude.{ℕ, ◌≤◌, ◌≡◌, Bool, List, length, take, slice_index_or, Ok, nat_eq, if◌then◌else◌}
-use Rattle.bp_codes.specs.Bits.{number_of}
+use Rattle.bp_codes.specs.Bits.{number_of_bits}
 use Rattle.bp_codes.specs.CodeLists.{mode_codes}
 use Rattle.bp_codes.specs.NextCode.{next_row}
 use Rattle.bp_t6.specs.declared.near_reader.Near.{Near}
@@ -11,7 +11,7 @@ use Rattle.bp_t6.specs.Modes.{Mode, Pass, Vertical, code, vertical_rows}
 pub record Holds (word count : ℕ) (bits : List Bool) : Type 0 where
   pub digits : List Bool
   pub whole : length digits ≡ 64
-  pub number : number_of digits ≡ word
+  pub number : number_of_bits digits ≡ word
   pub short : count ≤ 64
   pub long : count ≤ length bits
   pub same : take count digits ≡ take count bits

@@ -9,8 +9,8 @@ use Rattle.bp_t6.specs.declared.reading.Stop.{Stop}
 use Rattle.bp_t6.specs.declared.reading.Stop.TheVariants.{Fault, OutOfMemory}
 use Rattle.bp_t6.specs.declared.run_reader.ReadFault.{ReadFault}
 use Rattle.bp_t6.specs.Places.{Place, start}
-use Rattle.bp_t6.specs.Modes.{Run, Mode, Vertical, HasCodes, pixels_of, run_bits, mode_bits, after, painted, codes_of, end_of, pixels, Moves, AllMove}
-use Rattle.bp_t6.specs.Written.{run_of}
+use Rattle.bp_t6.specs.Modes.{Run, Mode, Vertical, HasCodes, pixels_of_run, run_bits, mode_bits, place_after, painted, codes_of, end_of_modes, pixels, Moves, AllMove}
+use Rattle.bp_t6.specs.Written.{written_run}
 use Rattle.bp_t6.specs.Canonical.{IsCanonical, AreCanonical}
 use Rattle.bp_t6.specs.Read.{RowReads}
 use Rattle.bp_t6.specs.Faults.{ModeFault, RowFault}
@@ -23,8 +23,8 @@ pub record RunReads (black : Bool) (bits : List Bool) (n : ℕ) (canonical : Boo
     Type 0 where
   pub run : Run
   pub has : HasCodes run
-  pub size : pixels_of run ≡ n
-  pub chosen : canonical ≡ true → run ≡ run_of n
+  pub size : pixels_of_run run ≡ n
+  pub chosen : canonical ≡ true → run ≡ written_run n
   pub codes : bits ≡ run_bits black run ++ rest
 
 -- how a code stands at the front of bits
@@ -53,7 +53,7 @@ pub record IsUnder (above line : List ℕ) (width : ℕ) (u : Under) : Type 0 wh
 -- where all modes up to there are the coder's, it is one of them
 pub record Steps (over px : List Bool) (new : List ℕ) (u v : Under) (mode : Mode) : Type 0 where
   pub moves : Moves over (place_under u) mode
-  pub there : after over (place_under u) mode ≡ place_under v
+  pub there : place_after over (place_under u) mode ≡ place_under v
   pub shows : Shows new (v.right - 1) (px ++ painted (place_under u) (place_under v) mode)
   pub chosen : v.canonical ≡ true → (u.canonical ≡ true) × IsCanonical over (place_under u) mode
 
@@ -84,15 +84,15 @@ pub record VerticalStops (width : ℕ) (above : List ℕ) (u : Under) (n : ℕ) 
   pub bit : f.bit ≡ u.at
   pub fault : (over : List Bool) →
       Shows above width over →
-      ((after over (place_under u) (Vertical n)).right ≤ u.right)
-      ⊎ (length over + 1 < (after over (place_under u) (Vertical n)).right)
+      ((place_after over (place_under u) (Vertical n)).right ≤ u.right)
+      ⊎ (length over + 1 < (place_after over (place_under u) (Vertical n)).right)
 
 -- some modes are read from a bit on, up to the place under way, and the list shows what they paint
 pub record ModesRead (over bits : List Bool) (first : ℕ) (line : List ℕ) (u : Under) : Type 0 where
   pub modes : List Mode
   pub move : AllMove over start modes
   pub reads : drop first bits ≡ codes_of over start modes ++ drop u.at bits
-  pub there : end_of over start modes ≡ place_under u
+  pub there : end_of_modes over start modes ≡ place_under u
   pub shows : Shows line (u.right - 1) (pixels over start modes)
   pub chosen : u.canonical ≡ true → AreCanonical over start modes
 

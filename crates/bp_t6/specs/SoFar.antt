@@ -9,7 +9,7 @@ use Rattle.bp_rows.specs.declared.limits.TheConstants.{MAX_WIDTH}
 use Rattle.bp_rows.specs.Changes.{changes_of, Rises, Shows}
 use Rattle.bp_rows.specs.Image.{Image, IsPage}
 use Rattle.bp_rows.specs.Runs.{IsRuns}
-use Rattle.bp_t6.specs.Written.{row_code, white_line, strip_of}
+use Rattle.bp_t6.specs.Written.{row_code, white_line, bits_strip}
 use Rattle.bp_t6.specs.Read.{RowReads}
 
 -- the last of some lines, or the one above them
@@ -75,7 +75,8 @@ pub record HasRead (reader : ReadSoFar) (lines : List (List Bool)) : Type 0 wher
   pub last : Shows reader.above reader.width (last_line (white_line reader.width) lines)
 
 -- behind these lines one more was read, of these runs
-pub record ReadsNext (lines : List (List Bool)) (reader : ReadSoFar) (runs : List ℕ) : Type 0 where
+pub record ReadsNextRow (lines : List (List Bool)) (reader : ReadSoFar) (runs : List ℕ)
+    : Type 0 where
   pub line : List Bool
   pub are : IsRuns runs line
   pub so : HasRead reader (lines ++ line ∷ [])
@@ -129,7 +130,7 @@ pub record LiesIn (bits : List Bool) (from to : ℕ) : Type 0 where
 
 -- over the strip of a page, of whose rows so many were read, and no rule was broken
 pub record ReadsPage (p : Image) (count : ℕ) (reader : ReadSoFar) : Type 0 where
-  pub bits : reader.bits ≡ bits_of High (strip_of p)
+  pub bits : reader.bits ≡ bits_of High (bits_strip p)
   pub width : reader.width ≡ p.width
   pub fault : reader.fault ≡ None
   pub read : HasRead reader (take count p.rows)

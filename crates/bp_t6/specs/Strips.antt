@@ -20,8 +20,8 @@ abbrev pub strip_res : Res
 strip_res = record { num = 200; den = 1 }
 
 -- the page of these lines at 200 by 200 dots an inch
-abbrev pub page_of : ℕ → ℕ → List (List Bool) → Image
-page_of width height lines =
+abbrev pub page_of_lines : ℕ → ℕ → List (List Bool) → Image
+page_of_lines width height lines =
     record (white_image width height strip_res strip_res units.Inch) { rows = lines }
 
 -- a rule of T.6 with its row and its bit

@@ -3,9 +3,9 @@ ghost use Rattle.std.specs.Prelude.{◌≡◌, ◌≤◌, ◌+◌, ◌-◌, Bool
 ghost use Rattle.bp_rows.specs.Changes.{Shows};
 ghost use Rattle.bp_t6.specs.Canonical.{AreCanonicalRuns};
 ghost use Rattle.bp_t6.specs.Coding.{IsNextFrom};
-ghost use Rattle.bp_t6.specs.Modes.{Run, pixels_of};
+ghost use Rattle.bp_t6.specs.Modes.{Run, pixels_of_run};
 ghost use Rattle.bp_t6.specs.Reading.{place_under};
-ghost use Rattle.bp_t6.specs.Written.{run_of};
+ghost use Rattle.bp_t6.specs.Written.{written_run};
 
 use crate::lengths::VERTICAL_REACH;
 use crate::reading::Under;
@@ -27,8 +27,9 @@ pub fn are_canonical(
     requires on { under.right ≤ width }
     requires from { IsNextFrom above.now width under.from under.right under.black }
     ensures { (over : List Bool) (p q : Run) → Shows above.now width over
-        → pixels_of p ≡ first.pixels → (first.canonical ≡ true → p ≡ run_of first.pixels)
-        → pixels_of q ≡ second.pixels → (second.canonical ≡ true → q ≡ run_of second.pixels)
+        → pixels_of_run p ≡ first.pixels → (first.canonical ≡ true → p ≡ written_run first.pixels)
+        → pixels_of_run q ≡ second.pixels
+        → (second.canonical ≡ true → q ≡ written_run second.pixels)
         → result ≡ true → AreCanonicalRuns over (place_under under) p q }
 {
     let a1 = under.right.saturating_sub(1) + first.pixels;

@@ -6,10 +6,10 @@ ghost use Rattle.bp_codes.specs.Bits.{bits_of};
 ghost use Rattle.bp_rows.specs.Changes.{Shows};
 ghost use Rattle.bp_rows.specs.Image.{Image, IsPage, row_of};
 ghost use Rattle.bp_rows.specs.Runs.{IsRuns};
-ghost use Rattle.bp_t6.specs.Written.{row_code, strip_of};
+ghost use Rattle.bp_t6.specs.Written.{row_code, bits_strip};
 ghost use Rattle.bp_t6.specs.Faults.{StripFault};
 ghost use Rattle.bp_t6.specs.Read.{StripReads};
-ghost use Rattle.bp_t6.specs.SoFar.{ReadSoFar, ReadsLine, ReadsNext, ReadsPage, row_above, unread};
+ghost use Rattle.bp_t6.specs.SoFar.{ReadSoFar, ReadsLine, ReadsNextRow, ReadsPage, row_above, unread};
 ghost use Rattle.bp_t6.specs.Strips.{SaysFault};
 ghost use Rattle.bp_core.specs.declared.rules.Rule.{Rule as BrokenRule};
 
@@ -19,7 +19,7 @@ use bp_codes::laws::{black_laws, mode_laws, mode_place_laws, white_laws};
 pub fn strip_law()
     ensures { (p : Image) (lines : List (List Bool)) →
         IsPage p →
-        StripReads (bits_of High (strip_of p)) p.width p.height lines ↔ (lines ≡ p.rows) }
+        StripReads (bits_of High (bits_strip p)) p.width p.height lines ↔ (lines ≡ p.rows) }
 {
     white_laws();
     black_laws();
@@ -32,8 +32,8 @@ pub fn strip_size()
     ensures row { (above line : List Bool) →
         length above ≡ length line → length (row_code above line) ≤ 64 * (length line + 1) }
     ensures short { (p : Image) →
-        IsPage p → length (strip_of p) ≤ 8 * (p.width + 1) * p.height + 4 }
-    ensures fits { (p : Image) → IsPage p → length (strip_of p) < 2 ^ 32 }
+        IsPage p → length (bits_strip p) ≤ 8 * (p.width + 1) * p.height + 4 }
+    ensures fits { (p : Image) → IsPage p → length (bits_strip p) < 2 ^ 32 }
 {}
 
 /// A strip is read as the same lines or as none, has no fault where it is read, and at most one.
@@ -62,11 +62,11 @@ pub fn reading_law()
 /// none of them breaks a rule. A fault of some rows is one of more rows too.
 pub fn rows_law()
     ensures begins { (p : Image) (reader : ReadSoFar) →
-        reader ≡ unread (bits_of High (strip_of p)) p.width → ReadsPage p 0 reader }
+        reader ≡ unread (bits_of High (bits_strip p)) p.width → ReadsPage p 0 reader }
     ensures next { (p : Image) (count : ℕ) (old new : ReadSoFar) (runs : List ℕ) →
         IsPage p → count < p.height → ReadsPage p count old →
         new.bits ≡ old.bits → new.width ≡ old.width → new.fault ≡ None →
-        ReadsNext (take count p.rows) new runs →
+        ReadsNextRow (take count p.rows) new runs →
         IsRuns runs (row_of p count) × ReadsPage p (count + 1) new }
     ensures line { (p : Image) (count : ℕ) (old new : ReadSoFar) →
         IsPage p → count < p.height → ReadsPage p count old →

@@ -1,7 +1,7 @@
 // Modes near b1 read.
 ghost use Rattle.std.specs.Prelude.{◌≡◌, ◌<◌, ◌≤◌, ◌+◌, ◌-◌, ◌*◌, ◌^◌, ℕ, Bool, List, IfSome, None, true, false, [], ◌∷◌, ◌++◌, length, vec_len, vec_capacity, not};
 ghost use Rattle.bp_rows.specs.Changes.{place_at, Shows, Rises};
-ghost use Rattle.bp_t6.specs.Coding.{Stepped};
+ghost use Rattle.bp_t6.specs.Coding.{SteppedTo};
 ghost use Rattle.bp_t6.specs.Near.{Holds, BeginsNear, near_mode};
 ghost use Rattle.bp_t6.specs.Reading.{IsUnder, Steps};
 
@@ -76,7 +76,7 @@ fn next_b1(above: &[u32], width: u32, change: usize, right: u32, canonical: bool
     ensures on { IfSome result (λ _. right ≤ width) }
     ensures left { canonical ≡ true
         → IfSome result (λ _. right ≤ place_at above.now width (change + 1)) }
-    ensures step { IfSome result (λ from. Stepped above.now width (change - 1) from right) }
+    ensures step { IfSome result (λ from. SteppedTo above.now width (change - 1) from right) }
 {
     let start = change - 1;
     if canonical {

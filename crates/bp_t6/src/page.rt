@@ -2,7 +2,7 @@
 ghost use Rattle.std.specs.Prelude.{◌≡◌, ◌<◌, ◌≤◌, ◌+◌, ◌*◌, ◌^◌, ◌++◌, IfOk, length};
 ghost use Rattle.bp_codes.specs.CodeLists.{end_of_block};
 ghost use Rattle.bp_rows.specs.Image.{IsPage};
-ghost use Rattle.bp_t6.specs.Written.{strip_bits, strip_of};
+ghost use Rattle.bp_t6.specs.Written.{strip_bits, bits_strip};
 
 use crate::line_writer::LineWriter;
 use bp_core::{Bytes, OutOfMemory};
@@ -14,7 +14,7 @@ use std::alloc::Global;
 /// (ITU-T T.6, 2.2.4, EOFB and pad bits). At most `8 * (width + 1) * height + 4` bytes, so its
 /// length fits 32 bits.
 pub fn code_page(alloc: Global, page: &Page) -> Result<Bytes, OutOfMemory>
-    ensures strip { IfOk result (λ bytes. bytes ≡ strip_of page.now) }
+    ensures strip { IfOk result (λ bytes. bytes ≡ bits_strip page.now) }
     ensures short { let width = page.now.width in let height = page.now.height in
         IfOk result (λ bytes. length bytes ≤ 8 * (width + 1) * height + 4) }
     ensures fits { IfOk result (λ bytes. length bytes < 2 ^ 32) }

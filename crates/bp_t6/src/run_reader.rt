@@ -1,6 +1,6 @@
 // A run read.
 ghost use Rattle.std.specs.Prelude.{◌≡◌, ◌<◌, ◌≤◌, ◌-◌, IfOk, IfErr, IfSome, List, Bool, length, drop};
-ghost use Rattle.bp_codes.specs.Ahead.{IsAhead, Finds};
+ghost use Rattle.bp_codes.specs.Ahead.{IsAhead, FindsCode};
 ghost use Rattle.bp_codes.specs.Span.{span_bits};
 ghost use Rattle.bp_t6.specs.Modes.{run_codes};
 ghost use Rattle.bp_t6.specs.Reading.{RunReads};
@@ -101,7 +101,7 @@ pub fn run_ahead(span: &BitSpan, word: u64, from: u64, start: u64, black: bool) 
 fn code_ahead(word: u64, skipped: u64, black: bool) -> Option<Found>
     requires { skipped ≤ MOST_SKIPPED }
     ensures { (bits : List Bool) → IsAhead word bits
-        → Finds (run_codes black) (drop skipped bits) result }
+        → FindsCode (run_codes black) (drop skipped bits) result }
 {
     if black {
         black_ahead(word, skipped)

@@ -8,7 +8,7 @@ ghost use Rattle.bp_codes.specs.Span.{span_bits};
 ghost use Rattle.bp_t6.specs.Read.{StripReads};
 ghost use Rattle.bp_t6.specs.Faults.{StripFault};
 ghost use Rattle.bp_core.specs.declared.rules.RuleKind.{RuleKind};
-ghost use Rattle.bp_t6.specs.Strips.{AppendsLines, StandsBehind, SaysFault, IsRefused, OrNoMemory, refusal_for, fault_rule, page_of};
+ghost use Rattle.bp_t6.specs.Strips.{AppendsLines, StandsBehind, SaysFault, IsRefused, OrNoMemory, refusal_for, fault_rule, page_of_lines};
 ghost use Rattle.bp_core.specs.Answers.{IfRule};
 
 use crate::laws::reading_law;
@@ -105,7 +105,7 @@ pub fn read_strip(
     rows: u32,
 ) -> Result<Page, Refusal>
     requires { length bytes.now < 2 ^ 32 }
-    ensures page { IfOk result (λ p. p ≡ page_of width rows p.rows) }
+    ensures page { IfOk result (λ p. p ≡ page_of_lines width rows p.rows) }
     ensures sides { IfOk result (λ _. IsTrue (sides_are_allowed width rows)) }
     ensures read { IfOk result (λ p. StripReads (bits_of fill bytes.now) width rows p.rows) }
     ensures refused { IfErr result (λ refusal.
@@ -117,7 +117,7 @@ pub fn read_strip(
         → result ≡ Err (refusals.Rule (page_limit_rule width rows)) }
     ensures lines { (lines : List (List Bool)) → IsTrue (sides_are_allowed width rows)
         → StripReads (bits_of fill bytes.now) width rows lines
-        → OrNoMemory result (Ok (page_of width rows lines)) }
+        → OrNoMemory result (Ok (page_of_lines width rows lines)) }
     ensures fault { (kind : RuleKind) (row at : ℕ) → IsTrue (sides_are_allowed width rows)
         → StripFault (bits_of fill bytes.now) width rows kind row at
         → OrNoMemory result (Err (refusals.Rule (fault_rule kind row at))) }

@@ -7,7 +7,7 @@ ghost use Rattle.bp_codes.specs.Bits.{bits_of};
 ghost use Rattle.bp_codes.specs.Span.{span_bits};
 ghost use Rattle.bp_rows.specs.Changes.{Rises, Shows};
 ghost use Rattle.bp_rows.specs.Runs.{IsRuns};
-ghost use Rattle.bp_t6.specs.SoFar.{HasRead, ReadsLine, ReadsNext, unread, stopped, rule_of};
+ghost use Rattle.bp_t6.specs.SoFar.{HasRead, ReadsLine, ReadsNextRow, unread, stopped, rule_of};
 ghost use Rattle.bp_t6.specs.Strips.{SaysFault};
 
 use crate::line_reader::read_row;
@@ -152,7 +152,7 @@ impl<'a> StripRows<'a> {
         ensures width { self.new.width ≡ self.old.width }
         ensures read { IfOk result (λ _. self.new.fault ≡ None) }
         ensures next { (lines : List (List Bool)) → HasRead self.old lines
-            → IfOk result (λ runs. ReadsNext lines self.new runs) }
+            → IfOk result (λ runs. ReadsNextRow lines self.new runs) }
         ensures fault { (lines : List (List Bool)) → HasRead self.old lines → self.old.fault ≡ None
             → IfErr result (IfRule (SaysFault self.old.bits self.old.width (self.old.row + 1) 0)) }
         ensures stops { IfErr result (IfRule (λ rule. self.new ≡ stopped self.old rule)) }

@@ -4,7 +4,7 @@ ghost use Rattle.bp_rows.specs.Changes.{Shows};
 ghost use Rattle.bp_rows.specs.Image.{Image, row_of};
 ghost use Rattle.bp_rows.specs.Runs.{painted_runs};
 ghost use Rattle.bp_t6.specs.SoFar.{HasAdded, last_line};
-ghost use Rattle.bp_t6.specs.Written.{row_code, strip_of, white_line};
+ghost use Rattle.bp_t6.specs.Written.{row_code, bits_strip, white_line};
 
 use crate::line_writer::LineWriter;
 use crate::row_code::RowCode;
@@ -136,7 +136,7 @@ impl StripWriter {
     /// the byte. The writer is left without rows; a refusal leaves it as it was.
     pub fn finish(&mut self, alloc: Global) -> Result<Bytes, OutOfMemory>
         ensures strip { (p : Image) → p.width ≡ self.old.width → HasAdded self.old p.rows
-            → IfOk result (λ bytes. bytes ≡ strip_of p) }
+            → IfOk result (λ bytes. bytes ≡ bits_strip p) }
         ensures width { self.new.width ≡ self.old.width }
         ensures none { OnOk result (HasAdded self.new []) }
         ensures kept { OnErr result (self.new ≡ self.old) }

@@ -4,7 +4,7 @@ ghost use Rattle.bp_codes.specs.CodeLists.{white_codes, black_codes, mode_codes,
 ghost use Rattle.bp_t6.specs.Modes.{code, run_bits_in, run_codes};
 ghost use Rattle.bp_t6.specs.Gathered.{AreShort};
 ghost use Rattle.bp_t6.specs.Marks.{Continues};
-ghost use Rattle.bp_t6.specs.Written.{run_of};
+ghost use Rattle.bp_t6.specs.Written.{written_run};
 
 use crate::bit_writer::BitWriter;
 use crate::lengths::{BEFORE_MAKE_UPS, MAKE_UP_STEP, MAKE_UPS};
@@ -63,7 +63,7 @@ impl CodeTables {
     /// The codes of a run go out.
     #[inline(always)]
     pub fn put_run(&self, out: &mut BitWriter, is_black: bool, run: u32) -> Result<(), AllocError>
-        ensures put { let bits = run_bits_in (run_codes is_black) (run_of run) in
+        ensures put { let bits = run_bits_in (run_codes is_black) (written_run run) in
             OnOk result (out.new ≡ out.old ++ bits) }
         ensures begins { Continues out.old out.new }
     {
@@ -85,7 +85,7 @@ pub fn put_end_of_block(out: &mut BitWriter) -> Result<(), AllocError>
 #[inline(always)]
 fn put_run(out: &mut BitWriter, codes: &CodeTable<104>, run: u32) -> Result<(), AllocError>
     requires { AreShort codes.now ≡ true }
-    ensures put { OnOk result (out.new ≡ out.old ++ run_bits_in codes.now (run_of run)) }
+    ensures put { OnOk result (out.new ≡ out.old ++ run_bits_in codes.now (written_run run)) }
     ensures begins { Continues out.old out.new }
 {
     for _ in 0..run / LONGEST_MAKE_UP {

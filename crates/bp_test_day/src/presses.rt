@@ -18,7 +18,7 @@
 //     found ID               whether each file is the one that is found by its path
 //     find ID PATH           how many bytes the file has that is found by this path, or the rule
 ghost use Rattle.std.specs.Prelude.{IfSome};
-ghost use Rattle.bp_freeze.specs.Keeping.{Keeps};
+ghost use Rattle.bp_freeze.specs.Keeping.{KeepsProduction};
 
 use crate::day::Day;
 use crate::keeping::numbers_of;
@@ -93,7 +93,7 @@ pub fn told<R: Threads + Sync>(
 #[tactic(auto, using(crate::proofs::KeptLemmas::found_keeps))]
 // The production of this id.
 fn production_in<'a>(tables: &'a Tables, id: &Text) -> Option<&'a Production>
-    ensures { IfSome result (λ production. Keeps tables.now.matter production.now) }
+    ensures { IfSome result (λ production. KeepsProduction tables.now.matter production.now) }
 {
     match tables.production(id) {
         Some(production) => Some(production),

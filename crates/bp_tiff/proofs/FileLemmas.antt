@@ -8,7 +8,7 @@ use Rattle.bp_codes.specs.Bits.{bits_of}
 use Rattle.bp_rows.specs.declared.resolution.Unit.{Unit as LengthUnit}
 use Rattle.bp_rows.specs.declared.resolution.Unit.TheVariants as units
 use Rattle.bp_rows.specs.Image.{Image, IsPage}
-use Rattle.bp_t6.specs.Written.{strip_of as t6_strip}
+use Rattle.bp_t6.specs.Written.{bits_strip as t6_strip}
 use Rattle.bp_t6.specs.Read.{StripReads}
 use Rattle.bp_tiff.specs.declared.form.Form.{Form}
 use Rattle.bp_tiff.specs.declared.form.Form.TheVariants.{Plain, G4}

@@ -13,10 +13,10 @@ use Rattle.bp_tiff.specs.declared.layout.Strips.{Strips}
 use Rattle.bp_tiff.specs.declared.layout.Layout.{Layout}
 use Rattle.bp_tiff.specs.Layout.{strips_due, is_inside, are_inside}
 use Rattle.bp_tiff.specs.Layout.{IsLaid}
-use Rattle.bp_tiff.specs.Pixels.{packed_values, inked, CodedHolds, PackedHolds}
+use Rattle.bp_tiff.specs.Pixels.{packed_values, value_inked, CodedHolds, PackedHolds}
 use Rattle.bp_tiff.specs.Read.{Breaks, StripsHold, StripsBreak, strip_bytes, strip_rows}
 use Rattle.bp_t6.specs.Strips.{AppendsLines}
-use Rattle.bp_tiff.specs.Appending.{kept_fill, lines_in, AppendsStrip, rows_before, HasRead, HoldsAll}
+use Rattle.bp_tiff.specs.Appending.{kept_fill, lines_in, AppendsStrip, rows_before, HasReadStrips, HoldsAll}
 use Rattle.bp_tiff.proofs.JoinedLemmas.{values_of_front, values_joined, inked_joined, values_packed}
 
 -- ---- how many
@@ -44,8 +44,8 @@ packed_adds bytes l k old new plain enough joined =
     let w = l.sides.width in let n = strip_rows l k in let strip = strip_bytes bytes l k in let z = l.coding.zero_is_black in
     let more = take (n * row_bytes w) strip in
     let fill : kept_fill l.coding ≡ l.coding.fill = ap (λ (b : Bool). elim b [ true ↦ High | false ↦ l.coding.fill ]) plain in
-    let lines : lines_in l n more ≡ inked z (packed_values l.coding.fill w n strip) =
-    ap (λ f. inked z (packed_values f w n more)) fill ∙ ap (inked z) (values_of_front l.coding.fill w n strip) in
+    let lines : lines_in l n more ≡ value_inked z (packed_values l.coding.fill w n strip) =
+    ap (λ f. value_inked z (packed_values f w n more)) fill ∙ ap (value_inked z) (values_of_front l.coding.fill w n strip) in
     let P : Bool → Type 0 = λ b. elim b [ true ↦ CodedHolds l.coding w n strip (lines_in l n more) | false ↦ PackedHolds l.coding w n strip (lines_in l n more) ] in
     record { more = more; joined = joined; long = length-take-le (n * row_bytes w) strip enough; holds = subst P (sym plain) (record { enough = enough; means = lines }) }
 
@@ -55,8 +55,8 @@ coded_adds bytes l k old new coded a =
     let w = l.sides.width in let n = strip_rows l k in let strip = strip_bytes bytes l k in let z = l.coding.zero_is_black in
     let more = packed_rows a.lines in
     let fill : kept_fill l.coding ≡ High = ap (λ (b : Bool). elim b [ true ↦ High | false ↦ l.coding.fill ]) coded in
-    let lines : lines_in l n more ≡ inked z a.lines =
-    ap (λ f. inked z (packed_values f w n more)) fill ∙ ap (inked z) (values_packed w n a.lines a.grid) in
+    let lines : lines_in l n more ≡ value_inked z a.lines =
+    ap (λ f. value_inked z (packed_values f w n more)) fill ∙ ap (value_inked z) (values_packed w n a.lines a.grid) in
     let P : Bool → Type 0 = λ b. elim b [ true ↦ CodedHolds l.coding w n strip (lines_in l n more) | false ↦ PackedHolds l.coding w n strip (lines_in l n more) ] in
     record { more = more; joined = a.packed; long = length-packed_rows w n a.lines a.grid; holds = subst P (sym coded) (record { values = a.lines; reads = a.reads; means = lines }) }
 
@@ -68,7 +68,7 @@ rows_more l k within =
     let more : (k + 1) * r ≡ k * r + r = grind arith in
     omega arith
 
-pub read_more : (bytes : List ℕ) (l : Layout) (k : ℕ) (old new : List ℕ) → k * l.strips.rows < l.sides.height → k < l.strips.count → HasRead bytes l k old → AppendsStrip bytes l k old new → HasRead bytes l (k + 1) new
+pub read_more : (bytes : List ℕ) (l : Layout) (k : ℕ) (old new : List ℕ) → k * l.strips.rows < l.sides.height → k < l.strips.count → HasReadStrips bytes l k old → AppendsStrip bytes l k old new → HasReadStrips bytes l (k + 1) new
 read_more bytes l k old new within some before a =
     let n = l.strips.count in let w = l.sides.width in let z = l.coding.zero_is_black in let f = kept_fill l.coding in
     let s = row_bytes w in let m = rows_before l k in let r = strip_rows l k in
@@ -77,7 +77,7 @@ read_more bytes l k old new within some before a =
     let sum : (m + r) * s ≡ m * s + r * s = grind arith in
     let lines : lines_in l (rows_before l (k + 1)) new ≡ lines_in l m old ++ lines_in l r a.more =
     ap (λ q. lines_in l q new) rows ∙ ap (lines_in l (m + r)) a.joined
-    ∙ ap (inked z) (values_joined f w m r old a.more before.long) ∙ inked_joined z (packed_values f w m old) (packed_values f w r a.more) in
+    ∙ ap (value_inked z) (values_joined f w m r old a.more before.long) ∙ inked_joined z (packed_values f w m old) (packed_values f w r a.more) in
     record {
       long = ap length a.joined ∙ length-append old a.more ∙ omega (arith, before.long, a.long, sum, ap (λ q. q * s) rows);
       holds = λ rest held.
@@ -90,7 +90,7 @@ read_more bytes l k old new within some before a =
           before.breaks rule (subst P (sym left) (inr (record { these = lines_in l r a.more; one = a.holds; others = broken })));
     }
 
-pub breaks_here : (bytes : List ℕ) (l : Layout) (k : ℕ) (old : List ℕ) (rule : Rule) → k < l.strips.count → HasRead bytes l k old → Breaks bytes l k rule → StripsBreak bytes l l.strips.count 0 rule
+pub breaks_here : (bytes : List ℕ) (l : Layout) (k : ℕ) (old : List ℕ) (rule : Rule) → k < l.strips.count → HasReadStrips bytes l k old → Breaks bytes l k rule → StripsBreak bytes l l.strips.count 0 rule
 breaks_here bytes l k old rule some before broken =
     let n = l.strips.count in
     let left : n - k ≡ suc (n - (k + 1)) = omega arith in
@@ -105,7 +105,7 @@ rows_all bytes l k laid last =
     let same : k * l.strips.rows ≡ strips_due l.sides.height l.strips.rows * l.strips.rows = ap (λ q. q * l.strips.rows) (last ∙ laid.count) in
     omega arith
 
-pub all_held : (bytes : List ℕ) (l : Layout) (k : ℕ) (out : List ℕ) → IsLaid bytes l → k ≡ l.strips.count → HasRead bytes l k out → StripsHold bytes l l.strips.count 0 (lines_in l l.sides.height out)
+pub all_held : (bytes : List ℕ) (l : Layout) (k : ℕ) (out : List ℕ) → IsLaid bytes l → k ≡ l.strips.count → HasReadStrips bytes l k out → StripsHold bytes l l.strips.count 0 (lines_in l l.sides.height out)
 all_held bytes l k out laid last before =
     let none : l.strips.count - k ≡ 0 = omega arith in
     let P : ℕ → Type 0 = λ q. StripsHold bytes l q k [] in
@@ -113,7 +113,7 @@ all_held bytes l k out laid last before =
     subst Q (append-nil (lines_in l (rows_before l k) out) ∙ ap (λ q. lines_in l q out) (rows_all bytes l k laid last))
     (before.holds [] (subst P (sym none) refl))
 
-pub all_rows : (bytes : List ℕ) (l : Layout) (k : ℕ) (out : List ℕ) → IsLaid bytes l → k ≡ l.strips.count → HasRead bytes l k out → HoldsAll bytes l out
+pub all_rows : (bytes : List ℕ) (l : Layout) (k : ℕ) (out : List ℕ) → IsLaid bytes l → k ≡ l.strips.count → HasReadStrips bytes l k out → HoldsAll bytes l out
 all_rows bytes l k out laid last before = record {
   long = before.long ∙ ap (λ q. q * row_bytes l.sides.width) (rows_all bytes l k laid last);
   holds = all_held bytes l k out laid last before;

@@ -14,8 +14,8 @@ use Rattle.bp_tiff.specs.declared.layout.Layout.{Layout}
 use Rattle.bp_tiff.specs.Layout.{layout_of}
 use Rattle.bp_t6.specs.Strips.{fault_rule}
 use Rattle.bp_core.specs.Answers.{Answers, IfRule}
-use Rattle.bp_tiff.specs.Pixels.{inked, CodedHolds, PackedHolds, CodedBreaks, PackedBreaks}
-use Rattle.bp_tiff.specs.Read.{StripsHold, StripsBreak, page_of, TiffReads, TiffFault, TiffAnswers}
+use Rattle.bp_tiff.specs.Pixels.{value_inked, CodedHolds, PackedHolds, CodedBreaks, PackedBreaks}
+use Rattle.bp_tiff.specs.Read.{StripsHold, StripsBreak, page_of_layout, TiffReads, TiffFault, TiffAnswers}
 
 -- what bp_t6 says of a strip: at most one reading or one fault, and never both
 pub record OneReading : Type 0 where
@@ -55,7 +55,7 @@ strip_one :
     → x ≡ y
 strip_one t true c w n strip x y h k =
     let values = t.one (bits_of c.fill strip) w n h.values k.values h.reads k.reads in
-    h.means ∙ ap (inked c.zero_is_black) values ∙ sym k.means
+    h.means ∙ ap (value_inked c.zero_is_black) values ∙ sym k.means
 strip_one t false c w n strip x y h k = h.means ∙ sym k.means
 
 strip_apart :
@@ -177,7 +177,7 @@ file_one t bytes p q a b =
     let same = same_layout bytes b.layout a.layout b.laid a.laid in
     let P : Layout → Type 0 = λ l. StripsHold bytes l l.strips.count 0 q.rows in
     let rows = strips_one t bytes a.layout a.layout.strips.count 0 p.rows q.rows a.held (subst P same b.held) in
-    a.page ∙ ap (page_of a.layout) rows ∙ ap (λ l. page_of l q.rows) (sym same) ∙ sym b.page
+    a.page ∙ ap (page_of_layout a.layout) rows ∙ ap (λ l. page_of_layout l q.rows) (sym same) ∙ sym b.page
 
 -- two answers are one
 pub same_answer :

@@ -14,7 +14,7 @@ use Rattle.bp_tiff.specs.declared.directory.FoundEntry.{FoundEntry}
 use Rattle.bp_tiff.specs.declared.layout.Coding.{Coding}
 use Rattle.bp_tiff.specs.declared.layout.Layout.{Layout}
 use Rattle.bp_tiff.specs.declared.numbers.ByteOrder.{ByteOrder}
-use Rattle.bp_tiff.specs.Directory.{directory_in, directory_of, entry_of, order_of}
+use Rattle.bp_tiff.specs.Directory.{directory_in, directory_of, entry_of_tag, order_of}
 use Rattle.bp_tiff.specs.Layout.{are_inside, sides_of, compression_of, coding_of, strips_of, scale_of, layout_of}
 use Rattle.bp_tiff.specs.PageRules.{IsPageRule}
 use Rattle.bp_tiff.specs.PageRules as page
@@ -30,7 +30,7 @@ use Rattle.bp_tiff.specs.Numbers.{short_at, long_at}
 use Rattle.bp_tiff.specs.Units.{unit_of}
 use Rattle.bp_tiff.specs.Rules.{tiff_missing}
 use Rattle.bp_tiff.specs.declared.values.Values.{Values}
-use Rattle.bp_tiff.specs.Values.{number_in, number_of, number_among, values_in, values_of, resolution_in, resolution_of, two_hundred, is_number, value_size}
+use Rattle.bp_tiff.specs.Values.{number_in_entry, number_of_tag, number_among, values_in, values_of_tag, resolution_in, resolution_of, two_hundred, is_one_number, value_size}
 use Rattle.bp_rows.specs.declared.resolution.Res.{Res}
 use Rattle.bp_core.specs.declared.rules.RuleKind.TheVariants as kinds
 use Rattle.bp_core.specs.declared.refusals.Refusal.{Refusal}
@@ -77,22 +77,22 @@ directory_meets bytes =
     next _ _ (tested (nat_le HEADER_BYTES (length bytes)) tiff_head page.head) (λ _.
     next _ _ (given (order_of bytes) tiff_head page.head) (λ order. directory_in_meets bytes order))
 
-number_in_meets : (bytes : List ℕ) (d : Directory) (tag : ℕ) (e : FoundEntry) → Meets (number_in bytes d tag e)
-number_in_meets bytes d tag e = next _ _ (tested (is_number e.kind && e.count == 1) (tiff_type tag) page.type) (λ _. fine _)
+number_in_meets : (bytes : List ℕ) (d : Directory) (tag : ℕ) (e : FoundEntry) → Meets (number_in_entry bytes d tag e)
+number_in_meets bytes d tag e = next _ _ (tested (is_one_number e.kind && e.count == 1) (tiff_type tag) page.type) (λ _. fine _)
 
 abbrev number_if : List ℕ → Directory → ℕ → Option ℕ → Option FoundEntry → Result ℕ Rule
 number_if bytes d tag o found = elim found [
   | None ↦ ok_or o (tiff_missing tag)
-  | Some e ↦ number_in bytes d tag e
+  | Some e ↦ number_in_entry bytes d tag e
 ]
 
 number_found : (bytes : List ℕ) (d : Directory) (tag : ℕ) (o : Option ℕ) (found : Option FoundEntry) → Meets (number_if bytes d tag o found)
 number_found bytes d tag o None = given o _ page.missing
 number_found bytes d tag o (Some e) = number_in_meets bytes d tag e
 
-number_meets : (bytes : List ℕ) (d : Directory) (tag : ℕ) (o : Option ℕ) → Meets (number_of bytes d tag o)
-unfolding number_of
-number_meets bytes d tag o = number_found bytes d tag o (entry_of bytes d tag)
+number_meets : (bytes : List ℕ) (d : Directory) (tag : ℕ) (o : Option ℕ) → Meets (number_of_tag bytes d tag o)
+unfolding number_of_tag
+number_meets bytes d tag o = number_found bytes d tag o (entry_of_tag bytes d tag)
 
 among_meets : (bytes : List ℕ) (d : Directory) (tag : ℕ) (o : Option ℕ) (allowed : List ℕ) → Meets (number_among bytes d tag o allowed)
 unfolding number_among
@@ -106,7 +106,7 @@ values_start bytes d e = if nat_le (value_size (e.kind == tags.LONG) * e.count) 
 
 values_in_meets : (bytes : List ℕ) (d : Directory) (tag due : ℕ) (e : FoundEntry) → Meets (values_in bytes d tag due e)
 values_in_meets bytes d tag due e =
-    next _ _ (tested (is_number e.kind) (tiff_type tag) page.type) (λ _.
+    next _ _ (tested (is_one_number e.kind) (tiff_type tag) page.type) (λ _.
     next _ _ (tested (e.count == due) tiff_strips page.strips) (λ _.
     next _ _ (tested (nat_le (values_start bytes d e + value_size (e.kind == tags.LONG) * e.count) (length bytes)) (tiff_bounds tag) page.bounds) (λ _. fine _)))
 
@@ -120,9 +120,9 @@ values_found : (bytes : List ℕ) (d : Directory) (tag due : ℕ) (found : Optio
 values_found bytes d tag due None = broken _ page.missing
 values_found bytes d tag due (Some e) = values_in_meets bytes d tag due e
 
-values_meets : (bytes : List ℕ) (d : Directory) (tag due : ℕ) → Meets (values_of bytes d tag due)
-unfolding values_of
-values_meets bytes d tag due = values_found bytes d tag due (entry_of bytes d tag)
+values_meets : (bytes : List ℕ) (d : Directory) (tag due : ℕ) → Meets (values_of_tag bytes d tag due)
+unfolding values_of_tag
+values_meets bytes d tag due = values_found bytes d tag due (entry_of_tag bytes d tag)
 
 abbrev resolution_if : List ℕ → Directory → ℕ → Option FoundEntry → Result Res Rule
 resolution_if bytes d tag found = elim found [
@@ -138,7 +138,7 @@ resolution_found bytes d tag (Some e) =
 
 resolution_meets : (bytes : List ℕ) (d : Directory) (tag : ℕ) → Meets (resolution_of bytes d tag)
 unfolding resolution_of
-resolution_meets bytes d tag = resolution_found bytes d tag (entry_of bytes d tag)
+resolution_meets bytes d tag = resolution_found bytes d tag (entry_of_tag bytes d tag)
 
 -- ---- the table of tags
 

@@ -11,14 +11,14 @@ use Rattle.bp_rows.specs.Packed.{packed_rows}
 use Rattle.bp_rows.proofs.PackedLemmas.{length-packed_rows, rows_in-packed_rows}
 use Rattle.bp_rows.proofs.PageLemmas.{strip_small}
 use Rattle.bp_t6.specs.Read.{StripReads}
-use Rattle.bp_t6.specs.Written.{strip_of as t6_strip}
+use Rattle.bp_t6.specs.Written.{bits_strip as t6_strip}
 use Rattle.bp_tiff.specs.declared.form.Form.{Form}
 use Rattle.bp_tiff.specs.declared.form.Form.TheVariants.{Plain, G4}
 use Rattle.bp_tiff.specs.declared.layout.Layout.{Layout}
 use Rattle.bp_tiff.specs.Layout.{layout_of}
 use Rattle.bp_tiff.specs.Pixels.{packed_values}
-use Rattle.bp_tiff.specs.Read.{Holds, StripsHold, strip_bytes, page_of, TiffReads}
-use Rattle.bp_tiff.specs.Tiff.{tiff_of, strip_of, fields_of}
+use Rattle.bp_tiff.specs.Read.{StripHoldsRows, StripsHold, strip_bytes, page_of_layout, TiffReads}
+use Rattle.bp_tiff.specs.Tiff.{tiff_of, strip_of, tiff_fields}
 use Rattle.bp_tiff.proofs.FileLemmas.{file, number, StripLaw}
 use Rattle.bp_tiff.proofs.WrittenLayoutLemmas.{layout_for, layout_is}
 
@@ -36,7 +36,7 @@ strip_fits G4 p size page = size p page
 strip_is :
     (form : Form) (p : Image) (strip : List ℕ)
     → length strip < 2 ^ 32
-    → strip_bytes (file form (fields_of p) (length strip) strip) (layout_for form p) 0 ≡ strip
+    → strip_bytes (file form (tiff_fields p) (length strip) strip) (layout_for form p) 0 ≡ strip
 strip_is Plain p strip small =
     ap (λ n. take n strip) (number (length strip) small) ∙ take_all (length strip) strip (omega arith)
 strip_is G4 p strip small =
@@ -58,7 +58,7 @@ held :
     → SizeLaw
     → IsPage p
     → (lines : List (List Bool))
-    → Holds (tiff_of form p) (layout_for form p) 0 lines ↔ (lines ≡ p.rows)
+    → StripHoldsRows (tiff_of form p) (layout_for form p) 0 lines ↔ (lines ≡ p.rows)
 held Plain p law size page lines =
     let w = p.width in
     let h = p.height in
@@ -128,7 +128,7 @@ same_layout bytes l m one other = let both : Ok l ≡ Ok m = sym one ∙ other i
 
 -- what a layout says of a page that is read
 abbrev IsHeld : List ℕ → Image → Layout → Type 0
-IsHeld bytes q l = StripsHold bytes l l.strips.count 0 q.rows × (q ≡ page_of l q.rows)
+IsHeld bytes q l = StripsHold bytes l l.strips.count 0 q.rows × (q ≡ page_of_layout l q.rows)
 
 rows_held :
     (form : Form) (p : Image)
@@ -143,7 +143,7 @@ rows_held form p law size page q both =
     let first = (held form p law size page strips.these).0 strips.one in
     let rows : q.rows ≡ p.rows =
     strips.joined ∙ ap (λ ls. strips.these ++ ls) strips.others ∙ append-nil strips.these ∙ first in
-    both.1 ∙ ap (page_of (layout_for form p)) rows
+    both.1 ∙ ap (page_of_layout (layout_for form p)) rows
 
 -- and as no other
 only :

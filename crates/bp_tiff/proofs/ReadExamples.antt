@@ -8,11 +8,11 @@ use Rattle.bp_core.specs.Rules.{page_limit_rule}
 use Rattle.bp_rows.specs.declared.resolution.Unit.TheVariants.{Inch}
 use Rattle.bp_tiff.specs.declared.layout.Layout.{Layout}
 use Rattle.bp_tiff.specs.declared.numbers.ByteOrder.TheVariants.{Little, Big}
-use Rattle.bp_tiff.specs.Directory.{directory_in, entry_of}
+use Rattle.bp_tiff.specs.Directory.{directory_in, entry_of_tag}
 use Rattle.bp_tiff.specs.Layout.{layout_of, sides_of, coding_of, strips_of, scale_of}
 use Rattle.bp_tiff.specs.Rules.{tiff_head, tiff_bounds, tiff_missing, tiff_type, tiff_meaning, tiff_compression, tiff_strips, many_pages}
 use Rattle.bp_tiff.specs.Standing.{Follows, StandTogether}
-use Rattle.bp_tiff.specs.Values.{number_of, number_among, values_of, resolution_of}
+use Rattle.bp_tiff.specs.Values.{number_of_tag, number_among, values_of_tag, resolution_of}
 use Rattle.bp_tiff.proofs.Examples.{g4_file, plain_file, two_hundred}
 
 -- ---- whole files
@@ -33,7 +33,7 @@ g4_layout = record {
 }
 
 g4_read : layout_of g4_file ≡ Ok g4_layout
-unfolding layout_of directory_in entry_of number_of number_among values_of resolution_of sides_of coding_of strips_of scale_of
+unfolding layout_of directory_in entry_of_tag number_of_tag number_among values_of_tag resolution_of sides_of coding_of strips_of scale_of
 g4_read = refl
 
 -- the same page in the plain form
@@ -52,7 +52,7 @@ plain_layout = record {
 }
 
 plain_read : layout_of plain_file ≡ Ok plain_layout
-unfolding layout_of directory_in entry_of number_of number_among values_of resolution_of sides_of coding_of strips_of scale_of
+unfolding layout_of directory_in entry_of_tag number_of_tag number_among values_of_tag resolution_of sides_of coding_of strips_of scale_of
 plain_read = refl
 
 -- a stranger's, of 8 by 3: the highest byte first, the first bit low, 0 is black, three strips, no
@@ -92,7 +92,7 @@ strange_layout = record {
 }
 
 pub strange_read : layout_of strange_file ≡ Ok strange_layout
-unfolding layout_of directory_in entry_of number_of number_among values_of resolution_of sides_of coding_of strips_of scale_of
+unfolding layout_of directory_in entry_of_tag number_of_tag number_among values_of_tag resolution_of sides_of coding_of strips_of scale_of
 strange_read = refl
 
 -- ---- every proper prefix of the first and the last of them
@@ -101,31 +101,31 @@ abbrev cut : ℕ → ℕ → List ℕ → List (Result Layout Rule)
 cut from count bytes = map (λ k. layout_of (take k bytes)) (range_with_len from count)
 
 g4_heads : cut 0 8 g4_file ≡ replicate 8 (Err tiff_head)
-unfolding layout_of directory_in entry_of number_of number_among values_of resolution_of sides_of coding_of strips_of scale_of
+unfolding layout_of directory_in entry_of_tag number_of_tag number_among values_of_tag resolution_of sides_of coding_of strips_of scale_of
 g4_heads = refl
 
 g4_directories : cut 8 174 g4_file ≡ replicate 174 (Err (tiff_bounds 0))
-unfolding layout_of directory_in entry_of number_of number_among values_of resolution_of sides_of coding_of strips_of scale_of
+unfolding layout_of directory_in entry_of_tag number_of_tag number_among values_of_tag resolution_of sides_of coding_of strips_of scale_of
 g4_directories = refl
 
 g4_rest :
     cut 182 22 g4_file
     ≡ replicate 8 (Err (tiff_bounds 282)) ++ replicate 8 (Err (tiff_bounds 283)) ++ replicate 6 (Err (tiff_bounds 273))
-unfolding layout_of directory_in entry_of number_of number_among values_of resolution_of sides_of coding_of strips_of scale_of
+unfolding layout_of directory_in entry_of_tag number_of_tag number_among values_of_tag resolution_of sides_of coding_of strips_of scale_of
 g4_rest = refl
 
 strange_heads : cut 0 8 strange_file ≡ replicate 8 (Err tiff_head)
-unfolding layout_of directory_in entry_of number_of number_among values_of resolution_of sides_of coding_of strips_of scale_of
+unfolding layout_of directory_in entry_of_tag number_of_tag number_among values_of_tag resolution_of sides_of coding_of strips_of scale_of
 strange_heads = refl
 
 strange_directories : cut 8 102 strange_file ≡ replicate 102 (Err (tiff_bounds 0))
-unfolding layout_of directory_in entry_of number_of number_among values_of resolution_of sides_of coding_of strips_of scale_of
+unfolding layout_of directory_in entry_of_tag number_of_tag number_among values_of_tag resolution_of sides_of coding_of strips_of scale_of
 strange_directories = refl
 
 strange_rest :
     cut 110 30 strange_file
     ≡ replicate 12 (Err (tiff_bounds 273)) ++ replicate 6 (Err (tiff_bounds 279)) ++ replicate 12 (Err (tiff_bounds 273))
-unfolding layout_of directory_in entry_of number_of number_among values_of resolution_of sides_of coding_of strips_of scale_of
+unfolding layout_of directory_in entry_of_tag number_of_tag number_among values_of_tag resolution_of sides_of coding_of strips_of scale_of
 strange_rest = refl
 
 -- ---- other bytes at one place of the first
@@ -166,18 +166,18 @@ answers :
     ∷ Err tiff_strips
     ∷ Err (tiff_meaning 296)
     ∷ []
-unfolding layout_of directory_in entry_of number_of number_among values_of resolution_of sides_of coding_of strips_of scale_of
+unfolding layout_of directory_in entry_of_tag number_of_tag number_among values_of_tag resolution_of sides_of coding_of strips_of scale_of
 answers = refl
 
 -- T6Options turned into a second ImageWidth, of 0: the first entry of a tag counts
 first_counts : layout_of (changed 154 (0x00 ∷ 0x01 ∷ [])) ≡ Ok g4_layout
-unfolding layout_of directory_in entry_of number_of number_among values_of resolution_of sides_of coding_of strips_of scale_of
+unfolding layout_of directory_in entry_of_tag number_of_tag number_among values_of_tag resolution_of sides_of coding_of strips_of scale_of
 first_counts = refl
 
 -- ---- and of the last
 
 other_compression : layout_of (take 43 strange_file ++ (5 ∷ []) ++ drop 44 strange_file) ≡ Err (tiff_compression 5)
-unfolding layout_of directory_in entry_of number_of number_among values_of resolution_of sides_of coding_of strips_of scale_of
+unfolding layout_of directory_in entry_of_tag number_of_tag number_among values_of_tag resolution_of sides_of coding_of strips_of scale_of
 other_compression = refl
 
 -- ---- rows that stand together

@@ -13,8 +13,8 @@ use Rattle.bp_t6.specs.Strips.{fault_rule}
 use Rattle.bp_tiff.specs.declared.layout.Coding.{Coding}
 use Rattle.bp_tiff.specs.declared.layout.Layout.{Layout}
 use Rattle.bp_tiff.specs.Layout.{layout_of}
-use Rattle.bp_tiff.specs.Pixels.{Lines, inked, packed_values}
-use Rattle.bp_tiff.specs.Read.{strip_bytes, strip_rows, StripsHold, StripsBreak, page_of, TiffAnswers}
+use Rattle.bp_tiff.specs.Pixels.{Lines, value_inked, packed_values}
+use Rattle.bp_tiff.specs.Read.{strip_bytes, strip_rows, StripsHold, StripsBreak, page_of_layout, TiffAnswers}
 use Rattle.bp_tiff.specs.Rules.{tiff_strips}
 use Rattle.bp_tiff.proofs.OneAnswerLemmas.{HoldsIf, BreaksIf}
 
@@ -32,7 +32,7 @@ strip_some :
     → ((lines : Lines) × HoldsIf coded c w n strip lines)
     ⊎ ((rule : Rule) × BreaksIf coded c w n first strip rule)
 strip_some t true c w n first strip = elim (t (bits_of c.fill strip) w n) [
-  | inl read ↦ inl (inked c.zero_is_black read.0, record { values = read.0; reads = read.1; means = refl })
+  | inl read ↦ inl (value_inked c.zero_is_black read.0, record { values = read.0; reads = read.1; means = refl })
   | inr fault ↦ inr (
     fault_rule fault.0 (first + fault.1) fault.2,
     record { kind = fault.0; row = fault.1; at = fault.2; fault = fault.3; says = refl },
@@ -42,7 +42,7 @@ strip_some t false c w n first strip = elim (cases_lt (length strip) (n * row_by
   | inl short ↦ inr (tiff_strips, record { short = short; says = refl })
   | inr enough ↦
       let values = packed_values c.fill w n strip in
-      inl (inked c.zero_is_black values, record { enough = enough; means = refl })
+      inl (value_inked c.zero_is_black values, record { enough = enough; means = refl })
 ]
 
 -- ---- the strips
@@ -75,7 +75,7 @@ answer_by :
     → (answer : Result Image Rule) × TiffAnswers bytes answer
 answer_by t bytes (Err rule) laid = (Err rule, inl laid)
 answer_by t bytes (Ok l) laid = elim (strips_some t bytes l l.strips.count 0) [
-  | inl lines ↦ (Ok (page_of l lines.0), record { layout = l; laid = laid; held = lines.1; page = refl })
+  | inl lines ↦ (Ok (page_of_layout l lines.0), record { layout = l; laid = laid; held = lines.1; page = refl })
   | inr fault ↦ (Err fault.0, inr (record { layout = l; laid = laid; broken = fault.1 }))
 ]
 

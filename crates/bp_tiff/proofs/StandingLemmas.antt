@@ -13,7 +13,7 @@ use Rattle.bp_tiff.specs.Appending.{AppendsStrip, HoldsAll, rows_before}
 use Rattle.bp_tiff.specs.Standing.{Follows, rows_from}
 use Rattle.bp_tiff.specs.Layout.{IsLaid, strips_due}
 use Rattle.bp_tiff.specs.Read.{strip_bytes, strip_rows}
-use Rattle.bp_tiff.specs.Values.{value_at}
+use Rattle.bp_tiff.specs.Values.{nth_value}
 use Rattle.bp_rows.specs.Limits.{sides_are_allowed}
 use Rattle.bp_tiff.proofs.InTurnLemmas.{packed_adds, rows_more, at_end}
 
@@ -25,11 +25,11 @@ pub appends_next : (bytes : List ℕ) (l : Layout) (first k : ℕ)
     → l.coding.is_t6 ≡ false
     → k * l.strips.rows < l.sides.height
     → Follows bytes l first k
-    → value_at bytes l.directory l.strips.offsets k + value_at bytes l.directory l.strips.lengths k ≤ length bytes
+    → nth_value bytes l.directory l.strips.offsets k + nth_value bytes l.directory l.strips.lengths k ≤ length bytes
     → AppendsStrip bytes l k (rows_from bytes l first (rows_before l k)) (rows_from bytes l first (rows_before l (k + 1)))
 appends_next bytes l first k packed within next inside =
-    let offset = value_at bytes l.directory l.strips.offsets k in
-    let long = value_at bytes l.directory l.strips.lengths k in
+    let offset = nth_value bytes l.directory l.strips.offsets k in
+    let long = nth_value bytes l.directory l.strips.lengths k in
     let s = row_bytes l.sides.width in
     let m = rows_before l k in let n = strip_rows l k in
     let before : m ≡ k * l.strips.rows = omega arith in

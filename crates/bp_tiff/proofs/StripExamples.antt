@@ -9,7 +9,7 @@ use Rattle.bp_rows.specs.Image.{Image}
 use Rattle.bp_t6.specs.Modes.{Vertical}
 use Rattle.bp_t6.specs.Read.{RowReads, StripReads}
 use Rattle.bp_t6.specs.Written.{white_line}
-use Rattle.bp_tiff.specs.Pixels.{packed_values, inked, CodedHolds, PackedBreaks}
+use Rattle.bp_tiff.specs.Pixels.{packed_values, value_inked, CodedHolds, PackedBreaks}
 use Rattle.bp_tiff.specs.Read.{TiffReads}
 use Rattle.bp_tiff.specs.Rules.{tiff_strips}
 use Rattle.bp_tiff.proofs.Examples.{two_hundred}
@@ -26,10 +26,10 @@ first_bit_low :
     ≡ (true ∷ false ∷ true ∷ []) ∷ (false ∷ true ∷ false ∷ []) ∷ []
 first_bit_low = refl
 
-one_is_black : inked false ((true ∷ false ∷ []) ∷ []) ≡ (true ∷ false ∷ []) ∷ []
+one_is_black : value_inked false ((true ∷ false ∷ []) ∷ []) ≡ (true ∷ false ∷ []) ∷ []
 one_is_black = refl
 
-zero_is_black : inked true ((true ∷ false ∷ []) ∷ []) ≡ (false ∷ true ∷ []) ∷ []
+zero_is_black : value_inked true ((true ∷ false ∷ []) ∷ []) ≡ (false ∷ true ∷ []) ∷ []
 zero_is_black = refl
 
 -- two rows of nine pixels need four bytes

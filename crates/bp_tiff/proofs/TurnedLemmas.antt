@@ -13,7 +13,7 @@ use Rattle.bp_rows.proofs.PackedLemmas.{place_within, row_covers}
 use Rattle.std.proofs.lemmas.Bool.{cases_eq}
 use Rattle.std.proofs.lemmas.List.{length-set, get_or-set_same, get_or-set_other}
 use Rattle.bp_tiff.specs.Passed.{IsPassed, IsTurned, IsInverted}
-use Rattle.bp_tiff.specs.Pixels.{value_in, packed_values, inked}
+use Rattle.bp_tiff.specs.Pixels.{bit_in, packed_values, value_inked}
 
 -- ---- a pass
 
@@ -57,7 +57,7 @@ low_bit x (suc (suc (suc (suc (suc (suc zero)))))) h = refl
 low_bit x (suc (suc (suc (suc (suc (suc (suc zero))))))) h = refl
 low_bit x (suc (suc (suc (suc (suc (suc (suc (suc i)))))))) h = absurd (omega arith)
 
-pub value_turned : (old new : List ℕ) (at : ℕ) → IsTurned (get_or old (at / 8) 0) (get_or new (at / 8) 0) → value_in High new at ≡ value_in Low old at
+pub value_turned : (old new : List ℕ) (at : ℕ) → IsTurned (get_or old (at / 8) 0) (get_or new (at / 8) 0) → bit_in High new at ≡ bit_in Low old at
 value_turned old new at turned =
     let i = at % 8 in
     sym (high_bit (get_or new (at / 8) 0) i (omega arith)) ∙ ap (λ bs. get_or bs i false) turned.bits ∙ low_bit (get_or old (at / 8) 0) i (omega arith)
@@ -67,7 +67,7 @@ digit_over zero h = refl
 digit_over (suc zero) h = refl
 digit_over (suc (suc x)) h = absurd (omega arith)
 
-pub value_over : (old new : List ℕ) (at : ℕ) → IsInverted (get_or old (at / 8) 0) (get_or new (at / 8) 0) → value_in High new at ≡ not (value_in High old at)
+pub value_over : (old new : List ℕ) (at : ℕ) → IsInverted (get_or old (at / 8) 0) (get_or new (at / 8) 0) → bit_in High new at ≡ not (bit_in High old at)
 value_over old new at inverted =
     let b = get_or old (at / 8) 0 in
     let i = 7 - at % 8 in
@@ -78,17 +78,17 @@ value_over old new at inverted =
 abbrev inked_value : Bool → Bool → Bool
 inked_value z v = cond z (not v) v
 
-inked_cell : (z : Bool) (w h : ℕ) (f : ℕ → ℕ → Bool) → inked z (grid_of w h f) ≡ grid_of w h (λ r c. inked_value z (f r c))
+inked_cell : (z : Bool) (w h : ℕ) (f : ℕ → ℕ → Bool) → value_inked z (grid_of w h f) ≡ grid_of w h (λ r c. inked_value z (f r c))
 inked_cell true w h f = simp map-map
 inked_cell false w h f = refl
 
-pub inked_values : (z : Bool) (f : Fill) (w h : ℕ) (old new : List ℕ) → ((r c : ℕ) → r < h → c < w → value_in High new (place w r c) ≡ inked_value z (value_in f old (place w r c)))
-    → packed_values High w h new ≡ inked z (packed_values f w h old)
+pub inked_values : (z : Bool) (f : Fill) (w h : ℕ) (old new : List ℕ) → ((r c : ℕ) → r < h → c < w → bit_in High new (place w r c) ≡ inked_value z (bit_in f old (place w r c)))
+    → packed_values High w h new ≡ value_inked z (packed_values f w h old)
 inked_values z f w h old new same =
-    same_grids w h (packed_values High w h new) (grid_of w h (λ r c. inked_value z (value_in f old (place w r c)))) (grid_of_is_grid w h _) (grid_of_is_grid w h _)
-    (λ r c down across. cell-grid_of w h (λ r c. value_in High new (place w r c)) r c down across ∙ same r c down across
-    ∙ sym (cell-grid_of w h (λ r c. inked_value z (value_in f old (place w r c))) r c down across))
-    ∙ sym (inked_cell z w h (λ r c. value_in f old (place w r c)))
+    same_grids w h (packed_values High w h new) (grid_of w h (λ r c. inked_value z (bit_in f old (place w r c)))) (grid_of_is_grid w h _) (grid_of_is_grid w h _)
+    (λ r c down across. cell-grid_of w h (λ r c. bit_in High new (place w r c)) r c down across ∙ same r c down across
+    ∙ sym (cell-grid_of w h (λ r c. inked_value z (bit_in f old (place w r c))) r c down across))
+    ∙ sym (inked_cell z w h (λ r c. bit_in f old (place w r c)))
 
 pub in_the_rows : (w h r c : ℕ) (bytes : List ℕ) → length bytes ≡ h * row_bytes w → r < h → c < w → place w r c < 8 * length bytes
 in_the_rows w h r c bytes long down across = let room = place_within w h r c down (omega (arith, row_covers w)) in omega (arith, room, long)

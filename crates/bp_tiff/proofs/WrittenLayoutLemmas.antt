@@ -21,13 +21,13 @@ use Rattle.bp_tiff.specs.declared.layout.Strips.{Strips}
 use Rattle.bp_tiff.specs.declared.layout.Scale.{Scale}
 use Rattle.bp_tiff.specs.declared.layout.Layout.{Layout}
 use Rattle.bp_tiff.specs.declared.tags.TheConstants as tags
-use Rattle.bp_tiff.specs.Directory.{directory_of, directory_in, entry_of}
+use Rattle.bp_tiff.specs.Directory.{directory_of, directory_in, entry_of_tag}
 use Rattle.bp_tiff.specs.Layout.{layout_of, sides_of, coding_of, strips_of, scale_of, strips_due, are_inside}
 use Rattle.bp_tiff.specs.Places.{strip_at}
 use Rattle.bp_tiff.specs.Rules.{◌>>=◌, require, tiff_head, tiff_bounds, tiff_meaning}
-use Rattle.bp_tiff.specs.Tiff.{head_of, fields_of}
+use Rattle.bp_tiff.specs.Tiff.{head_of, tiff_fields}
 use Rattle.bp_tiff.specs.Units.{unit_code, unit_of}
-use Rattle.bp_tiff.specs.Values.{number_of, number_among, values_of, resolution_of}
+use Rattle.bp_tiff.specs.Values.{number_of_tag, number_among, values_of_tag, resolution_of}
 use Rattle.bp_tiff.proofs.FileLemmas.{file, long_again, short_again, number, unit_again, length-head_of}
 
 -- ---- what is found
@@ -111,15 +111,15 @@ directory_is G4 f n strip =
 
 width_is :
     (form : Form) (f : Fields) (n : ℕ) (strip : List ℕ)
-    → number_of (file form f n strip) (directory_for form) tags.IMAGE_WIDTH None ≡ Ok (long_again f.width)
-unfolding number_of entry_of
+    → number_of_tag (file form f n strip) (directory_for form) tags.IMAGE_WIDTH None ≡ Ok (long_again f.width)
+unfolding number_of_tag entry_of_tag
 width_is Plain f n strip = refl
 width_is G4 f n strip = refl
 
 height_is :
     (form : Form) (f : Fields) (n : ℕ) (strip : List ℕ)
-    → number_of (file form f n strip) (directory_for form) tags.IMAGE_LENGTH None ≡ Ok (long_again f.height)
-unfolding number_of entry_of
+    → number_of_tag (file form f n strip) (directory_for form) tags.IMAGE_LENGTH None ≡ Ok (long_again f.height)
+unfolding number_of_tag entry_of_tag
 height_is Plain f n strip = refl
 height_is G4 f n strip = refl
 
@@ -144,12 +144,12 @@ sides_steps x y = do
 sides_are :
     (form : Form) (p : Image) (n : ℕ) (strip : List ℕ)
     → IsPage p
-    → sides_of (file form (fields_of p) n strip) (directory_for form) ≡ Ok (sides_for p)
+    → sides_of (file form (tiff_fields p) n strip) (directory_for form) ≡ Ok (sides_for p)
 unfolding sides_of
 sides_are form p n strip page =
     let fit = sides_fit p page in
-    let f = fields_of p in
-    let high = number_of (file form f n strip) (directory_for form) tags.IMAGE_LENGTH None in
+    let f = tiff_fields p in
+    let high = number_of_tag (file form f n strip) (directory_for form) tags.IMAGE_LENGTH None in
     ap (λ x. sides_steps x high) (width_is form f n strip ∙ ap Ok (number p.width fit.width))
     ∙ ap (sides_steps (Ok p.width)) (height_is form f n strip ∙ ap Ok (number p.height fit.height))
     ∙ ap (λ (b : Bool). (require b (page_limit_rule p.width p.height) >>= λ _. Ok (sides_for p))) page.sides
@@ -159,7 +159,7 @@ sides_are form p n strip page =
 coding_is :
     (form : Form) (f : Fields) (n : ℕ) (strip : List ℕ)
     → coding_of (file form f n strip) (directory_for form) ≡ Ok (coding_for form)
-unfolding coding_of number_among number_of entry_of
+unfolding coding_of number_among number_of_tag entry_of_tag
 coding_is Plain f n strip = refl
 coding_is G4 f n strip = refl
 
@@ -167,16 +167,16 @@ coding_is G4 f n strip = refl
 
 rows_are :
     (form : Form) (f : Fields) (n : ℕ) (strip : List ℕ)
-    → number_of (file form f n strip) (directory_for form) tags.ROWS_PER_STRIP (Some 4294967295)
+    → number_of_tag (file form f n strip) (directory_for form) tags.ROWS_PER_STRIP (Some 4294967295)
     ≡ Ok (long_again f.height)
-unfolding number_of entry_of
+unfolding number_of_tag entry_of_tag
 rows_are Plain f n strip = refl
 rows_are G4 f n strip = refl
 
 offsets_are :
     (form : Form) (f : Fields) (n : ℕ) (strip : List ℕ)
-    → values_of (file form f n strip) (directory_for form) tags.STRIP_OFFSETS 1 ≡ Ok (values_at 90)
-unfolding values_of entry_of
+    → values_of_tag (file form f n strip) (directory_for form) tags.STRIP_OFFSETS 1 ≡ Ok (values_at 90)
+unfolding values_of_tag entry_of_tag
 offsets_are Plain f n strip =
     passes (length (file Plain f n strip)) 94 (tiff_bounds tags.STRIP_OFFSETS) (λ _. Ok (values_at 90)) (omega (arith, length-file Plain f n strip))
 offsets_are G4 f n strip =
@@ -184,8 +184,8 @@ offsets_are G4 f n strip =
 
 lengths_are :
     (form : Form) (f : Fields) (n : ℕ) (strip : List ℕ)
-    → values_of (file form f n strip) (directory_for form) tags.STRIP_BYTE_COUNTS 1 ≡ Ok (values_at 126)
-unfolding values_of entry_of
+    → values_of_tag (file form f n strip) (directory_for form) tags.STRIP_BYTE_COUNTS 1 ≡ Ok (values_at 126)
+unfolding values_of_tag entry_of_tag
 lengths_are Plain f n strip =
     passes (length (file Plain f n strip)) 130 (tiff_bounds tags.STRIP_BYTE_COUNTS) (λ _. Ok (values_at 126)) (omega (arith, length-file Plain f n strip))
 lengths_are G4 f n strip =
@@ -196,8 +196,8 @@ one_due height some = grind arith
 
 abbrev values_steps : List ℕ → Directory → ℕ → ℕ → Result Strips Rule
 values_steps bytes d rows count = do
-  offsets ← values_of bytes d tags.STRIP_OFFSETS count
-  lengths ← values_of bytes d tags.STRIP_BYTE_COUNTS count
+  offsets ← values_of_tag bytes d tags.STRIP_OFFSETS count
+  lengths ← values_of_tag bytes d tags.STRIP_BYTE_COUNTS count
   Ok (record { rows = rows; count = count; offsets = offsets; lengths = lengths })
 
 abbrev strips_steps : List ℕ → Directory → ℕ → Result ℕ Rule → Result Strips Rule
@@ -209,10 +209,10 @@ strips_steps bytes d height x = do
 strips_are :
     (form : Form) (p : Image) (n : ℕ) (strip : List ℕ)
     → IsPage p
-    → strips_of (file form (fields_of p) n strip) (directory_for form) p.height ≡ Ok (strips_for p.height 1)
+    → strips_of (file form (tiff_fields p) n strip) (directory_for form) p.height ≡ Ok (strips_for p.height 1)
 unfolding strips_of
 strips_are form p n strip page =
-    let f = fields_of p in
+    let f = tiff_fields p in
     let bytes = file form f n strip in
     let d = directory_for form in
     let h = p.height in
@@ -221,7 +221,7 @@ strips_are form p n strip page =
     ap (strips_steps bytes d h) (rows_are form f n strip ∙ ap Ok (number h fit.height))
     ∙ ap (λ (b : Bool). (require b (tiff_meaning tags.ROWS_PER_STRIP) >>= λ _. with_rows (strips_due h h))) (lt-ltb 0 h fit.some)
     ∙ ap with_rows (one_due h fit.some)
-    ∙ ap (λ x. (x >>= λ (o : Values). (values_of bytes d tags.STRIP_BYTE_COUNTS 1 >>= λ l. Ok (record { rows = h; count = 1; offsets = o; lengths = l })))) (offsets_are form f n strip)
+    ∙ ap (λ x. (x >>= λ (o : Values). (values_of_tag bytes d tags.STRIP_BYTE_COUNTS 1 >>= λ l. Ok (record { rows = h; count = 1; offsets = o; lengths = l })))) (offsets_are form f n strip)
     ∙ ap (λ x. (x >>= λ (l : Values). Ok (record { rows = h; count = 1; offsets = values_at 90; lengths = l }))) (lengths_are form f n strip)
 
 -- ---- the resolutions
@@ -237,7 +237,7 @@ same_res r fits =
 xres_is :
     (form : Form) (f : Fields) (n : ℕ) (strip : List ℕ)
     → resolution_of (file form f n strip) (directory_for form) tags.X_RESOLUTION ≡ Ok (res_again f.xres)
-unfolding resolution_of entry_of
+unfolding resolution_of entry_of_tag
 xres_is Plain f n strip =
     passes (length (file Plain f n strip)) 178 (tiff_bounds tags.X_RESOLUTION) (λ _. Ok (res_again f.xres)) (omega (arith, length-file Plain f n strip))
 xres_is G4 f n strip =
@@ -246,7 +246,7 @@ xres_is G4 f n strip =
 yres_is :
     (form : Form) (f : Fields) (n : ℕ) (strip : List ℕ)
     → resolution_of (file form f n strip) (directory_for form) tags.Y_RESOLUTION ≡ Ok (res_again f.yres)
-unfolding resolution_of entry_of
+unfolding resolution_of entry_of_tag
 yres_is Plain f n strip =
     passes (length (file Plain f n strip)) 186 (tiff_bounds tags.Y_RESOLUTION) (λ _. Ok (res_again f.yres)) (omega (arith, length-file Plain f n strip))
 yres_is G4 f n strip =
@@ -254,9 +254,9 @@ yres_is G4 f n strip =
 
 unit_is :
     (form : Form) (f : Fields) (n : ℕ) (strip : List ℕ)
-    → number_of (file form f n strip) (directory_for form) tags.RESOLUTION_UNIT (Some 2)
+    → number_of_tag (file form f n strip) (directory_for form) tags.RESOLUTION_UNIT (Some 2)
     ≡ Ok (short_again (unit_code f.unit))
-unfolding number_of entry_of
+unfolding number_of_tag entry_of_tag
 unit_is Plain f n strip = refl
 unit_is G4 f n strip = refl
 
@@ -271,13 +271,13 @@ scale_steps a b c = do
 scale_is :
     (form : Form) (p : Image) (n : ℕ) (strip : List ℕ)
     → IsPage p
-    → scale_of (file form (fields_of p) n strip) (directory_for form) ≡ Ok (scale_for p)
+    → scale_of (file form (tiff_fields p) n strip) (directory_for form) ≡ Ok (scale_for p)
 unfolding scale_of
 scale_is form p n strip page =
-    let f = fields_of p in
+    let f = tiff_fields p in
     let bytes = file form f n strip in
     let d = directory_for form in
-    let code = number_of bytes d tags.RESOLUTION_UNIT (Some 2) in
+    let code = number_of_tag bytes d tags.RESOLUTION_UNIT (Some 2) in
     let with_unit : Option LengthUnit → Result Scale Rule =
     λ o. (ok_or o (tiff_meaning tags.RESOLUTION_UNIT) >>= λ u. Ok (record { xres = p.xres; yres = p.yres; unit = u })) in
     ap (λ x. scale_steps x (resolution_of bytes d tags.Y_RESOLUTION) code) (xres_is form f n strip ∙ ap Ok (same_res p.xres page.xres))
@@ -291,12 +291,12 @@ inside :
     (form : Form) (p : Image) (n : ℕ) (strip : List ℕ)
     → n ≡ length strip
     → n < 2 ^ 32
-    → are_inside (file form (fields_of p) n strip) (directory_for form) (strips_for p.height 1) 1 0 ≡ true
+    → are_inside (file form (tiff_fields p) n strip) (directory_for form) (strips_for p.height 1) 1 0 ≡ true
 inside Plain p n strip same small =
-    let f = fields_of p in
+    let f = tiff_fields p in
     ap (λ (b : Bool). b && true) (le-leb (186 + long_again n) (length (file Plain f n strip)) (omega (arith, number n small, length-file Plain f n strip)))
 inside G4 p n strip same small =
-    let f = fields_of p in
+    let f = tiff_fields p in
     ap (λ (b : Bool). b && true) (le-leb (198 + long_again n) (length (file G4 f n strip)) (omega (arith, number n small, length-file G4 f n strip)))
 
 pub layout_is :
@@ -304,12 +304,12 @@ pub layout_is :
     → IsPage p
     → n ≡ length strip
     → n < 2 ^ 32
-    → layout_of (file form (fields_of p) n strip) ≡ Ok (layout_for form p)
+    → layout_of (file form (tiff_fields p) n strip) ≡ Ok (layout_for form p)
 unfolding layout_of
 layout_is form p n strip page same small =
-    let e1 = directory_is form (fields_of p) n strip in
+    let e1 = directory_is form (tiff_fields p) n strip in
     let e2 = sides_are form p n strip page in
-    let e3 = coding_is form (fields_of p) n strip in
+    let e3 = coding_is form (tiff_fields p) n strip in
     let e4 = strips_are form p n strip page in
     let e5 = scale_is form p n strip page in
     let e6 = inside form p n strip same small in

@@ -48,8 +48,8 @@ IsIn bytes d = d.first + ENTRY_BYTES * d.count + 4 ≤ length bytes
 -- section 2, IFD Entry: its tag, the type and the count of its values, and four bytes that are the
 -- values or say where they stand
 -- by TIFF 6.0, section 2, IFD Entry
-abbrev pub entry_at : ByteOrder → List ℕ → ℕ → FoundEntry
-entry_at order bytes at = record {
+abbrev pub directory_entry : ByteOrder → List ℕ → ℕ → FoundEntry
+directory_entry order bytes at = record {
   kind = short_at order bytes (at + 2);
   count = long_at order bytes (at + 4);
   place = at + 8;
@@ -59,11 +59,11 @@ entry_at order bytes at = record {
 abbrev pub first_from : ByteOrder → List ℕ → ℕ → ℕ → ℕ → Option FoundEntry
 first_from order bytes tag zero at = None
 first_from order bytes tag (suc left) at = elim (short_at order bytes at == tag) [
-  | true ↦ Some (entry_at order bytes at)
+  | true ↦ Some (directory_entry order bytes at)
   | false ↦ first_from order bytes tag left (at + ENTRY_BYTES)
 ]
 
 -- the first entry of a tag, if there is one
 -- by TIFF 6.0, section 2, IFD Entry
-unfoldable pub entry_of : List ℕ → Directory → ℕ → Option FoundEntry
-entry_of bytes d tag = first_from d.order bytes tag d.count d.first
+unfoldable pub entry_of_tag : List ℕ → Directory → ℕ → Option FoundEntry
+entry_of_tag bytes d tag = first_from d.order bytes tag d.count d.first

@@ -16,14 +16,14 @@ use Rattle.bp_tiff.specs.declared.tags.TheConstants as tags
 use Rattle.bp_tiff.specs.Directory.{directory_of}
 use Rattle.bp_tiff.specs.Rules.{◌>>=◌, require, tiff_bounds, tiff_meaning, tiff_compression}
 use Rattle.bp_tiff.specs.Units.{unit_of}
-use Rattle.bp_tiff.specs.Values.{number_of, number_among, values_of, value_at, resolution_of, HasValues}
+use Rattle.bp_tiff.specs.Values.{number_of_tag, number_among, values_of_tag, nth_value, resolution_of, HasValues}
 
 -- section 8, ImageWidth, ImageLength: both sides are read first
 -- by TIFF 6.0, section 8, each field; of Compression 4 section 11
 unfoldable pub sides_of : List ℕ → Directory → Result Sides Rule
 sides_of bytes d = do
-  width ← number_of bytes d tags.IMAGE_WIDTH None
-  height ← number_of bytes d tags.IMAGE_LENGTH None
+  width ← number_of_tag bytes d tags.IMAGE_WIDTH None
+  height ← number_of_tag bytes d tags.IMAGE_LENGTH None
   _ ← require (sides_are_allowed width height) (page_limit_rule width height)
   Ok (record { width = width; height = height })
 
@@ -31,7 +31,7 @@ sides_of bytes d = do
 -- by TIFF 6.0, section 8, each field; of Compression 4 section 11
 abbrev pub compression_of : List ℕ → Directory → Result Bool Rule
 compression_of bytes d = do
-  value ← number_of bytes d tags.COMPRESSION None
+  value ← number_of_tag bytes d tags.COMPRESSION None
   _ ← require (value == 1 || value == 4) (tiff_compression value)
   Ok (value == 4)
 
@@ -61,11 +61,11 @@ strips_due height per_strip = (height + per_strip - 1) / per_strip
 -- by TIFF 6.0, section 8, each field; of Compression 4 section 11
 unfoldable pub strips_of : List ℕ → Directory → ℕ → Result Strips Rule
 strips_of bytes d height = do
-  per_strip ← number_of bytes d tags.ROWS_PER_STRIP (Some tags.ALL_ROWS)
+  per_strip ← number_of_tag bytes d tags.ROWS_PER_STRIP (Some tags.ALL_ROWS)
   _ ← require (nat_lt 0 per_strip) (tiff_meaning tags.ROWS_PER_STRIP)
   let due = strips_due height per_strip
-  offsets ← values_of bytes d tags.STRIP_OFFSETS due
-  lengths ← values_of bytes d tags.STRIP_BYTE_COUNTS due
+  offsets ← values_of_tag bytes d tags.STRIP_OFFSETS due
+  lengths ← values_of_tag bytes d tags.STRIP_BYTE_COUNTS due
   Ok (record { rows = per_strip; count = due; offsets = offsets; lengths = lengths })
 
 -- section 8, XResolution, YResolution, ResolutionUnit: an inch where nothing is said
@@ -74,14 +74,14 @@ unfoldable pub scale_of : List ℕ → Directory → Result Scale Rule
 scale_of bytes d = do
   xres ← resolution_of bytes d tags.X_RESOLUTION
   yres ← resolution_of bytes d tags.Y_RESOLUTION
-  code ← number_of bytes d tags.RESOLUTION_UNIT (Some 2)
+  code ← number_of_tag bytes d tags.RESOLUTION_UNIT (Some 2)
   unit ← ok_or (unit_of code) (tiff_meaning tags.RESOLUTION_UNIT)
   Ok (record { xres = xres; yres = yres; unit = unit })
 
 -- strip k, counted from 0, ends within the file
 abbrev pub is_inside : List ℕ → Directory → Strips → ℕ → Bool
 is_inside bytes d s k =
-    nat_le (value_at bytes d s.offsets k + value_at bytes d s.lengths k) (length bytes)
+    nat_le (nth_value bytes d s.offsets k + nth_value bytes d s.lengths k) (length bytes)
 
 -- so many strips from one on do
 abbrev pub are_inside : List ℕ → Directory → Strips → ℕ → ℕ → Bool

@@ -20,20 +20,20 @@ Lines = List (List Bool)
 
 -- section 8, FillOrder: the value of the pixel at a place counted from the first bit of the bytes
 -- by TIFF 6.0, section 8, FillOrder, Compression, PhotometricInterpretation
-abbrev pub value_in : Fill → List ℕ → ℕ → Bool
-value_in High bytes at = black_at bytes at
-value_in Low bytes at = bit_at (slice_index bytes (at / 8)) (at % 8) == 1
+abbrev pub bit_in : Fill → List ℕ → ℕ → Bool
+bit_in High bytes at = black_at bytes at
+bit_in Low bytes at = bit_at (slice_index bytes (at / 8)) (at % 8) == 1
 
 -- section 8, Compression 1: rows of values, each in whole bytes
 -- by TIFF 6.0, section 8, FillOrder, Compression, PhotometricInterpretation
 abbrev pub packed_values : Fill → ℕ → ℕ → List ℕ → List (List Bool)
 packed_values fill width rows bytes =
-    grid_of width rows (λ r c. value_in fill bytes (place width r c))
+    grid_of width rows (λ r c. bit_in fill bytes (place width r c))
 
 -- section 8, PhotometricInterpretation: black is a value of 1, or of 0 where 0 is black
 -- by TIFF 6.0, section 8, FillOrder, Compression, PhotometricInterpretation
-abbrev pub inked : Bool → List (List Bool) → List (List Bool)
-inked zero_is_black values = if zero_is_black then map (map not) values else values
+abbrev pub value_inked : Bool → List (List Bool) → List (List Bool)
+value_inked zero_is_black values = if zero_is_black then map (map not) values else values
 
 -- ---- the lines of a strip
 
@@ -42,13 +42,13 @@ inked zero_is_black values = if zero_is_black then map (map not) values else val
 pub record CodedHolds (c : Coding) (width rows : ℕ) (strip : List ℕ) (lines : Lines) : Type 0 where
   pub values : List (List Bool)
   pub reads : StripReads (bits_of c.fill strip) width rows values
-  pub means : lines ≡ inked c.zero_is_black values
+  pub means : lines ≡ value_inked c.zero_is_black values
 
 -- section 8, Compression 1: the bits past the width, and the bytes past the rows, are unread
 -- by TIFF 6.0, section 11, Compression 4; section 8, Compression 1
 pub record PackedHolds (c : Coding) (width rows : ℕ) (strip : List ℕ) (lines : Lines) : Type 0 where
   pub enough : rows * row_bytes width ≤ length strip
-  pub means : lines ≡ inked c.zero_is_black (packed_values c.fill width rows strip)
+  pub means : lines ≡ value_inked c.zero_is_black (packed_values c.fill width rows strip)
 
 -- a strip of so many rows holds the lines
 -- by TIFF 6.0, section 11, Compression 4; section 8, Compression 1

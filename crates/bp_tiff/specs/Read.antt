@@ -5,7 +5,7 @@ use Rattle.bp_rows.specs.Image.{Image}
 use Rattle.bp_tiff.specs.declared.layout.Layout.{Layout}
 use Rattle.bp_tiff.specs.Layout.{layout_of}
 use Rattle.bp_tiff.specs.Pixels.{Lines, StripHolds, StripBreaks}
-use Rattle.bp_tiff.specs.Values.{value_at}
+use Rattle.bp_tiff.specs.Values.{nth_value}
 
 -- ---- one strip
 
@@ -13,8 +13,8 @@ use Rattle.bp_tiff.specs.Values.{value_at}
 -- by TIFF 6.0, section 8, StripOffsets, StripByteCounts, RowsPerStrip
 abbrev pub strip_bytes : List ℕ → Layout → ℕ → List ℕ
 strip_bytes bytes l k =
-    take (value_at bytes l.directory l.strips.lengths k)
-    (drop (value_at bytes l.directory l.strips.offsets k) bytes)
+    take (nth_value bytes l.directory l.strips.lengths k)
+    (drop (nth_value bytes l.directory l.strips.offsets k) bytes)
 
 -- section 8, RowsPerStrip: how many rows it has; the last has those that are left
 -- by TIFF 6.0, section 8, StripOffsets, StripByteCounts, RowsPerStrip
@@ -23,8 +23,8 @@ strip_rows l k = min l.strips.rows (l.sides.height - k * l.strips.rows)
 
 -- a strip of a file holds rows
 -- by TIFF 6.0, section 8, StripOffsets, StripByteCounts, RowsPerStrip
-abbrev pub Holds : List ℕ → Layout → ℕ → Lines → Type 0
-Holds bytes l k lines =
+abbrev pub StripHoldsRows : List ℕ → Layout → ℕ → Lines → Type 0
+StripHoldsRows bytes l k lines =
     StripHolds l.coding l.sides.width (strip_rows l k) (strip_bytes bytes l k) lines
 
 -- a strip of a file breaks a rule
@@ -49,7 +49,7 @@ pub record HeldInTurn (One Others : Lines → Type 0) (lines : Lines) : Type 0 w
 abbrev pub StripsHold : List ℕ → Layout → ℕ → ℕ → Lines → Type 0
 StripsHold bytes l zero k lines = lines ≡ []
 StripsHold bytes l (suc left) k lines =
-    HeldInTurn (Holds bytes l k) (λ rest. StripsHold bytes l left (k + 1) rest) lines
+    HeldInTurn (StripHoldsRows bytes l k) (λ rest. StripsHold bytes l left (k + 1) rest) lines
 
 -- one strip holds some lines, and one of the others breaks the rule
 pub record BrokenLater (One : Lines → Type 0) (Others : Type 0) : Type 0 where
@@ -62,13 +62,14 @@ pub record BrokenLater (One : Lines → Type 0) (Others : Type 0) : Type 0 where
 abbrev pub StripsBreak : List ℕ → Layout → ℕ → ℕ → Rule → Type 0
 StripsBreak bytes l zero k rule = ⊥
 StripsBreak bytes l (suc left) k rule =
-    Breaks bytes l k rule ⊎ BrokenLater (Holds bytes l k) (StripsBreak bytes l left (k + 1) rule)
+    Breaks bytes l k rule
+    ⊎ BrokenLater (StripHoldsRows bytes l k) (StripsBreak bytes l left (k + 1) rule)
 
 -- ---- the file
 
 -- the page of a layout and its rows
-abbrev pub page_of : Layout → Lines → Image
-page_of l lines = record {
+abbrev pub page_of_layout : Layout → Lines → Image
+page_of_layout l lines = record {
   width = l.sides.width;
   height = l.sides.height;
   xres = l.scale.xres;
@@ -82,7 +83,7 @@ pub record TiffReads (bytes : List ℕ) (p : Image) : Type 0 where
   pub layout : Layout
   pub laid : layout_of bytes ≡ Ok layout
   pub held : StripsHold bytes layout layout.strips.count 0 p.rows
-  pub page : p ≡ page_of layout p.rows
+  pub page : p ≡ page_of_layout layout p.rows
 
 -- a strip is the first that breaks the rule
 pub record StripsFault (bytes : List ℕ) (rule : Rule) : Type 0 where

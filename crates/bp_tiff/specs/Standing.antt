@@ -4,23 +4,23 @@ use Rattle.std.specs.Prelude.{ℕ, ◌+◌, ◌*◌, ◌≤◌, ◌<◌, ◌≡�
 use Rattle.bp_rows.specs.Bits.{row_bytes}
 use Rattle.bp_tiff.specs.declared.layout.Layout.{Layout}
 use Rattle.bp_tiff.specs.Read.{strip_rows}
-use Rattle.bp_tiff.specs.Values.{value_at}
+use Rattle.bp_tiff.specs.Values.{nth_value}
 
 -- strip k, counted from 0, begins where the rows before it end, which begin at a place, and has
 -- bytes for all rows of its own
 -- by TIFF 6.0, section 8, StripOffsets, StripByteCounts
 pub record Follows (bytes : List ℕ) (l : Layout) (first k : ℕ) : Type 0 where
-  pub begins : value_at bytes l.directory l.strips.offsets k
+  pub begins : nth_value bytes l.directory l.strips.offsets k
       ≡ first + k * l.strips.rows * row_bytes l.sides.width
   pub whole : strip_rows l k * row_bytes l.sides.width
-      ≤ value_at bytes l.directory l.strips.lengths k
+      ≤ nth_value bytes l.directory l.strips.lengths k
 
 -- all strips have no compression, and stand one behind another
 -- by TIFF 6.0, section 8, StripOffsets, StripByteCounts
 pub record StandTogether (bytes : List ℕ) (l : Layout) : Type 0 where
   pub packed : l.coding.is_t6 ≡ false
   pub each : (k : ℕ) → k < l.strips.count
-      → Follows bytes l (value_at bytes l.directory l.strips.offsets 0) k
+      → Follows bytes l (nth_value bytes l.directory l.strips.offsets 0) k
 
 -- so many packed rows as stand in the file from a place on
 -- by TIFF 6.0, section 8, StripOffsets, StripByteCounts

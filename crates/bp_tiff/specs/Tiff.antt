@@ -5,7 +5,7 @@ use Rattle.std.specs.Int.{to_le_bytes, w16, w32}
 use Rattle.bp_rows.specs.declared.resolution.Res.{Res}
 use Rattle.bp_rows.specs.Image.{Image}
 use Rattle.bp_rows.specs.Packed.{packed_rows}
-use Rattle.bp_t6.specs.Written.{strip_of as t6_strip}
+use Rattle.bp_t6.specs.Written.{bits_strip as t6_strip}
 use Rattle.bp_tiff.specs.declared.fields.Fields.{Fields}
 use Rattle.bp_tiff.specs.declared.form.Form.{Form}
 use Rattle.bp_tiff.specs.declared.form.Form.TheVariants.{Plain, G4}
@@ -13,8 +13,8 @@ use Rattle.bp_tiff.specs.declared.places.TheConstants.{DIRECTORY_AT, MAGIC}
 use Rattle.bp_tiff.specs.Entries.{entries, directory}
 
 -- what a file says of its page beside the pixels
-abbrev pub fields_of : Image → Fields
-fields_of p = record {
+abbrev pub tiff_fields : Image → Fields
+tiff_fields p = record {
   width = p.width;
   height = p.height;
   xres = p.xres;
@@ -47,4 +47,4 @@ strip_of G4 p = t6_strip p
 -- TiffOf: the file of a page
 -- by TIFF 6.0, section 8, Compression 1; section 11, Compression 4
 abbrev pub tiff_of : Form → Image → List ℕ
-tiff_of form p = head_of form (fields_of p) (length (strip_of form p)) ++ strip_of form p
+tiff_of form p = head_of form (tiff_fields p) (length (strip_of form p)) ++ strip_of form p

@@ -8,36 +8,36 @@ use Rattle.bp_tiff.specs.declared.directory.Directory.{Directory}
 use Rattle.bp_tiff.specs.declared.directory.FoundEntry.{FoundEntry}
 use Rattle.bp_tiff.specs.declared.tags.TheConstants as tags
 use Rattle.bp_tiff.specs.declared.values.Values.{Values}
-use Rattle.bp_tiff.specs.Directory.{entry_of}
+use Rattle.bp_tiff.specs.Directory.{entry_of_tag}
 use Rattle.bp_tiff.specs.Numbers.{short_at, long_at}
 use Rattle.bp_tiff.specs.Rules.{◌>>=◌, require, tiff_bounds, tiff_missing, tiff_type, tiff_meaning, tiff_strips}
 
 -- ---- one value
 
 -- section 2, Types: one of a number
-abbrev pub is_number : ℕ → Bool
-is_number kind = kind == tags.SHORT || kind == tags.LONG
+abbrev pub is_one_number : ℕ → Bool
+is_one_number kind = kind == tags.SHORT || kind == tags.LONG
 
 -- the one value of an entry, which stands in the entry
 -- by TIFF 6.0, section 2, IFD Entry
-abbrev pub number_in : List ℕ → Directory → ℕ → FoundEntry → Result ℕ Rule
-number_in bytes d tag e = do
-  _ ← require (is_number e.kind && e.count == 1) (tiff_type tag)
+abbrev pub number_in_entry : List ℕ → Directory → ℕ → FoundEntry → Result ℕ Rule
+number_in_entry bytes d tag e = do
+  _ ← require (is_one_number e.kind && e.count == 1) (tiff_type tag)
   Ok (if e.kind == tags.LONG then long_at d.order bytes e.place else short_at d.order bytes e.place)
 
 -- the value of a tag; where there is no entry of it, the one that is given for this
 -- by TIFF 6.0, section 2, IFD Entry
-unfoldable pub number_of : List ℕ → Directory → ℕ → Option ℕ → Result ℕ Rule
-number_of bytes d tag missing = elim (entry_of bytes d tag) [
+unfoldable pub number_of_tag : List ℕ → Directory → ℕ → Option ℕ → Result ℕ Rule
+number_of_tag bytes d tag missing = elim (entry_of_tag bytes d tag) [
   | None ↦ ok_or missing (tiff_missing tag)
-  | Some e ↦ number_in bytes d tag e
+  | Some e ↦ number_in_entry bytes d tag e
 ]
 
 -- the same, one of some values
 -- by TIFF 6.0, section 2, IFD Entry
 unfoldable pub number_among : List ℕ → Directory → ℕ → Option ℕ → List ℕ → Result ℕ Rule
 number_among bytes d tag missing allowed = do
-  value ← number_of bytes d tag missing
+  value ← number_of_tag bytes d tag missing
   _ ← require (list_any (λ v. v == value) allowed) (tiff_meaning tag)
   Ok value
 
@@ -52,7 +52,7 @@ value_size are_long = if are_long then 4 else 2
 -- by TIFF 6.0, section 2, IFD Entry
 abbrev pub values_in : List ℕ → Directory → ℕ → ℕ → FoundEntry → Result Values Rule
 values_in bytes d tag strips e = do
-  _ ← require (is_number e.kind) (tiff_type tag)
+  _ ← require (is_one_number e.kind) (tiff_type tag)
   _ ← require (e.count == strips) tiff_strips
   let size = value_size (e.kind == tags.LONG) * e.count
   let start = if nat_le size 4 then e.place else long_at d.order bytes e.place
@@ -61,8 +61,8 @@ values_in bytes d tag strips e = do
 
 -- the values of the strips of a tag, or the first rule
 -- by TIFF 6.0, section 2, IFD Entry
-unfoldable pub values_of : List ℕ → Directory → ℕ → ℕ → Result Values Rule
-values_of bytes d tag strips = elim (entry_of bytes d tag) [
+unfoldable pub values_of_tag : List ℕ → Directory → ℕ → ℕ → Result Values Rule
+values_of_tag bytes d tag strips = elim (entry_of_tag bytes d tag) [
   | None ↦ Err (tiff_missing tag)
   | Some e ↦ values_in bytes d tag strips e
 ]
@@ -74,8 +74,8 @@ HasValues bytes v n = v.place + value_size v.are_long * n ≤ length bytes
 
 -- value k of these, counted from 0
 -- by TIFF 6.0, section 2, IFD Entry
-abbrev pub value_at : List ℕ → Directory → Values → ℕ → ℕ
-value_at bytes d v k =
+abbrev pub nth_value : List ℕ → Directory → Values → ℕ → ℕ
+nth_value bytes d v k =
     if v.are_long then long_at d.order bytes (v.place + 4 * k)
     else short_at d.order bytes (v.place + 2 * k)
 
@@ -97,7 +97,7 @@ resolution_in bytes d tag e = do
 -- or 200/1
 -- by TIFF 6.0, section 2, RATIONAL
 unfoldable pub resolution_of : List ℕ → Directory → ℕ → Result Res Rule
-resolution_of bytes d tag = elim (entry_of bytes d tag) [
+resolution_of bytes d tag = elim (entry_of_tag bytes d tag) [
   | None ↦ Ok two_hundred
   | Some e ↦ resolution_in bytes d tag e
 ]

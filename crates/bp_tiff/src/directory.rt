@@ -2,7 +2,7 @@
 ghost use Rattle.std.specs.Prelude.{◌≡◌, ◌+◌, ◌*◌, ◌≤◌, ◌<◌, length, IfOk, IfSome, Some};
 ghost use Rattle.std.specs.Option.{ok_or};
 ghost use Rattle.bp_tiff.specs.Rules.{tiff_head};
-ghost use Rattle.bp_tiff.specs.Directory.{order_of, directory_in, directory_of, IsIn, entry_at, entry_of};
+ghost use Rattle.bp_tiff.specs.Directory.{order_of, directory_in, directory_of, IsIn, directory_entry, entry_of_tag};
 
 use crate::numbers::{ByteOrder, long, short};
 use crate::places::{ENTRY_BYTES, HEADER_BYTES, MAGIC};
@@ -87,10 +87,10 @@ fn directory_of_order(bytes: &[u8], order: ByteOrder) -> Result<Directory, Rule>
 }
 
 /// The first entry of a tag.
-#[tactic(auto, unfolding(crate::specs::Directory::entry_of))]
+#[tactic(auto, unfolding(crate::specs::Directory::entry_of_tag))]
 pub fn find(bytes: &[u8], directory: &Directory, tag: u16) -> Option<FoundEntry>
     requires { IsIn bytes.now directory.now }
-    ensures gives { result ≡ entry_of bytes.now directory.now tag }
+    ensures gives { result ≡ entry_of_tag bytes.now directory.now tag }
     ensures inside { IfSome result (λ e. e.place + 4 ≤ length bytes.now) }
 {
     for k in 0..directory.count {
@@ -104,7 +104,7 @@ pub fn find(bytes: &[u8], directory: &Directory, tag: u16) -> Option<FoundEntry>
 
 fn read_entry(bytes: &[u8], order: ByteOrder, at: usize) -> FoundEntry
     requires { at + ENTRY_BYTES ≤ length bytes.now }
-    ensures { result ≡ entry_at order bytes.now at }
+    ensures { result ≡ directory_entry order bytes.now at }
 {
     FoundEntry {
         kind: short(bytes, order, at + 2),

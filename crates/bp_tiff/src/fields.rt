@@ -1,6 +1,6 @@
 // What a page file says of its page beside the pixels.
 ghost use Rattle.std.specs.Prelude.{◌≡◌};
-ghost use Rattle.bp_tiff.specs.Tiff.{fields_of};
+ghost use Rattle.bp_tiff.specs.Tiff.{tiff_fields};
 ghost use Rattle.bp_tiff.specs.Units.{unit_code, unit_of};
 
 use bp_rows::{Page, Res, Unit};
@@ -17,7 +17,7 @@ pub struct Fields {
 
 /// The fields of a page.
 pub fn fields_of_page(page: &Page) -> Fields
-    ensures { result ≡ fields_of page.now }
+    ensures { result ≡ tiff_fields page.now }
 {
     Fields {
         width: page.width(),

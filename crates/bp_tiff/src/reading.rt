@@ -12,8 +12,8 @@ ghost use Rattle.bp_tiff.specs.Appending.{HoldsAll, kept_fill, lines_in};
 ghost use Rattle.bp_tiff.specs.declared.layout.Layout.{Layout as Laid};
 ghost use Rattle.bp_tiff.specs.Layout.{IsLaid, layout_of};
 ghost use Rattle.bp_tiff.specs.PageRules.{IsPageRule};
-ghost use Rattle.bp_tiff.specs.Pixels.{value_in, packed_values};
-ghost use Rattle.bp_tiff.specs.Read.{page_of, StripsBreak, TiffReads, TiffFault, TiffAnswers};
+ghost use Rattle.bp_tiff.specs.Pixels.{bit_in, packed_values};
+ghost use Rattle.bp_tiff.specs.Read.{page_of_layout, StripsBreak, TiffReads, TiffFault, TiffAnswers};
 ghost use Rattle.bp_tiff.specs.Standing.{StandTogether};
 
 use crate::laws::one_answer;
@@ -161,7 +161,7 @@ fn page_of_rows(layout: &Layout, mut rows: Vec<u8>) -> Page
     requires long { length rows.items
         ≡ layout.now.sides.height * row_bytes layout.now.sides.width }
     ensures { result
-        ≡ page_of layout.now (lines_in layout.now layout.now.sides.height rows.items) }
+        ≡ page_of_layout layout.now (lines_in layout.now layout.now.sides.height rows.items) }
 {
     put_right(&mut rows, layout);
     Page::of_packed(
@@ -188,7 +188,7 @@ fn put_right(rows: &mut [u8], layout: &Layout)
 // The first pixel in the high bit.
 fn put_in_order(rows: &mut [u8], coding: &Coding)
     ensures { (at : ℕ) → at < 8 * length rows.old
-        → value_in High rows.new at ≡ value_in (kept_fill coding.now) rows.old at }
+        → bit_in High rows.new at ≡ bit_in (kept_fill coding.now) rows.old at }
 {
     if is_low(coding) {
         reverse_bytes(rows);
@@ -212,10 +212,10 @@ fn is_low(coding: &Coding) -> bool
 // Black as 1.
 fn put_ink(rows: &mut [u8], coding: &Coding)
     ensures { (at : ℕ) → at < 8 * length rows.old
-        → value_in High rows.new at
+        → bit_in High rows.new at
         ≡ (if coding.now.zero_is_black
-        then not (value_in High rows.old at)
-        else value_in High rows.old at) }
+        then not (bit_in High rows.old at)
+        else bit_in High rows.old at) }
 {
     if coding.zero_is_black {
         invert_bytes(rows);

@@ -2,7 +2,7 @@
 ghost use Rattle.std.specs.Prelude.{◌≡◌, ◌+◌, ◌*◌, ◌≤◌, ◌<◌, ◌^◌, ◌++◌, [], length, take, drop, OnOk, IfErr};
 ghost use Rattle.bp_rows.specs.Bits.{row_bytes};
 ghost use Rattle.bp_core.specs.Answers.{IfRule};
-ghost use Rattle.bp_tiff.specs.Appending.{AppendsStrip, HasRead, HoldsAll};
+ghost use Rattle.bp_tiff.specs.Appending.{AppendsStrip, HasReadStrips, HoldsAll};
 ghost use Rattle.bp_tiff.specs.Layout.{IsLaid};
 ghost use Rattle.bp_tiff.specs.Pixels.{PackedBreaks};
 ghost use Rattle.bp_tiff.specs.Read.{Breaks, StripsBreak, strip_bytes, strip_rows};

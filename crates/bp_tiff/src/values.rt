@@ -1,7 +1,7 @@
 // The values of a tag (TIFF 6.0, section 2, IFD Entry).
 ghost use Rattle.std.specs.Prelude.{◌≡◌, ◌+◌, ◌*◌, ◌≤◌, ◌<◌, length, IfOk, if◌then◌else◌};
 ghost use Rattle.bp_tiff.specs.Directory.{IsIn};
-ghost use Rattle.bp_tiff.specs.Values.{number_in, number_of, number_among, values_in, values_of, value_at, value_size, HasValues, resolution_in, resolution_of};
+ghost use Rattle.bp_tiff.specs.Values.{number_in_entry, number_of_tag, number_among, values_in, values_of_tag, nth_value, value_size, HasValues, resolution_in, resolution_of};
 
 use crate::directory::{Directory, FoundEntry, find};
 use crate::numbers::{long, short};
@@ -18,7 +18,7 @@ pub struct Values {
 }
 
 /// The value of a tag, or where there is no entry of it, the one that is given for this.
-#[tactic(auto, unfolding(crate::specs::Values::number_of))]
+#[tactic(auto, unfolding(crate::specs::Values::number_of_tag))]
 pub fn number(
     bytes: &[u8],
     directory: &Directory,
@@ -26,7 +26,7 @@ pub fn number(
     otherwise: Option<u32>,
 ) -> Result<u32, Rule>
     requires { IsIn bytes.now directory.now }
-    ensures { result ≡ number_of bytes.now directory.now tag otherwise }
+    ensures { result ≡ number_of_tag bytes.now directory.now tag otherwise }
 {
     match find(bytes, directory, tag) {
         None => otherwise.ok_or(missing(tag)),
@@ -41,7 +41,7 @@ fn number_of_entry(
     entry: FoundEntry,
 ) -> Result<u32, Rule>
     requires { entry.place + 4 ≤ length bytes.now }
-    ensures { result ≡ number_in bytes.now directory.now tag entry }
+    ensures { result ≡ number_in_entry bytes.now directory.now tag entry }
 {
     if entry.count != 1 {
         return Err(kind(tag));
@@ -73,10 +73,10 @@ pub fn number_among_these(
 }
 
 /// Where the values of a tag stand, one for each of so many strips.
-#[tactic(auto, unfolding(crate::specs::Values::values_of))]
+#[tactic(auto, unfolding(crate::specs::Values::values_of_tag))]
 pub fn strip_values(bytes: &[u8], directory: &Directory, tag: u16, due: u32) -> Result<Values, Rule>
     requires { IsIn bytes.now directory.now }
-    ensures gives { result ≡ values_of bytes.now directory.now tag due }
+    ensures gives { result ≡ values_of_tag bytes.now directory.now tag due }
     ensures inside { IfOk result (λ v. HasValues bytes.now v due) }
 {
     match find(bytes, directory, tag) {
@@ -121,7 +121,7 @@ impl Values {
     /// Value k of these, counted from 0.
     pub fn at(&self, bytes: &[u8], directory: &Directory, k: u32) -> u32
         requires { HasValues bytes.now self.now (k + 1) }
-        ensures { result ≡ value_at bytes.now directory.now self.now k }
+        ensures { result ≡ nth_value bytes.now directory.now self.now k }
     {
         if self.are_long {
             long(bytes, directory.order, self.place + 4 * k as usize)

@@ -4,7 +4,7 @@ ghost use Rattle.bp_rows.specs.Image.{Image};
 ghost use Rattle.bp_tiff.specs.declared.fields.Fields.{Fields as Said};
 ghost use Rattle.bp_tiff.specs.declared.form.Form.TheVariants.{G4};
 ghost use Rattle.bp_tiff.specs.Parts.{bytes_in, file_in};
-ghost use Rattle.bp_tiff.specs.Tiff.{fields_of, head_of, strip_of, tiff_of};
+ghost use Rattle.bp_tiff.specs.Tiff.{tiff_fields, head_of, strip_of, tiff_of};
 
 use crate::fields::{Fields, fields_of_page};
 use crate::form::Form;
@@ -85,7 +85,7 @@ pub fn write_strip(
     // Of each page of these fields whose strip it is, this is the file.
     ensures { let said : Said =
         record { width = width; height = height; xres = xres; yres = yres; unit = unit } in
-        (p : Image) → fields_of p ≡ said
+        (p : Image) → tiff_fields p ≡ said
         → strip.now ≡ strip_of G4 p
         → IfOk result (λ bytes. bytes ≡ tiff_of G4 p) }
 {
@@ -105,7 +105,7 @@ pub fn strip_parts<'a>(
     requires { length strip.now < 2 ^ 32 }
     ensures { let said : Said =
         record { width = width; height = height; xres = xres; yres = yres; unit = unit } in
-        (p : Image) → fields_of p ≡ said
+        (p : Image) → tiff_fields p ≡ said
         → strip.now ≡ strip_of G4 p
         → IfOk result (λ parts. file_in parts ≡ tiff_of G4 p) }
 {

@@ -7,7 +7,7 @@ use Rattle.std.proofs.lemmas.Str.{IsUtf8-from_is_utf8, is_utf8-from_IsUtf8}
 use Rattle.serde_json.specs.Data.{Data}
 use Rattle.serde_json.specs.Find.{as_object}
 use Rattle.serde_json.specs.Read.{read}
-use Rattle.bp_web.specs.Calls.{characters_of}
+use Rattle.bp_web.specs.Calls.{target_characters}
 use Rattle.bp_web.specs.Members.{json_of, if_object, object_of}
 
 pub object_read : (body : List ℕ) (d : Data)
@@ -42,12 +42,12 @@ pub text_read : (bytes string characters : List ℕ)
     → string ≡ bytes
     → IsUtf8 bytes
     → characters ≡ chars string
-    → Some characters ≡ characters_of bytes
+    → Some characters ≡ target_characters bytes
 text_read bytes string characters same utf8 are =
     ap Some are ∙ ap (λ t. Some (chars t)) same
     ∙ sym (cond-true (is_utf8 bytes) (Some (chars bytes)) None (is_utf8-from_IsUtf8 bytes utf8))
 
-pub no_text : (bytes : List ℕ) → ¬ (IsUtf8 bytes) → None ≡ characters_of bytes
+pub no_text : (bytes : List ℕ) → ¬ (IsUtf8 bytes) → None ≡ target_characters bytes
 no_text bytes other =
     elim (cases_Bool (is_utf8 bytes)) [
       | inl passes ↦ absurd (other (IsUtf8-from_is_utf8 bytes passes))

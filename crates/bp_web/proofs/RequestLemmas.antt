@@ -14,9 +14,9 @@ use Rattle.httparse.proofs.GrammarLemmas.{ReadsRequest-append, request_unique}
 use Rattle.bp_matter.specs.declared.calls.Call.{Call}
 use Rattle.bp_web.specs.Calls.{call_of}
 use Rattle.sha2.specs.Sha256.{sha256}
-use Rattle.bp_web.specs.Heads.{BeginsWith, BeginsWithNone, HasHead, NeverBegins, after_head, fields_of, has_field, start_of, value_of}
+use Rattle.bp_web.specs.Heads.{BeginsWith, BeginsWithNone, HasHead, NeverBegins, after_head, head_fields, has_head_field, start_of, value_of}
 use Rattle.bp_web.specs.Numbers.{number_of}
-use Rattle.bp_web.specs.Requests.{EndsAt, HttpReads, IsOpen, IsWhole, ReadAlike, asked_of, asking_at, asking_of, body_length, crowded, data_of, demand, given_length, headless, of_head, of_none, request_of, wanted_by, whole, ◌>>=◌}
+use Rattle.bp_web.specs.Requests.{EndsAt, HttpReads, IsOpen, IsWhole, ReadAlike, asked_of, asking_at, asking_of, body_length, crowded, data_of, demand, given_length, headless, of_head, of_none, whole_request, wanted_by, whole, ◌>>=◌}
 use Rattle.bp_web.specs.Routes.{is_get, route_of}
 use Rattle.bp_web.specs.declared.heads.TheConstants.{HEAD_LIMIT, MAX_FIELDS}
 use Rattle.bp_web.specs.declared.refusals.WebRefusal.{WebRefusal}
@@ -36,7 +36,7 @@ pub reads_once : (bytes : List ℕ) (a b : Result Asked WebRefusal)
     → HttpReads bytes b
     → a ≡ b
 reads_once bytes a b (of_head h begins is) (of_head k others same) =
-    is ∙ ap (λ head. request_of head (after_head head bytes)) (one_head (start_of bytes) h k begins others) ∙ sym same
+    is ∙ ap (λ head. whole_request head (after_head head bytes)) (one_head (start_of bytes) h k begins others) ∙ sym same
 reads_once bytes a b (of_head h begins is) (of_none none same) = absurd (none h begins)
 reads_once bytes a b (of_none none is) (of_head k others same) = absurd (none k others)
 reads_once bytes a b (of_none none is) (of_none other same) = is ∙ sym same
@@ -189,7 +189,7 @@ pub small_given : (fields : List (List ℕ × List ℕ)) (count : ℕ)
     → given_length fields ≡ Ok count
     → count ≤ MAX_BODY
 small_given fields count is =
-    elim (cases_Bool (has_field (codes "transfer-encoding") fields)) [
+    elim (cases_Bool (has_head_field (codes "transfer-encoding") fields)) [
       | inl chunked ↦ absurd (let x = simp chunked at is in cc)
       | inr plain ↦ by_number (option_and_then number_of (value_of (codes "content-length") fields)) (simp plain at is)
     ]
@@ -233,7 +233,7 @@ small_asking (Some route) fields a is = by_value (value_of (codes "desk-key") fi
 
 pub small_body : (head : RequestHead) (a : Asking) → asking_of head ≡ Ok a → a.length ≤ MAX_BODY
 unfolding asking_of
-small_body head a is = small_asking (route_of head.method head.target) (fields_of head) a (sym is)
+small_body head a is = small_asking (route_of head.method head.target) (head_fields head) a (sym is)
 
 -- what is to come after a head is no longer than a body may be
 pub small_wanted : (head : RequestHead) → wanted_by (asking_of head) ≤ MAX_BODY
@@ -285,7 +285,7 @@ asked_more a target after more fits =
 
 request_more : (head : RequestHead) (after more : List ℕ)
     → wanted_by (asking_of head) ≤ length after
-    → request_of head (after ++ more) ≡ request_of head after
+    → whole_request head (after ++ more) ≡ whole_request head after
 request_more head after more fits = by_asking (asking_of head) fits
   where
     by_asking : (r : Result Asking WebRefusal)
@@ -297,9 +297,9 @@ request_more head after more fits = by_asking (asking_of head) fits
 answer_more : (bytes more : List ℕ) (head : RequestHead)
     → BeginsWith (start_of bytes) head
     → wanted_by (asking_of head) ≤ length (after_head head bytes)
-    → request_of head (after_head head (bytes ++ more)) ≡ request_of head (after_head head bytes)
+    → whole_request head (after_head head (bytes ++ more)) ≡ whole_request head (after_head head bytes)
 answer_more bytes more head begins fits =
-    ap (request_of head) (drop-append-le (length (print_request head)) bytes more (head_fits bytes head begins))
+    ap (whole_request head) (drop-append-le (length (print_request head)) bytes more (head_fits bytes head begins))
     ∙ request_more head (after_head head bytes) more fits
 
 none_more : (bytes more : List ℕ)
@@ -351,13 +351,13 @@ alike : (bytes more : List ℕ) → IsWhole bytes → ReadAlike (bytes ++ more) 
 alike bytes more (whole head begins fits) outcome = (
   λ reads. elim reads [
     | of_head k others is ↦
-        of_head head begins (is ∙ ap (λ h. request_of h (after_head h (bytes ++ more))) (one_head (start_of (bytes ++ more)) k head others (begins_more bytes more head begins))
+        of_head head begins (is ∙ ap (λ h. whole_request h (after_head h (bytes ++ more))) (one_head (start_of (bytes ++ more)) k head others (begins_more bytes more head begins))
         ∙ answer_more bytes more head begins fits)
     | of_none none is ↦ absurd (none head (begins_more bytes more head begins))
   ],
   λ reads. elim reads [
     | of_head k others is ↦
-        of_head head (begins_more bytes more head begins) (is ∙ ap (λ h. request_of h (after_head h bytes)) (one_head (start_of bytes) k head others begins)
+        of_head head (begins_more bytes more head begins) (is ∙ ap (λ h. whole_request h (after_head h bytes)) (one_head (start_of bytes) k head others begins)
         ∙ sym (answer_more bytes more head begins fits))
     | of_none none is ↦ absurd (none head begins)
   ],

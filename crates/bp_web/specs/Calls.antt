@@ -11,7 +11,7 @@ use Rattle.bp_core.specs.declared.rectangle.Rect.{Rect}
 use Rattle.bp_matter.specs.declared.calls.Call.{Call}
 use Rattle.bp_matter.specs.declared.calls.Call.TheVariants as calls
 use Rattle.bp_matter.specs.declared.rows.Request.{Request}
-use Rattle.bp_web.specs.Members.{◌>>=◌, basis_named, bytes_of, digest_named, flag_of, number_of, role_named, text_of, texts_of, treatment_named}
+use Rattle.bp_web.specs.Members.{◌>>=◌, basis_named, bytes_of, digest_named, flag_of, number_member, role_named, text_of, texts_of, treatment_named}
 use Rattle.bp_web.specs.Numbers as heads
 use Rattle.bp_web.specs.Routes.{part, after_part}
 use Rattle.bp_web.specs.declared.members.TheConstants.{MAX_NUMBER, MAX_WIDTH}
@@ -47,20 +47,20 @@ abbrev pub page_in : List ℕ → Option PageNo
 page_in target = option_map page_no (heads.number_of (fourth_part target))
 
 -- bytes of a target as characters, where they are UTF-8: no percent sign is decoded
-abbrev pub characters_of : List ℕ → Option (List ℕ)
-characters_of bytes = if is_utf8 bytes then Some (chars bytes) else None
+abbrev pub target_characters : List ℕ → Option (List ℕ)
+target_characters bytes = if is_utf8 bytes then Some (chars bytes) else None
 
 -- the id of a target, as it stands there
 abbrev pub name_in : List ℕ → Option (List ℕ)
-name_in target = characters_of (second_part target)
+name_in target = target_characters (second_part target)
 
 -- n, up to the largest number of a body
 abbrev pub number : List ℕ → Data → Option ℕ
-number = number_of MAX_NUMBER
+number = number_member MAX_NUMBER
 
 -- left, top, width and height
-abbrev pub rect_of : Data → Option Rect
-rect_of body = do
+abbrev pub rect_member : Data → Option Rect
+rect_member body = do
   left ← number (codes "left") body
   top ← number (codes "top") body
   width ← number (codes "width") body
@@ -71,7 +71,7 @@ rect_of body = do
 abbrev pub prefix_of : Data → Option Prefix
 prefix_of body = do
   text ← text_of (codes "prefix") body
-  width ← number_of MAX_WIDTH (codes "width") body
+  width ← number_member MAX_WIDTH (codes "width") body
   Some (record { text = text; width = width })
 
 -- what a production is asked for
@@ -118,7 +118,7 @@ call_of routes.PutBox target body = do
   doc ← doc_in target
   num ← number (codes "num") body
   page ← number (codes "page") body
-  rect ← rect_of body
+  rect ← rect_member body
   basis ← bytes_of (codes "basis") body >>= basis_named
   Some (calls.PutBox doc num (page_no page) rect basis)
 call_of routes.DropBox target body = do

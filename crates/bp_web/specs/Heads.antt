@@ -42,8 +42,8 @@ abbrev pub Field : Type 0
 Field = List ℕ × List ℕ
 
 -- the fields of a head, in order
-abbrev pub fields_of : RequestHead → List Field
-fields_of head = map name_and_value head.fields
+abbrev pub head_fields : RequestHead → List Field
+head_fields head = map name_and_value head.fields
 
 -- the fields of that name, without regard to ASCII case (RFC 9110, section 5.1)
 abbrev pub named : List ℕ → List Field → List Field
@@ -60,8 +60,8 @@ abbrev pub value_of : List ℕ → List Field → Option (List ℕ)
 value_of name fields = only_value (named name fields)
 
 -- whether a field of that name is there
-abbrev pub has_field : List ℕ → List Field → Bool
-has_field name fields = list_any (λ field. str_eq_ignore_ascii_case field.0 name) fields
+abbrev pub has_head_field : List ℕ → List Field → Bool
+has_head_field name fields = list_any (λ field. str_eq_ignore_ascii_case field.0 name) fields
 
 -- ---- what httparse finds
 
@@ -73,10 +73,10 @@ pub record HasHead (start : List ℕ) (room : List HeaderSpan) (spans : RequestS
 
 -- a head; or none, however many fields it may have, which more bytes may make; or none, whatever
 -- follows
-abbrev pub Finds : List ℕ → List HeaderSpan → Begin → Type 0
-Finds start room (begins.Head spans) = HasHead start room spans
-Finds start room begins.Open = HasNoRequest start × MayBecomeRequest start
-Finds start room begins.Closed = (more : List ℕ) → BeginsWithNone (start ++ more)
+abbrev pub FindsHead : List ℕ → List HeaderSpan → Begin → Type 0
+FindsHead start room (begins.Head spans) = HasHead start room spans
+FindsHead start room begins.Open = HasNoRequest start × MayBecomeRequest start
+FindsHead start room begins.Closed = (more : List ℕ) → BeginsWithNone (start ++ more)
 
 -- the spans lie within the bytes
 abbrev pub IsWithin : List ℕ → List HeaderSpan → Begin → Type 0

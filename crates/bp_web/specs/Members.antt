@@ -49,8 +49,8 @@ abbrev pub at_most : ℕ → ℕ → Option ℕ
 at_most most n = if nat_le n most then Some n else None
 
 -- one that is a whole number up to `most`, written without sign, point or exponent
-abbrev pub number_of : ℕ → List ℕ → Data → Option ℕ
-number_of most name d = get name d >>= as_number >>= as_u64 >>= at_most most
+abbrev pub number_member : ℕ → List ℕ → Data → Option ℕ
+number_member most name d = get name d >>= as_number >>= as_u64 >>= at_most most
 
 -- one that is true or false
 abbrev pub flag_of : List ℕ → Data → Option Bool

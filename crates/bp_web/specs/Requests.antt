@@ -5,7 +5,7 @@ use Rattle.httparse.specs.Grammar.{HasNoRequest, MayBecomeRequest, ReadsRequest,
 use Rattle.serde_json.specs.Data.{Data, null}
 use Rattle.sha2.specs.Sha256.{sha256}
 use Rattle.bp_web.specs.Calls.{call_of}
-use Rattle.bp_web.specs.Heads.{BeginsWith, BeginsWithNone, Field, NeverBegins, after_head, fields_of, has_field, start_of, value_of}
+use Rattle.bp_web.specs.Heads.{BeginsWith, BeginsWithNone, Field, NeverBegins, after_head, head_fields, has_head_field, start_of, value_of}
 use Rattle.bp_web.specs.Members.{object_of}
 use Rattle.bp_web.specs.Numbers.{number_of}
 use Rattle.bp_web.specs.Routes.{is_get, route_of}
@@ -35,7 +35,7 @@ demand passes refusal = if passes then Ok tt else Err refusal
 -- how many bytes of body a request says that it has (RFC 9112, section 6.2)
 abbrev pub given_length : List Field → Result ℕ WebRefusal
 given_length fields = do
-  _ ← demand (not (has_field (codes "transfer-encoding") fields)) BodyRefused
+  _ ← demand (not (has_head_field (codes "transfer-encoding") fields)) BodyRefused
   count ← ok_or (option_and_then number_of (value_of (codes "content-length") fields)) BodyRefused
   _ ← demand (nat_le count MAX_BODY) BodyLimit
   Ok count
@@ -54,7 +54,7 @@ asking_at found fields = do
 
 -- what a head asks for: its route, its key, and how long its body is
 unfoldable pub asking_of : RequestHead → Result Asking WebRefusal
-asking_of head = asking_at (route_of head.method head.target) (fields_of head)
+asking_of head = asking_at (route_of head.method head.target) (head_fields head)
 
 -- what a body says: nothing to a GET
 abbrev pub data_of : Route → List ℕ → Option Data
@@ -69,8 +69,8 @@ asked_of a target after = do
   Ok (record { key = a.key; call = call })
 
 -- what a head and what follows it ask for
-abbrev pub request_of : RequestHead → List ℕ → Result Asked WebRefusal
-request_of head after = do
+abbrev pub whole_request : RequestHead → List ℕ → Result Asked WebRefusal
+whole_request head after = do
   a ← asking_of head
   asked_of a head.target after
 
@@ -78,7 +78,7 @@ request_of head after = do
 -- outcome; or no head is there.
 pub data HttpReads (bytes : List ℕ) (outcome : Result Asked WebRefusal) : Type 0 where
   of_head : (head : RequestHead) → BeginsWith (start_of bytes) head
-      → outcome ≡ request_of head (after_head head bytes)
+      → outcome ≡ whole_request head (after_head head bytes)
       → HttpReads bytes outcome
   of_none : BeginsWithNone (start_of bytes)
       → outcome ≡ Err HeadRefused

@@ -2,7 +2,7 @@
 ghost use Rattle.std.specs.Prelude.{◌≡◌, ◌≤◌, All, drop, length, map, option_map, take};
 ghost use Rattle.httparse.specs.Spans.{IsHeaderWithin, header_bytes};
 ghost use Rattle.std.specs.Str.{str_eq_ignore_ascii_case};
-ghost use Rattle.bp_web.specs.Heads.{Finds, IsWithin, has_field, value_of};
+ghost use Rattle.bp_web.specs.Heads.{FindsHead, IsWithin, has_head_field, value_of};
 
 use httparse::Status;
 use httparse::spans::{HeaderSpan, RequestSpans, parse_request};
@@ -34,7 +34,7 @@ pub fn start_of(bytes: &[u8]) -> &[u8]
 /// What these bytes begin with. The room is that of a head's fields.
 pub fn begin_of(start: &[u8], room: &mut [HeaderSpan]) -> Begin
     requires { length room.old ≡ MAX_FIELDS }
-    ensures found { Finds start.now room.new result }
+    ensures found { FindsHead start.now room.new result }
     ensures within { IsWithin start.now room.new result }
 {
     match parse_request(start, room) {
@@ -73,7 +73,7 @@ pub fn only_named<'b>(start: &'b [u8], fields: &[HeaderSpan], name: &[u8]) -> Op
 /// Whether a field of that name stands there.
 pub fn has_named(start: &[u8], fields: &[HeaderSpan], name: &[u8]) -> bool
     requires { All (IsHeaderWithin (length start.now)) fields.now }
-    ensures { result ≡ has_field name.now (map (header_bytes start.now) fields.now) }
+    ensures { result ≡ has_head_field name.now (map (header_bytes start.now) fields.now) }
 {
     for field in fields {
         if is_named(field.name.of(start), name) {

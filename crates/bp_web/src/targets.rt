@@ -1,6 +1,6 @@
 //! The target of a request, and what stands in its parts.
 ghost use Rattle.std.specs.Prelude.{◌≡◌, IfOk, drop};
-ghost use Rattle.bp_web.specs.Calls.{characters_of, doc_in as doc_spec, fourth_part as fourth, name_in as name_spec, next_part as next, page_in as page_spec, second_part as second};
+ghost use Rattle.bp_web.specs.Calls.{target_characters, doc_in as doc_spec, fourth_part as fourth, name_in as name_spec, next_part as next, page_in as page_spec, second_part as second};
 
 use crate::routes::split_part;
 use bp_core::{DocNo, OutOfMemory, PageNo, Text, number_in};
@@ -60,7 +60,7 @@ pub fn name_in(alloc: Global, target: &[u8]) -> Result<Option<Text>, OutOfMemory
 
 /// These bytes of a target as a text, where they are UTF-8.
 pub fn text_of(alloc: Global, bytes: &[u8]) -> Result<Option<Text>, OutOfMemory>
-    ensures { IfOk result (λ found. found ≡ characters_of bytes.now) }
+    ensures { IfOk result (λ found. found ≡ target_characters bytes.now) }
 {
     match std::str::from_utf8(bytes) {
         Ok(text) => Ok(Some(Text::from_string(String::from_str(alloc, text)?))),

@@ -2,7 +2,7 @@
 ghost use Rattle.std.specs.List.{list_all};
 ghost use Rattle.std.specs.Option.{option_copied};
 ghost use Rattle.std.specs.Prelude.{IfOk, IsTrue, None, Option, Some, unwrap_or, ℕ, ◌&&◌, ◌≡◌};
-ghost use Rattle.bp_matter.specs.ValidPrefixes.{after_items, after_reached, is_number, is_reached, is_used, spans_reach};
+ghost use Rattle.bp_matter.specs.ValidPrefixes.{after_items, after_reached, was_reached, is_reached, is_used, spans_reach};
 
 use super::labels::text_bytes;
 use crate::rows::{Item, PrefixRow, ProductionRow};

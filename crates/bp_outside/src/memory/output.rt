@@ -1,6 +1,6 @@
 // An out in memory.
 ghost use Rattle.std.specs.Prelude.{◌≡◌, ◌↔◌, ◌==◌, true, length, min, Some, IfOk, IsTrue, IsErrOf};
-ghost use Rattle.bp_outside.specs.Out.{Writes};
+ghost use Rattle.bp_outside.specs.Out.{OutWrites};
 ghost use Rattle.bp_core.specs.Calls.{no_calls, next_fails, after_call};
 ghost use Rattle.bp_outside.specs.Memory.{out_shown, out_calls};
 
@@ -53,7 +53,7 @@ impl Out for MemOut {
     /// Takes at most `WRITE_LIMIT` bytes. Fails exactly where the number of the call is one that
     /// was given to fail, and has then written the first half of what it would take.
     fn write(&mut self, _alloc: Global, piece: &[u8]) -> Result<usize, OutRefusal>
-        ensures writes { Writes (out_shown self.old) piece.now result (out_shown self.new) }
+        ensures writes { OutWrites (out_shown self.old) piece.now result (out_shown self.new) }
         ensures count { IfOk result (λ count. count ≡ min (length piece.now) WRITE_LIMIT) }
         ensures fails { IsErrOf result OutRefusal.Failed
             ↔ IsTrue (next_fails (out_calls self.old)) }

@@ -1,6 +1,6 @@
 // Standard output as an out.
 ghost use Rattle.std.specs.Prelude.{◌≡◌, false, None, IsErrOf};
-ghost use Rattle.bp_outside.specs.Out.{Writes};
+ghost use Rattle.bp_outside.specs.Out.{OutWrites};
 ghost use Rattle.bp_outside.specs.Untold.{untold_out};
 
 use crate::output::Out;
@@ -33,7 +33,7 @@ impl<'a, R: Print> Out for StdOut<'a, R> {
 
     /// Takes no memory, so it never runs out of it.
     fn write(&mut self, _alloc: Global, piece: &[u8]) -> Result<usize, OutRefusal>
-        ensures writes { Writes (untold_out self.old.faults) piece.now result
+        ensures writes { OutWrites (untold_out self.old.faults) piece.now result
             (untold_out self.new.faults) }
         ensures no_memory { ¬ (IsErrOf result OutRefusal.OutOfMemory) }
     {

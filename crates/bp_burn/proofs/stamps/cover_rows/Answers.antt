@@ -2,7 +2,7 @@ use Rattle.std.proofs.Common.{[], ◌∷◌, take, ap, ◌∙◌, refl, sym, sub
 use Rattle.bp_rows.specs.Burned.{burned}
 use Rattle.bp_rows.specs.Image.{Image, IsPage}
 use Rattle.bp_burn.specs.Covered.{covered_rows}
-use Rattle.bp_burn.specs.Ink.{changed}
+use Rattle.bp_burn.specs.Ink.{page_changed}
 use Rattle.bp_burn.proofs.ChangeLemmas.{changed_page}
 use Rattle.bp_burn.proofs.CoverLemmas.{boxing, no_stamp, stamp_laid, stamp_lettered}
 use Rattle.bp_burn.proofs.stamps.cover_rows.Goals as goal
@@ -18,7 +18,7 @@ erase_letters-requires-clause-page c =
     let cut = c.part_in_rows.result in
     let P : Image → Type 0 = λ page. IsPage page in
     subst P (sym (c.blacken_box.ensures ∙ ap (λ page. burned page (cut ∷ [])) c.loop-stamp.invariant))
-    (changed_page (changed p so_far) (boxing (cut ∷ [])) (changed_page p so_far c.width-width.ensures.page))
+    (changed_page (page_changed p so_far) (boxing (cut ∷ [])) (changed_page p so_far c.width-width.ensures.page))
 
 pub loop-stamp-preserved : goal.loop-stamp-preserved
 loop-stamp-preserved c =

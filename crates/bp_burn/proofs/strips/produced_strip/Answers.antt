@@ -3,9 +3,9 @@ use Rattle.std.specs.Prelude.{IfOk, IsTrue}
 use Rattle.bp_codes.specs.declared.span.Fill.TheVariants.{High}
 use Rattle.bp_codes.specs.Bits.{bits_of}
 use Rattle.bp_rows.specs.Limits.{sides_are_imported}
-use Rattle.bp_t6.specs.Written.{strip_of}
+use Rattle.bp_t6.specs.Written.{bits_strip}
 use Rattle.bp_burn.specs.Band.{produced_of}
-use Rattle.bp_burn.specs.RowsOut.{AreOf, HasPage, RowsOut}
+use Rattle.bp_burn.specs.RowsOut.{AreOf, OfSomePage, RowsOut}
 use Rattle.bp_burn.specs.Strips.{IsPageStrip}
 use Rattle.bp_burn.proofs.MakingLemmas.{imported_width}
 use Rattle.bp_burn.proofs.OutLemmas.{bits_of_strip}
@@ -34,7 +34,7 @@ strip_of_rows-requires-clause-page c =
     let out : ℕ → RowsOut = λ w. record { bits = bits_of High c.args.strip.now; width = w; height = c.args.height; ink = c.args.ink; stamps = c.args.stamps.now; row = 0 } in
     let are = c.over-rows.ensures ∙ ap out c.in_ok-room.ensures in
     let own = c.requires.strip in
-    subst HasPage (sym are) (record { page = own.page; are = bits_of_strip c.args.width c.args.height c.args.strip.now own.page own.has })
+    subst OfSomePage (sym are) (record { page = own.page; are = bits_of_strip c.args.width c.args.height c.args.strip.now own.page own.has })
 
 pub strip_of_rows-requires-clause-none : goal.strip_of_rows-requires-clause-none
 strip_of_rows-requires-clause-none c = ap (λ (o : RowsOut). o.row) c.over-rows.ensures
@@ -45,4 +45,4 @@ returns c =
     let are = c.over-rows.ensures ∙ ap out c.in_ok-room.ensures in
     λ p has.
     let made = c.strip_of_rows.ensures p (subst (λ (o : RowsOut). AreOf o p) (sym are) (bits_of_strip c.args.width c.args.height c.args.strip.now p has)) in
-    subst (λ (o : RowsOut). IfOk c.strip_of_rows.result (λ made. made ≡ strip_of (produced_of o.ink p o.stamps c.args.label.now c.args.designation.now))) are made
+    subst (λ (o : RowsOut). IfOk c.strip_of_rows.result (λ made. made ≡ bits_strip (produced_of o.ink p o.stamps c.args.label.now c.args.designation.now))) are made

@@ -1,7 +1,7 @@
 use Rattle.std.proofs.Common.{◌+◌, ◌∷◌, [], ◌∙◌, Vec, map, ap, arith}
 use Rattle.std.specs.declared.alloc.Global.{Global}
 use Rattle.std.proofs.lemmas.List.{map-append}
-use Rattle.bp_check.specs.Manifest.{between_newlines, listed_from, manifest_of}
+use Rattle.bp_check.specs.Manifest.{between_newlines, listed_from, listed_files}
 use Rattle.bp_check.specs.Seen.{listed_seen}
 use Rattle.bp_check.specs.Steps.{behind}
 use Rattle.bp_check.specs.declared.manifest.ListedFile.{ListedFile}
@@ -12,7 +12,7 @@ pub returns-in-Err : goal.returns-in-Err
 returns-in-Err c =
     let l = c.loop-rest in
     line_refused {X = ListedFile} {Y = Vec ListedFile Global} listed_seen (λ rows. map listed_seen rows.items) (l.number + 1) (map listed_seen l.listed.items)
-    l.rest.now c.in-Some.line.now c.in-Some.after.now (manifest_of c.args.bytes.now) c.in-Err.refusal c.in-Some.ensures.line c.in-Err.ensures l.invariant.told
+    l.rest.now c.in-Some.line.now c.in-Some.after.now (listed_files c.args.bytes.now) c.in-Err.refusal c.in-Some.ensures.line c.in-Err.ensures l.invariant.told
 
 pub loop-rest-preserved : goal.loop-rest-preserved
 loop-rest-preserved c =

@@ -1,5 +1,5 @@
 use Rattle.std.proofs.Common.{◌≡◌, ◌≤◌, ◌+◌, length, map}
-use Rattle.bp_check.specs.Manifest.{between_newlines, listed_from, manifest_of}
+use Rattle.bp_check.specs.Manifest.{between_newlines, listed_from, listed_files}
 use Rattle.bp_check.specs.Seen.{listed_seen}
 use Rattle.bp_check.specs.Steps.{behind}
 use Rattle.bp_check.proofs.manifest.read_manifest.Given as goal
@@ -8,7 +8,7 @@ use Rattle.bp_check.proofs.manifest.read_manifest.Given as goal
 abbrev pub invariant-loop-rest : goal.invariant-loop-rest
 invariant-loop-rest l = record {
   counted : l.number + length l.rest ≤ length l.fn.bytes;
-  told : behind (map listed_seen l.listed.items) (listed_from (l.number + 1) (between_newlines l.rest)) ≡ manifest_of l.fn.bytes;
+  told : behind (map listed_seen l.listed.items) (listed_from (l.number + 1) (between_newlines l.rest)) ≡ listed_files l.fn.bytes;
 }
 
 abbrev pub decreases-loop-rest : goal.decreases-loop-rest

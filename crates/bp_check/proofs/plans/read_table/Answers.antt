@@ -1,7 +1,7 @@
 use Rattle.std.proofs.Common.{◌∙◌, ℕ, List, Ok, ap, sym, length, arith}
 use Rattle.bp_load.specs.Dat.{dat_of}
 use Rattle.bp_load.specs.Table.{Table}
-use Rattle.bp_check.specs.Files.{file_at}
+use Rattle.bp_check.specs.Files.{file_there}
 use Rattle.bp_check.specs.declared.files.TheConstants.{DAT}
 use Rattle.bp_check.proofs.CalmLemmas.{bad_after, dat_calm}
 use Rattle.bp_load.proofs.CountLemmas.{dat_few}
@@ -12,7 +12,7 @@ pub returns-in_err-read_dat-clause-told : goal.returns-in_err-read_dat-clause-to
 returns-in_err-read_dat-clause-told g c =
     let bytes = c.deref.result.now in
     told_then _ _ _ c.in_ok-bytes.ensures.told (λ files is.
-    gives_next {X = List ℕ} {Y = Table} {A = List ℕ} {B = Table} (λ b. b) (λ table. table) (file_at files DAT 0 c.args.path.now) dat_of bytes c.from_residual-in_err-read_dat.result
+    gives_next {X = List ℕ} {Y = Table} {A = List ℕ} {B = Table} (λ b. b) (λ table. table) (file_there files DAT 0 c.args.path.now) dat_of bytes c.from_residual-in_err-read_dat.result
     (is ∙ ap Ok (sym c.deref.ensures.value))
     (gives_last {X = Table} (λ table. table) (λ table. table) (dat_of bytes) c.in_err-read_dat.field-0.0 c.from_residual-in_err-read_dat.result c.from_residual-in_err-read_dat.ensures.1 c.in_err-read_dat.ensures))
 

@@ -1,5 +1,5 @@
 use Rattle.bp_cli.specs.Burn.{burn_seen}
-use Rattle.bp_cli.specs.Burning.{paths_seen}
+use Rattle.bp_cli.specs.BurnSteps.{paths_seen}
 use Rattle.bp_cli.specs.Endings.{world}
 use Rattle.bp_cli.proofs.BurnLemmas.{box_refused, burned_ends, path_stops, read_stops}
 use Rattle.bp_cli.proofs.burn.burn_box.Goals as goal

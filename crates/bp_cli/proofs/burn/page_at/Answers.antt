@@ -4,7 +4,7 @@ use Rattle.std.specs.FinMap as map
 use Rattle.bp_outside.specs.Source.{ReadOver}
 use Rattle.bp_cli.specs.declared.burn.TheConstants.{FILE_LIMIT}
 use Rattle.bp_cli.specs.declared.stops.Stop.{Stop}
-use Rattle.bp_cli.specs.Burning.{ReadsPage}
+use Rattle.bp_cli.specs.BurnSteps.{ReadsPageAt}
 use Rattle.bp_cli.proofs.BurnLemmas.{page_read, read_refused}
 use Rattle.bp_cli.proofs.burn.page_at.Goals as goal
 
@@ -21,7 +21,7 @@ returns-in-Err-clause-page g c =
     let from = c.args.from.now in
     let source = g.S.Source.shows c.args.source.now in
     let source' = g.S.Source.shows c.read.new.self in
-    subst (λ (s : Stop). ReadsPage from source (Err s) source')
+    subst (λ (s : Stop). ReadsPageAt from source (Err s) source')
     (sym c.stop_of_read.ensures)
     (read_refused from source source' c.in-Err.refusal
     (subst (λ (path : List ℕ). IfSome source.files (ReadOver path FILE_LIMIT (Err c.in-Err.refusal))) c.as_str.ensures.characters c.in-Err.ensures.told)

@@ -3,7 +3,7 @@ use Rattle.bp_core.specs.declared.rules.Rule.{Rule}
 use Rattle.bp_freeze.specs.Freezing.{kept_production}
 use Rattle.bp_cli.specs.declared.stops.Stop.TheVariants as stops
 use Rattle.bp_cli.specs.Claw.{claw_seen}
-use Rattle.bp_cli.specs.Clawing.{ReplacesAfter}
+use Rattle.bp_cli.specs.ClawSteps.{ReplacesAfter}
 use Rattle.bp_cli.proofs.ClawLemmas.{ClawEnds, file_refused, lacked, load_refused, not_kept, replaced_ends}
 use Rattle.bp_cli.proofs.LabelLemmas.{none_found, some_found}
 use Rattle.bp_cli.proofs.claw.claw_volume.Goals as goal

@@ -5,7 +5,7 @@ use Rattle.std.specs.Str.{chars}
 use Rattle.bp_outside.specs.Source.{ReadOver}
 use Rattle.bp_cli.specs.declared.burn.TheConstants.{FILE_LIMIT}
 use Rattle.bp_cli.specs.declared.stops.Stop.{Stop}
-use Rattle.bp_cli.specs.Clawing.{ReadsFile}
+use Rattle.bp_cli.specs.ClawSteps.{ReadsFile}
 use Rattle.bp_cli.proofs.ClawLemmas.{file_came, file_unread}
 use Rattle.bp_cli.proofs.claw.file_named.Goals as goal
 

@@ -5,7 +5,7 @@ use Rattle.std.specs.Str.{chars}
 use Rattle.bp_outside.specs.Source.{ReadOver}
 use Rattle.bp_cli.specs.declared.burn.TheConstants.{FILE_LIMIT}
 use Rattle.bp_cli.specs.declared.stops.Stop.{Stop}
-use Rattle.bp_cli.specs.Delivering.{HoldsGrants, ReadsGrants}
+use Rattle.bp_cli.specs.DeliverSteps.{HoldsGrants, ReadsGrants}
 use Rattle.bp_cli.proofs.DeliverLemmas.{file_refused, rows_read, unnamed_stops}
 use Rattle.bp_cli.proofs.deliver.grants_named.Goals as goal
 

@@ -2,7 +2,7 @@ use Rattle.std.proofs.Common.{[], refl, subst, sym}
 use Rattle.std.specs.Prelude.{Err}
 use Rattle.bp_core.specs.declared.rules.Rule.{Rule}
 use Rattle.bp_matter.specs.Matter.{Matter}
-use Rattle.bp_freeze.specs.Keeping.{Keeps}
+use Rattle.bp_freeze.specs.Keeping.{KeepsProduction}
 use Rattle.bp_demo.specs.Demo.{demo_freeze, demo_matter}
 use Rattle.bp_cli.specs.Demo.{demo_gives}
 use Rattle.bp_cli.specs.declared.stops.Stop.TheVariants as stops
@@ -45,7 +45,7 @@ put_volume-requires-clause-kept g c κs within =
     let froze = c.in_ok-drawn.ensures in
     let f = c.in_ok-drawn.drawn.production in
     let m = demo_matter c.args.asked.seed c.args.asked.pages in
-    subst (λ (n : Matter). Keeps n f) (sym froze.matter) (c.a_freeze_keeps.ensures.its_own m (demo_freeze m) f froze.answer)
+    subst (λ (n : Matter). KeepsProduction n f) (sym froze.matter) (c.a_freeze_keeps.ensures.its_own m (demo_freeze m) f froze.answer)
 
 pub returns : goal.returns
 returns g c =

@@ -2,7 +2,7 @@ use Rattle.std.proofs.Common.{◌≡◌, ℕ, ap, subst, ◌∙◌}
 use Rattle.bp_demo.specs.Demo.{demo_freeze, demo_matter}
 use Rattle.bp_demo.specs.Frozen.{demo_request}
 use Rattle.bp_cli.specs.Demo.{DemoAsked}
-use Rattle.bp_cli.specs.Demoing.{DrawsDemo}
+use Rattle.bp_cli.specs.DemoSteps.{DrawsDemo}
 use Rattle.bp_cli.proofs.LeadLemmas.{drawing_refused}
 use Rattle.bp_cli.proofs.demo.drawn_demo.Goals as goal
 

@@ -1,6 +1,6 @@
 use Rattle.std.proofs.Common.{true, refl, subst, sym}
 use Rattle.bp_matter.specs.Matter.{Matter}
-use Rattle.bp_freeze.specs.Keeping.{Keeps}
+use Rattle.bp_freeze.specs.Keeping.{KeepsProduction}
 use Rattle.bp_cli.specs.Produce.{produce_gives}
 use Rattle.bp_cli.proofs.RowsLemmas.{freeze_refused, produced_ends, rows_refused}
 use Rattle.bp_cli.proofs.produce.produce_volume.Goals as goal
@@ -22,7 +22,7 @@ pub put_volume-requires-clause-kept : goal.put_volume-requires-clause-kept
 put_volume-requires-clause-kept g c κs within =
     let froze = c.in_ok-production.ensures in
     let f = c.in_ok-production.production in
-    subst (λ (m : Matter). Keeps m f) (sym froze.matter) (c.a_freeze_keeps.ensures.its_own c.in_ok-tables.tables.matter c.args.request f froze.answer)
+    subst (λ (m : Matter). KeepsProduction m f) (sym froze.matter) (c.a_freeze_keeps.ensures.its_own c.in_ok-tables.tables.matter c.args.request f froze.answer)
 
 pub returns : goal.returns
 returns g c =

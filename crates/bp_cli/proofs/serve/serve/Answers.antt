@@ -1,6 +1,6 @@
 use Rattle.std.proofs.Common.{Err, None, sym, subst}
 use Rattle.bp_cli.specs.Serve.{hall}
-use Rattle.bp_cli.specs.Serving.{ServesWith}
+use Rattle.bp_cli.specs.ServeSteps.{ServesWith}
 use Rattle.bp_cli.proofs.ServingLemmas.{matter_served, nobody_served}
 use Rattle.bp_cli.proofs.serve.serve.Goals as goal
 

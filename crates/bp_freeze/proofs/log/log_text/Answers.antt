@@ -1,7 +1,7 @@
 use Rattle.std.proofs.Common.{◌≡◌, ◌∙◌, sym, subst, List, ℕ}
 use Rattle.std.specs.Prelude.{IfOk}
 use Rattle.bp_freeze.specs.Log.{log_of}
-use Rattle.bp_freeze.specs.Writing.{text_of}
+use Rattle.bp_freeze.specs.Writing.{written_text}
 use Rattle.bp_freeze.proofs.LogLemmas.{log-done, line-more, line-none, others-pass}
 use Rattle.bp_freeze.proofs.log.log_text.Goals as goal
 
@@ -31,4 +31,4 @@ pub returns : goal.returns
 unfolding log_of
 returns c =
     let P : List ℕ → Type 0 = λ text. IfOk c.bytes_of.result (λ bytes. bytes ≡ text) in
-    subst P (log-done c.args.production.now.request.prefix c.loop-item.rest.now (text_of c.loop-item.writer) _ c.loop-item.invariant.so_far c.in_default.ensures.cases) c.bytes_of.ensures
+    subst P (log-done c.args.production.now.request.prefix c.loop-item.rest.now (written_text c.loop-item.writer) _ c.loop-item.invariant.so_far c.in_default.ensures.cases) c.bytes_of.ensures

@@ -4,8 +4,8 @@ use Rattle.std.specs.Str.{chars}
 use Rattle.std.proofs.lemmas.Result.{err_from_is_err_and}
 use Rattle.bp_load.specs.Opt.{opt_of}
 use Rattle.bp_load.specs.declared.opt.OptLine.{OptLine}
-use Rattle.bp_import.specs.Files.{below, opt_path, file_at}
-use Rattle.bp_import.specs.Planned.{Refuses, TakesFile, said_at}
+use Rattle.bp_import.specs.Files.{below, opt_path, batch_file_at}
+use Rattle.bp_import.specs.Planned.{PlanRefuses, TakesFile, file_said_at}
 use Rattle.bp_import.specs.declared.files.TheConstants.{OPT}
 use Rattle.bp_import.proofs.StepLemmas.{bad_after, bad_said, refuses_after, refuses_first, opt_calm, told_then}
 use Rattle.bp_import.proofs.plans.read_opt_file.Goals as goal
@@ -20,17 +20,17 @@ returns-in_err-bytes-clause-refused g c =
     let given = c.in_err-bytes.field-0.0 in
     let name = c.args.name.now in
     rw (p.1, p.2)
-    (told_then _ _ (λ files. Refuses given (said_at opt_of files (opt_path name) OPT)) c.in_err-bytes.ensures.refused
-    (λ files bad. refuses_first given (file_at files (opt_path name) OPT 0) opt_of (subst (λ f. Refuses given (file_at files (below name f) OPT 0)) named bad)))
+    (told_then _ _ (λ files. PlanRefuses given (file_said_at opt_of files (opt_path name) OPT)) c.in_err-bytes.ensures.refused
+    (λ files bad. refuses_first given (batch_file_at files (opt_path name) OPT 0) opt_of (subst (λ f. PlanRefuses given (batch_file_at files (below name f) OPT 0)) named bad)))
 
 pub returns-in_err-read_opt-clause-refused : goal.returns-in_err-read_opt-clause-refused
 returns-in_err-read_opt-clause-refused g c =
     let name = c.args.name.now in
-    bad_said {Y = List OptLine} {V = List OptLine} (λ lines. lines) c.from_residual-in_err-read_opt.result c.in_err-read_opt.field-0.0 (opt_of c.deref.result.now) _ (λ files. said_at opt_of files (opt_path name) OPT)
+    bad_said {Y = List OptLine} {V = List OptLine} (λ lines. lines) c.from_residual-in_err-read_opt.result c.in_err-read_opt.field-0.0 (opt_of c.deref.result.now) _ (λ files. file_said_at opt_of files (opt_path name) OPT)
     c.from_residual-in_err-read_opt.ensures.1 c.in_err-read_opt.ensures
-    (λ given bad. told_then _ _ (λ files. Refuses given (said_at opt_of files (opt_path name) OPT)) c.in_ok-bytes.ensures.taken.told
-    (λ files is. refuses_after given (file_at files (opt_path name) OPT 0) c.deref.result.now opt_of
-    (subst (λ f. file_at files (below name f) OPT 0 ≡ Ok c.deref.result.now) named (is ∙ ap Ok (sym c.deref.ensures.value))) bad))
+    (λ given bad. told_then _ _ (λ files. PlanRefuses given (file_said_at opt_of files (opt_path name) OPT)) c.in_ok-bytes.ensures.taken.told
+    (λ files is. refuses_after given (batch_file_at files (opt_path name) OPT 0) c.deref.result.now opt_of
+    (subst (λ f. batch_file_at files (below name f) OPT 0 ≡ Ok c.deref.result.now) named (is ∙ ap Ok (sym c.deref.ensures.value))) bad))
 
 pub returns-in_err-read_opt-clause-after : goal.returns-in_err-read_opt-clause-after
 returns-in_err-read_opt-clause-after g c =

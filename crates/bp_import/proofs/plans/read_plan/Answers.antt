@@ -6,8 +6,8 @@ use Rattle.bp_load.specs.Opt.{opt_of}
 use Rattle.bp_matter.specs.Texts.{is_batch_name}
 use Rattle.bp_import.specs.Breaks.{breaks_of}
 use Rattle.bp_import.specs.Families.{parents_of}
-use Rattle.bp_import.specs.Files.{file_at, opt_path, words_path}
-use Rattle.bp_import.specs.Planned.{Refuses, placing_of, said_at}
+use Rattle.bp_import.specs.Files.{batch_file_at, opt_path, words_path}
+use Rattle.bp_import.specs.Planned.{PlanRefuses, placing_of, file_said_at}
 use Rattle.bp_import.specs.Records.{fields_of, record_of, records_of}
 use Rattle.bp_import.specs.WordPages.{places_of}
 use Rattle.bp_import.specs.declared.files.TheConstants.{OPT, WORDS}
@@ -23,7 +23,7 @@ returns-in_err-lines-clause-refused g c =
     let dat = c.in_ok-dat.ensures.read in
     let given = c.in_err-lines.field-0.0 in
     let name = c.args.name.now in
-    let bad = subst (λ v. IfSome v.files (λ files. Refuses given (said_at opt_of files (opt_path name) OPT))) c.in_ok-dat.ensures.after c.in_err-lines.ensures.refused in
+    let bad = subst (λ v. IfSome v.files (λ files. PlanRefuses given (file_said_at opt_of files (opt_path name) OPT))) c.in_ok-dat.ensures.after c.in_err-lines.ensures.refused in
     rw (p.1, p.2) (opt_refused_told _ name dat.bytes c.in_ok-dat.dat given named dat.file.told dat.says bad)
 
 pub read_placed-requires-clause-lines : goal.read_placed-requires-clause-lines
@@ -52,8 +52,8 @@ returns-in_err-placed-clause-refused g c =
     c.deref.ensures.value ∙ c.in_ok-docs.ensures
     ∙ ap (λ cs. records_of (record { columns = cs; rows = c.into_parts-columns.result.1 })) (c.as_slice.ensures ∙ c.into_parts-columns.ensures.columns)
     ∙ ap (λ rs. records_of (record { columns = table.columns; rows = rs })) c.into_parts-columns.ensures.rows in
-    let at = subst (λ v. IfSome v.files (λ files. file_at files (opt_path name) OPT 0 ≡ Ok opt.bytes)) c.in_ok-dat.ensures.after opt.file.told in
-    let bad = subst (λ v. IfSome v.files (λ files. Refuses given (placing_of files name c.deref.result.now c.as_slice-2.result.now))) (c.in_ok-lines.ensures.after ∙ c.in_ok-dat.ensures.after) c.in_err-placed.ensures.refused in
+    let at = subst (λ v. IfSome v.files (λ files. batch_file_at files (opt_path name) OPT 0 ≡ Ok opt.bytes)) c.in_ok-dat.ensures.after opt.file.told in
+    let bad = subst (λ v. IfSome v.files (λ files. PlanRefuses given (placing_of files name c.deref.result.now c.as_slice-2.result.now))) (c.in_ok-lines.ensures.after ∙ c.in_ok-dat.ensures.after) c.in_err-placed.ensures.refused in
     rw (p.1, p.2) (placing_refused_told _ name dat.bytes opt.bytes table c.as_slice-2.result.now c.deref.result.now given named dat.file.told dat.says at (opt.says ∙ ap Ok (sym c.as_slice-2.ensures)) docs bad)
 
 pub returns-clause-planned : goal.returns-clause-planned
@@ -69,8 +69,8 @@ returns-clause-planned g c =
     c.in_ok-docs.ensures
     ∙ ap (λ cs. records_of (record { columns = cs; rows = c.into_parts-columns.result.1 })) (c.as_slice.ensures ∙ c.into_parts-columns.ensures.columns)
     ∙ ap (λ rs. records_of (record { columns = table.columns; rows = rs })) c.into_parts-columns.ensures.rows in
-    let at = subst (λ v. IfSome v.files (λ files. file_at files (opt_path name) OPT 0 ≡ Ok opt.bytes)) c.in_ok-dat.ensures.after opt.file.told in
-    let at' = subst (λ v. IfSome v.files (λ files. file_at files (words_path name) WORDS 0 ≡ Ok words.bytes)) (c.in_ok-lines.ensures.after ∙ c.in_ok-dat.ensures.after) words.file.told in
+    let at = subst (λ v. IfSome v.files (λ files. batch_file_at files (opt_path name) OPT 0 ≡ Ok opt.bytes)) c.in_ok-dat.ensures.after opt.file.told in
+    let at' = subst (λ v. IfSome v.files (λ files. batch_file_at files (words_path name) WORDS 0 ≡ Ok words.bytes)) (c.in_ok-lines.ensures.after ∙ c.in_ok-dat.ensures.after) words.file.told in
     record {
       dat = dat.bytes;
       opt = opt.bytes;

@@ -4,8 +4,8 @@ use Rattle.std.specs.Str.{chars}
 use Rattle.std.proofs.lemmas.Result.{err_from_is_err_and}
 use Rattle.bp_text.specs.WordFiles.{words_of}
 use Rattle.bp_text.specs.declared.words.WordRow.{WordRow}
-use Rattle.bp_import.specs.Files.{below, words_path, file_at}
-use Rattle.bp_import.specs.Planned.{Refuses, TakesFile, said_at}
+use Rattle.bp_import.specs.Files.{below, words_path, batch_file_at}
+use Rattle.bp_import.specs.Planned.{PlanRefuses, TakesFile, file_said_at}
 use Rattle.bp_import.specs.declared.files.TheConstants.{WORDS}
 use Rattle.bp_import.proofs.StepLemmas.{bad_after, bad_said, refuses_after, refuses_first, words_calm, told_then}
 use Rattle.bp_import.proofs.plans.read_words_file.Goals as goal
@@ -20,17 +20,17 @@ returns-in_err-bytes-clause-refused g c =
     let given = c.in_err-bytes.field-0.0 in
     let name = c.args.name.now in
     rw (p.1, p.2)
-    (told_then _ _ (λ files. Refuses given (said_at words_of files (words_path name) WORDS)) c.in_err-bytes.ensures.refused
-    (λ files bad. refuses_first given (file_at files (words_path name) WORDS 0) words_of (subst (λ f. Refuses given (file_at files (below name f) WORDS 0)) named bad)))
+    (told_then _ _ (λ files. PlanRefuses given (file_said_at words_of files (words_path name) WORDS)) c.in_err-bytes.ensures.refused
+    (λ files bad. refuses_first given (batch_file_at files (words_path name) WORDS 0) words_of (subst (λ f. PlanRefuses given (batch_file_at files (below name f) WORDS 0)) named bad)))
 
 pub returns-in_err-read_words-clause-refused : goal.returns-in_err-read_words-clause-refused
 returns-in_err-read_words-clause-refused g c =
     let name = c.args.name.now in
-    bad_said {Y = List WordRow} {V = List WordRow} (λ rows. rows) c.from_residual-in_err-read_words.result c.in_err-read_words.field-0.0 (words_of c.deref.result.now) _ (λ files. said_at words_of files (words_path name) WORDS)
+    bad_said {Y = List WordRow} {V = List WordRow} (λ rows. rows) c.from_residual-in_err-read_words.result c.in_err-read_words.field-0.0 (words_of c.deref.result.now) _ (λ files. file_said_at words_of files (words_path name) WORDS)
     c.from_residual-in_err-read_words.ensures.1 c.in_err-read_words.ensures
-    (λ given bad. told_then _ _ (λ files. Refuses given (said_at words_of files (words_path name) WORDS)) c.in_ok-bytes.ensures.taken.told
-    (λ files is. refuses_after given (file_at files (words_path name) WORDS 0) c.deref.result.now words_of
-    (subst (λ f. file_at files (below name f) WORDS 0 ≡ Ok c.deref.result.now) named (is ∙ ap Ok (sym c.deref.ensures.value))) bad))
+    (λ given bad. told_then _ _ (λ files. PlanRefuses given (file_said_at words_of files (words_path name) WORDS)) c.in_ok-bytes.ensures.taken.told
+    (λ files is. refuses_after given (batch_file_at files (words_path name) WORDS 0) c.deref.result.now words_of
+    (subst (λ f. batch_file_at files (below name f) WORDS 0 ≡ Ok c.deref.result.now) named (is ∙ ap Ok (sym c.deref.ensures.value))) bad))
 
 pub returns-in_err-read_words-clause-after : goal.returns-in_err-read_words-clause-after
 returns-in_err-read_words-clause-after g c =

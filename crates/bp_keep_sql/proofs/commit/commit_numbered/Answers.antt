@@ -1,10 +1,11 @@
-use Rattle.std.proofs.Common.{◌≡◌, OnOk, ap, subst, sym, ◌∙◌, inl, inr, arith}
+use Rattle.std.proofs.Common.{◌≡◌, OnOk, not, ap, subst, sym, ◌∙◌, inl, inr, arith}
 use Rattle.sqlite.specs.Held.{state}
 use Rattle.sqlite.specs.Effect.{Database}
 use Rattle.sqlite.specs.State.{HasCleanDisk}
 use Rattle.bp_keep_sql.specs.Keeps.{Keeps}
 use Rattle.bp_keep_sql.proofs.AskedLemmas.{fails_numbered}
 use Rattle.bp_keep_sql.proofs.LeaveLemmas.{errs_then}
+use Rattle.bp_keep_sql.proofs.StopLemmas.{left_as_before, left_by_commit, numbers_open}
 use Rattle.bp_keep_sql.proofs.ToldLemmas.{numbered_after, told_after}
 use Rattle.bp_keep_sql.proofs.commit.commit_numbered.Goals as goal
 
@@ -70,3 +71,25 @@ returns-clause-refused g c clean =
     fails_numbered g.S.Store c.args.puts.now c.args.conn.now c.args.numbered.now c.number_once.new.conn
     c.commit_puts.new.conn c.commit_puts.result (c.in_ok-number_once.ensures.asked early)
     c.number_once.ensures.limit (c.commit_puts.ensures.refused clean)
+
+pub returns-in_err-number_once-clause-stopped : goal.returns-in_err-number_once-clause-stopped
+returns-in_err-number_once-clause-stopped g c clean =
+    let test = c.is_autocommit-settled.ensures in
+    left_as_before (state g.S.Store c.args.conn.now) c.schema-schema.ensures.live
+    (λ outside. test.settled (test.value ∙ ap not outside))
+    (λ db o left. g.met.S.Store.settled c.args.conn.now.store db o left) c.args.puts.now
+    (state g.S.Store c.number_once.new.conn) (c.number_once.ensures.stops clean)
+
+pub returns-clause-stopped : goal.returns-clause-stopped
+returns-clause-stopped g c clean =
+    let mid = state g.S.Store c.number_once.new.conn in
+    let early : HasCleanDisk mid = omega (arith, c.commit_puts.ensures.clean, clean) in
+    let test = c.is_autocommit-settled.ensures in
+    let found = c.in_ok-number_once.ensures in
+    let made = c.commit_puts.ensures in
+    left_by_commit (state g.S.Store c.args.conn.now) c.schema-schema.ensures.live
+    (λ outside. test.settled (test.value ∙ ap not outside))
+    (λ db o left. g.met.S.Store.settled c.args.conn.now.store db o left) c.args.puts.now
+    mid (state g.S.Store c.commit_puts.new.conn) c.number_once.new.numbered early (found.same early)
+    (numbers_open g.S.Store c.args.numbered.now c.args.conn.now c.number_once.new.conn tt (found.asked early))
+    found.known found.numbered (found.stops early) (made.without clean) (made.stops clean)

@@ -1,4 +1,4 @@
-use Rattle.std.proofs.Common.{inl, inr, ◌≡◌, OnOk, sym, subst, arith}
+use Rattle.std.proofs.Common.{inl, inr, ◌≡◌, OnOk, true, false, sym, subst, arith}
 use Rattle.sqlite.specs.Held.{state}
 use Rattle.sqlite.specs.Effect.{Database}
 use Rattle.sqlite.specs.State.{HasCleanDisk}
@@ -46,3 +46,9 @@ returns-clause-refused g c clean =
     fails_later g.S.Store c.args.puts.now c.args.conn.now c.find_table.new.conn c.put_inside.new.conn
     c.put_inside.result (c.in_ok-find_table.ensures.asked early) c.find_table.ensures.limit
     (c.put_inside.ensures.refused clean)
+
+pub returns-clause-without : goal.returns-clause-without
+returns-clause-without g c clean has db left =
+    let mid = state g.S.Store c.find_table.new.conn in
+    let early : HasCleanDisk mid = omega (arith, c.put_inside.ensures.clean, clean) in
+    absurd (let e : false ≡ true = c.in_ok-find_table.ensures.lacking early has in cc)

@@ -1,9 +1,11 @@
-use Rattle.std.proofs.Common.{◌≡◌, IsTrue, Err, OnErr, IfErr, sym, ap, subst, arith, rules}
+use Rattle.std.proofs.Common.{◌≡◌, IsTrue, Err, OnErr, IfErr, sym, ap, subst, inl, inr, arith, rules}
 use Rattle.sqlite.specs.Held.{state}
 use Rattle.sqlite.specs.State.{HasCleanDisk}
 use Rattle.bp_keep_sql.specs.Asked.{FailsToPut}
+use Rattle.bp_keep_sql.specs.Keeps.{Keeps}
 use Rattle.bp_keep_sql.proofs.AskedLemmas.{stops_put, fails_last}
 use Rattle.bp_keep_sql.proofs.StatementLemmas.{uncommitted}
+use Rattle.bp_keep_sql.proofs.StopLemmas.{kept_trees}
 use Rattle.bp_keep_sql.proofs.commit.put_inside.Goals as goal
 
 pub returns-clause-left : goal.returns-clause-left
@@ -51,3 +53,21 @@ returns-clause-refused g c clean =
     (fails_last g.S.Store c.args.puts.now c.args.conn.now c.transaction-transaction.result.conn.now
     c.make_puts.new.transaction.conn.now end c.commit.result begun
     (c.in_ok-make_puts.ensures.all early (ap (λ h. h.in_transaction) begun)) (c.commit.ensures.err late))
+
+pub returns-clause-stops : goal.returns-clause-stops
+returns-clause-stops g c clean rows keeps db left =
+    let mid = state g.S.Store c.make_puts.new.transaction.conn.now in
+    let end = c.commit.new.self.0 in
+    let same : end ≡ c.conn-2-1.given.0 = search rules in
+    let late : HasCleanDisk (state g.S.Store end) = subst (λ h. HasCleanDisk (state g.S.Store h)) (sym same) clean in
+    let early : HasCleanDisk mid = omega (arith, c.commit.ensures.survives.clean, late) in
+    let begun = c.transaction-transaction.ensures.begun in
+    let before = subst (λ h. Keeps (state g.S.Store h).now rows) (sym begun) keeps in
+    let was = subst (λ h. (state g.S.Store h).may_leave db) (sym same) left in
+    elim (c.commit.ensures.survives.crash late db was) [
+      | inl mid_left ↦ elim (c.make_puts.ensures.survives.crash early db mid_left) [
+        | inl old ↦ inl (subst (λ h. (state g.S.Store h).may_leave db) begun old)
+        | inr none ↦ absurd none
+      ]
+      | inr made ↦ inr (kept_trees mid.now db _ made (c.in_ok-make_puts.ensures.rows early rows before))
+    ]

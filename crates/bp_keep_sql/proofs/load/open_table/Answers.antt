@@ -26,3 +26,9 @@ returns-clause-asked g c clean =
     omega (arith, c.test_rowids.ensures.leaves.clean, clean) in
     opens_made g.S.Store c.args.conn.now c.create_table.new.conn c.test_rowids.new.conn _ c.test_rowids.result
     (c.in_ok-create_table.ensures.asked early) c.create_table.ensures.limit (c.test_rowids.ensures.asked clean)
+
+pub returns-clause-stops : goal.returns-clause-stops
+returns-clause-stops g c clean db left =
+    let early : HasCleanDisk (state g.S.Store c.create_table.new.conn) =
+    omega (arith, c.test_rowids.ensures.leaves.clean, clean) in
+    c.create_table.ensures.stops early db (c.test_rowids.ensures.stops clean db left)

@@ -1,6 +1,7 @@
-use Rattle.std.proofs.Common.{rules}
+use Rattle.std.proofs.Common.{inl, inr, rules}
 use Rattle.sqlite.specs.Held.{state}
 use Rattle.bp_keep_sql.proofs.LeaveLemmas.{kept_so, outside_of, refused_so}
+use Rattle.bp_keep_sql.proofs.ReadLemmas.{may_make}
 use Rattle.bp_keep_sql.proofs.StatementLemmas.{made, create_keeps, create_left, create_mode}
 use Rattle.bp_keep_sql.proofs.statements.create_table.Goals as goal
 
@@ -26,3 +27,9 @@ returns-clause-left g c =
     c.execute.ensures.survives.clean
     (c.is_autocommit.ensures.settled (search rules))
     (λ clean. create_left old new c.execute.result (c.execute.ensures.runs clean))
+
+pub returns-clause-stops : goal.returns-clause-stops
+returns-clause-stops g c clean db left = elim (c.execute.ensures.survives.crash clean db left) [
+  | inl before ↦ inl before
+  | inr made ↦ inr (may_make (state g.S.Store c.args.conn.now) db made)
+]

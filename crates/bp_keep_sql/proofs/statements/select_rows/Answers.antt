@@ -1,7 +1,7 @@
-use Rattle.std.proofs.Common.{[], rules}
+use Rattle.std.proofs.Common.{[], inl, inr, rules}
 use Rattle.sqlite.specs.Held.{state}
 use Rattle.bp_keep_sql.proofs.TextLemmas.{select_text}
-use Rattle.bp_keep_sql.proofs.KindLemmas.{select_reads}
+use Rattle.bp_keep_sql.proofs.KindLemmas.{commits_nothing, select_reads}
 use Rattle.bp_keep_sql.proofs.LeaveLemmas.{left_so, outside_of}
 use Rattle.bp_keep_sql.proofs.StatementLemmas.{reads_left, select_rows_are, select_lacking}
 use Rattle.bp_keep_sql.proofs.statements.select_rows.Goals as goal
@@ -27,3 +27,9 @@ returns-clause-leaves g c =
     c.query_all.ensures.survives.clean (c.is_autocommit.ensures.settled (search rules))
     (λ clean. reads_left (λ v. v.items) select_text [] old new c.query_all.result select_reads
     (c.query_all.ensures.ok clean) (c.query_all.ensures.err clean))
+
+pub returns-clause-stops : goal.returns-clause-stops
+returns-clause-stops g c clean db left = elim (c.query_all.ensures.survives.crash clean db left) [
+  | inl before ↦ before
+  | inr made ↦ absurd (commits_nothing select_text [] (state g.S.Store c.args.conn.now) db select_reads made)
+]

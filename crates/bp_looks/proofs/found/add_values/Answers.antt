@@ -2,7 +2,7 @@ use Rattle.std.proofs.Common.{◌≡◌, ◌+◌, ◌++◌, List, drop, map, sym
 use Rattle.bp_matter.specs.declared.looks.Hit.{Hit}
 use Rattle.bp_looks.specs.declared.hits.Spot.{Spot}
 use Rattle.bp_looks.specs.Hits.{hits_of, hits_of_rows, terms_of}
-use Rattle.bp_looks.specs.Parts.{Rows}
+use Rattle.bp_looks.specs.Parts.{PartRows}
 use Rattle.bp_looks.specs.Pieces.{pieces_of}
 use Rattle.bp_looks.proofs.PartLemmas.{value-few}
 use Rattle.bp_looks.proofs.StepLemmas.{drop_map_more}
@@ -25,5 +25,5 @@ loop-i-preserved c =
     cc (c.in_ok-add_value_hits.ensures) in
     ap (λ (l : List Hit). l ++ later) added
     ∙ (append_assoc c.loop-i.hits.items (hits_of ts spot row) later
-    ∙ (ap (λ (l : Rows). c.loop-i.hits.items ++ hits_of_rows ts spot l) (sym here)
+    ∙ (ap (λ (l : PartRows). c.loop-i.hits.items ++ hits_of_rows ts spot l) (sym here)
     ∙ c.loop-i.invariant))

@@ -1,13 +1,13 @@
 use Rattle.std.proofs.Common.{ap, sym, ◌∙◌, arith, length}
 use Rattle.std.specs.Option.{option_copied}
-use Rattle.bp_looks.specs.Parts.{words_of}
+use Rattle.bp_looks.specs.Parts.{words_of_page}
 use Rattle.bp_looks.proofs.PartLemmas.{words-few}
 use Rattle.bp_looks.proofs.found.words_on.Goals as goal
 
 pub returns-in-Some-clause-value : goal.returns-in-Some-clause-value
 returns-in-Some-clause-value c =
     let found = sym c.words_with.ensures ∙ ap option_copied c.in-Some.is in
-    c.as_slice.ensures ∙ sym (ap words_of found)
+    c.as_slice.ensures ∙ sym (ap words_of_page found)
 
 pub returns-in-Some-clause-few : goal.returns-in-Some-clause-few
 returns-in-Some-clause-few c =
@@ -17,4 +17,4 @@ returns-in-Some-clause-few c =
     omega (arith, few, ap length c.as_slice.ensures)
 
 pub returns-in-None-clause-value : goal.returns-in-None-clause-value
-returns-in-None-clause-value c = sym (ap words_of (sym c.words_with.ensures ∙ ap option_copied c.in-None.is))
+returns-in-None-clause-value c = sym (ap words_of_page (sym c.words_with.ensures ∙ ap option_copied c.in-None.is))

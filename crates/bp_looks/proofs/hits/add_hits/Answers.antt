@@ -3,7 +3,7 @@ use Rattle.std.specs.Prelude.{if◌then◌else◌}
 use Rattle.std.proofs.lemmas.Grind.{common_steps}
 use Rattle.std.proofs.lemmas.List.{length-drop, length-map, drop-drop, drop-map, take_rest}
 use Rattle.bp_matter.specs.declared.looks.Hit.{Hit}
-use Rattle.bp_looks.specs.Hits.{text_of, term_of, texts_of, terms_of, has_hit, hit_at, hits_after}
+use Rattle.bp_looks.specs.Hits.{lent_text, term_of, lent_texts, terms_of, has_hit, hit_at, hits_after}
 use Rattle.bp_looks.proofs.StepLemmas.{hits_after-step}
 use Rattle.bp_looks.proofs.hits.add_hits.Goals as goal
 use Rattle.bp_looks.proofs.hits.add_hits.Goals.{then-has_hit+in_ok-push, else-has_hit}
@@ -12,11 +12,11 @@ pub loop-i-preserved : goal.loop-i-preserved
 loop-i-preserved c =
     let i = c.loop-i.i in
     let ts = terms_of c.args.terms.now in
-    let ws = texts_of c.args.texts.now in
+    let ws = lent_texts c.args.texts.now in
     let later = hits_after ts c.args.spot (i + 1) (drop (i + 1) ws) in
     let hit = hit_at c.args.spot (length ts) (i + 1) in
     let some : 0 < length (drop i ws) =
-    omega (arith, length-drop i ws, length-map c.args.texts.now text_of) in
+    omega (arith, length-drop i ws, length-map c.args.texts.now lent_text) in
     let step : hits_after ts c.args.spot i (drop i ws)
     ≡ (if has_hit ts (drop i ws) then hit ∷ [] else []) ++ later =
     hits_after-step ts c.args.spot i (drop i ws) some
@@ -24,8 +24,8 @@ loop-i-preserved c =
     ++ hits_after ts c.args.spot (i + 1) l) (drop-drop 1 i ws) in
     let test : c.has_hit.result ≡ has_hit ts (drop i ws) =
     c.has_hit.ensures
-    ∙ (ap (λ l. has_hit ts (texts_of l)) (take_rest c.args.texts.now i)
-    ∙ ap (λ (l : List (List ℕ)). has_hit ts l) (sym (drop-map text_of i c.args.texts.now))) in
+    ∙ (ap (λ l. has_hit ts (lent_texts l)) (take_rest c.args.texts.now i)
+    ∙ ap (λ (l : List (List ℕ)). has_hit ts l) (sym (drop-map lent_text i c.args.texts.now))) in
     let whole : c.loop-i.hits.items
     ++ ((if c.has_hit.result then hit ∷ [] else []) ++ later)
     ≡ c.args.hits.now.items ++ hits_after ts c.args.spot 0 ws =

@@ -3,7 +3,7 @@ use Rattle.std.specs.Prelude.{◌&&◌}
 use Rattle.std.proofs.lemmas.List.{length-drop, length-map, get_or_default}
 use denote.Ref.{Bor}
 use Rattle.bp_looks.specs.Matching.{matches}
-use Rattle.bp_looks.specs.Hits.{text_of, term_of, texts_of, terms_of, has_hit}
+use Rattle.bp_looks.specs.Hits.{lent_text, term_of, lent_texts, terms_of, has_hit}
 use Rattle.bp_looks.proofs.StepLemmas.{drop_map_all, has_hit-nil, has_hit-next}
 use Rattle.bp_looks.proofs.hits.has_hit.Goals as goal
 
@@ -12,7 +12,7 @@ returns-then-i-texts c =
     let ts = terms_of c.args.terms.now in
     let some : 0 < length (drop c.loop-i.i ts) =
     omega (arith, length-drop c.loop-i.i ts, length-map c.args.terms.now term_of) in
-    let none = drop_map_all text_of c.args.texts.now c.loop-i.i (omega arith) in
+    let none = drop_map_all lent_text c.args.texts.now c.loop-i.i (omega arith) in
     sym (c.loop-i.invariant
     ∙ (ap (λ x. has_hit (drop c.loop-i.i ts) x) none ∙ has_hit-nil (drop c.loop-i.i ts) some))
 
@@ -23,8 +23,8 @@ returns-then-not-matches c =
     let none : Bor (List ℕ) = record { ref_ptr = (0, 0); now = [] } in
     let text = get_or texts i none in
     let within : i < length texts = omega arith in
-    let later = has_hit (drop (i + 1) (terms_of c.args.terms.now)) (drop (i + 1) (texts_of texts)) in
-    let fails : matches (term_of c.index-terms-i.result) (text_of text) ≡ false =
+    let later = has_hit (drop (i + 1) (terms_of c.args.terms.now)) (drop (i + 1) (lent_texts texts)) in
+    let fails : matches (term_of c.index-terms-i.result) (lent_text text) ≡ false =
     cc (c.matches.ensures, c.as_slice.ensures.value) in
     sym (c.loop-i.invariant
     ∙ (has_hit-next c.args.terms.now texts i c.index-terms-i.result text (omega arith)
@@ -38,8 +38,8 @@ loop-i-preserved c =
     let none : Bor (List ℕ) = record { ref_ptr = (0, 0); now = [] } in
     let text = get_or texts i none in
     let within : i < length texts = omega arith in
-    let later = has_hit (drop (i + 1) (terms_of c.args.terms.now)) (drop (i + 1) (texts_of texts)) in
-    let fits : matches (term_of c.index-terms-i.result) (text_of text) ≡ true =
+    let later = has_hit (drop (i + 1) (terms_of c.args.terms.now)) (drop (i + 1) (lent_texts texts)) in
+    let fits : matches (term_of c.index-terms-i.result) (lent_text text) ≡ true =
     cc (c.matches.ensures, c.as_slice.ensures.value) in
     c.loop-i.invariant
     ∙ (has_hit-next c.args.terms.now texts i c.index-terms-i.result text (omega arith)

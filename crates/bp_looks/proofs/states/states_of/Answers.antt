@@ -2,7 +2,7 @@ use Rattle.std.proofs.Common.{◌≡◌, ◌+◌, ◌<◌, List, None, length, g
 use Rattle.std.specs.Option.{option_copied}
 use Rattle.bp_core.proofs.SortedLemmas.{get_or-any}
 use Rattle.bp_matter.specs.declared.rows.DocRow.{DocRow}
-use Rattle.bp_looks.specs.Produced.{production_of}
+use Rattle.bp_looks.specs.Produced.{produced_in}
 use Rattle.bp_looks.proofs.NumberLemmas.{doc-numbered}
 use Rattle.bp_looks.proofs.states.states_of.Goals as goal
 
@@ -19,4 +19,4 @@ state_row-requires c =
     doc-numbered m from i row c.know_valid.ensures c.requires.first (omega (arith, lt, ap length told))
     (c.index-docs-i.is ∙ ap (λ (l : List DocRow). get_or l i row) told) in
     ap option_copied (c.index.ensures ∙ get_or-any ids i c.index.result.now None (omega (arith, c.in_ok-ids.ensures.many)))
-    ∙ (c.in_ok-ids.ensures.tell i lt ∙ ap (production_of m) (sym number))
+    ∙ (c.in_ok-ids.ensures.tell i lt ∙ ap (produced_in m) (sym number))

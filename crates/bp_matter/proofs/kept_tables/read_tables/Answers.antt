@@ -1,7 +1,7 @@
 use Rattle.std.proofs.Common.{◌≡◌, ◌∙◌, ◌&&◌, sym, ap, false, eqb, length}
 use Rattle.std.proofs.lemmas.Bool.{and_left, and_right}
 use Rattle.bp_matter.specs.KeptRows.{rows_of}
-use Rattle.bp_matter.specs.Lists.{matter_of}
+use Rattle.bp_matter.specs.Lists.{matter_read}
 use Rattle.bp_matter.specs.ReadTables.{bad_rule, least_bad}
 use Rattle.bp_matter.proofs.CheckLemmas.{all_of_them}
 use Rattle.bp_matter.proofs.SegmentLemmas.{of_none}
@@ -11,14 +11,14 @@ use Rattle.bp_matter.proofs.kept_tables.read_tables.Goals.{else-is_empty-via-the
 pub returns-then-good : goal.returns-then-good
 returns-then-good c =
     sym c.as_slice-rows.ensures
-    ∙ all_of_them c.as_slice-rows.result.now (rows_of (matter_of c.in_ok-lists.lists)) c.in_ok-lists.rest.now c.in_ok-lists.ensures.parts (sym c.is_empty.ensures ∙ c.if-is_empty.true)
+    ∙ all_of_them c.as_slice-rows.result.now (rows_of (matter_read c.in_ok-lists.lists)) c.in_ok-lists.rest.now c.in_ok-lists.ensures.parts (sym c.is_empty.ensures ∙ c.if-is_empty.true)
     ∙ ap rows_of (sym c.in_ok-tables_of.ensures)
 
 pub returns : goal.returns
 returns c =
     let rows = c.as_slice-rows.result.now in
     let rest = c.in_ok-lists.rest.now in
-    let found = matter_of c.in_ok-lists.lists in
+    let found = matter_read c.in_ok-lists.lists in
     let good = c.in_ok-good.good in
     let bad =
     elim c.else-is_empty.branch as (λ _. (eqb (length rest) 0 && good) ≡ false) [

@@ -2,7 +2,7 @@ use Rattle.std.proofs.Common.{ap, subst, sym, ◌∙◌}
 use Rattle.std.specs.Option.{option_copied}
 use Rattle.bp_rows.specs.Image.{Image}
 use Rattle.bp_burn.specs.Band.{produced_of}
-use Rattle.bp_press.specs.Jobs.{IsCodable, page_of}
+use Rattle.bp_press.specs.Jobs.{IsCodable, page_of_job}
 use Rattle.bp_press.proofs.JobLemmas.{kept_image, kept_sides}
 use Rattle.bp_press.proofs.covered.image_of.Goals as goal
 
@@ -11,7 +11,7 @@ returns-in-Some-clause-is c =
     let m = c.args.tables.now.matter in
     let it = c.in-Image in
     let found = sym c.kept.ensures ∙ ap option_copied c.in-Some.is in
-    ap (λ (image : Image). produced_of it.ink image it.stamps it.label it.designation) (kept_image m it.doc.0 it.page.0 c.in-Some.scan.now found) ∙ sym (ap (page_of m) it.is)
+    ap (λ (image : Image). produced_of it.ink image it.stamps it.label it.designation) (kept_image m it.doc.0 it.page.0 c.in-Some.scan.now found) ∙ sym (ap (page_of_job m) it.is)
 
 pub returns-in-Some-clause-can : goal.returns-in-Some-clause-can
 returns-in-Some-clause-can c =
@@ -23,4 +23,4 @@ returns-in-Some-clause-can c =
     }
 
 pub returns-in-Slip-clause-is : goal.returns-in-Slip-clause-is
-returns-in-Slip-clause-is c = sym (ap (page_of c.args.tables.now.matter) c.in-Slip.is)
+returns-in-Slip-clause-is c = sym (ap (page_of_job c.args.tables.now.matter) c.in-Slip.is)

@@ -1,6 +1,6 @@
 use Rattle.std.proofs.Common.{◌==◌, ℕ, List, All, ap, filter, slice_index, subst, ◌∙◌, arith}
 use Rattle.bp_matter.specs.declared.rows.Item.{Item}
-use Rattle.bp_freeze.specs.Selecting.{first_number, last_number}
+use Rattle.bp_freeze.specs.Selecting.{first_of_items, last_of_items}
 use Rattle.bp_press.specs.Needs.{IsInFamily}
 use Rattle.bp_press.proofs.GatherLemmas.{families_by, numbers_by}
 use Rattle.bp_press.proofs.load_files.dat_bytes.Goals as goal
@@ -14,10 +14,10 @@ dat_rows-requires-clause-numbers g c =
       many_lasts = omega (arith, c.as_slice-2.ensures.len, c.in_ok-lasts.ensures.many);
       first = λ p less.
           ap (λ (numbers : List ℕ). slice_index numbers p) c.as_slice.ensures.value ∙ c.in_ok-firsts.ensures.tell p less
-          ∙ ap (λ (items : List Item). first_number (filter (λ (item : Item). item.parent.0 == p) items)) c.as_slice-items.ensures;
+          ∙ ap (λ (items : List Item). first_of_items (filter (λ (item : Item). item.parent.0 == p) items)) c.as_slice-items.ensures;
       last = λ p less.
           ap (λ (numbers : List ℕ). slice_index numbers p) c.as_slice-2.ensures.value ∙ c.in_ok-lasts.ensures.tell p less
-          ∙ ap (λ (items : List Item). last_number (filter (λ (item : Item). item.parent.0 == p) items)) c.as_slice-items.ensures;
+          ∙ ap (λ (items : List Item). last_of_items (filter (λ (item : Item). item.parent.0 == p) items)) c.as_slice-items.ensures;
     })
 
 pub dat_rows-requires-clause-families : goal.dat_rows-requires-clause-families

@@ -2,7 +2,7 @@ use Rattle.std.proofs.Common.{◌≡◌, ap, map, subst, sym, ◌∙◌}
 use Rattle.std.specs.Prelude.{IfOk}
 use Rattle.std.proofs.lemmas.List.{get_or_read}
 use Rattle.std.proofs.lemmas.List.Elements.{All-same}
-use Rattle.bp_press.specs.Batches.{HasImages, made_by}
+use Rattle.bp_press.specs.Batches.{HasImages, file_made_by}
 use Rattle.bp_press.specs.Jobs.{IsCodable, strip_by}
 use Rattle.bp_press.specs.Shown.{IsOwnJob}
 use Rattle.bp_press.specs.declared.volume_files.VolumeFile.{VolumeFile}
@@ -36,5 +36,5 @@ made_file-requires-clause-images g c =
 
 pub returns : goal.returns
 returns g c = λ d.
-    subst (λ (entry : VolumeFile). IfOk c.made_file.result (λ file. file ≡ made_by c.args.maker.now.production.now (g.P.Shows.matter c.args.maker.now.shown.now) entry))
+    subst (λ (entry : VolumeFile). IfOk c.made_file.result (λ file. file ≡ file_made_by c.args.maker.now.production.now (g.P.Shows.matter c.args.maker.now.shown.now) entry))
     (get_or_read c.args.files.now c.args.place c.index-files-place.result c.requires.place c.index-files-place.is d) c.made_file.ensures

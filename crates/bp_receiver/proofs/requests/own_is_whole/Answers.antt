@@ -1,7 +1,7 @@
 use Rattle.std.proofs.Common.{refl, ap, ◌∙◌}
 use Rattle.bp_web.proofs.HeadLemmas.{none_begins}
 use Rattle.bp_web.proofs.RequestLemmas.{Found, nothing_more, spans_fit}
-use Rattle.bp_receiver.specs.EventRequests.{wanted_by}
+use Rattle.bp_receiver.specs.EventRequests.{event_wanted_by}
 use Rattle.bp_receiver.proofs.RequestLemmas.{asking-found, own-most, own-nothing, own-there, own-told}
 use Rattle.bp_receiver.proofs.requests.own_is_whole.Goals as goal
 
@@ -20,7 +20,7 @@ returns-in-Head c =
     record { is_start = c.start_of-start.ensures; has = c.in-Head.ensures.found } in
     let wants =
     c.wanted_in-wanted.ensures
-    ∙ ap wanted_by (asking-found bytes start room spans f c.of-method.result.now
+    ∙ ap event_wanted_by (asking-found bytes start room spans f c.of-method.result.now
     c.of-target.result.now c.route_in-route.result c.of-method.ensures c.of-target.ensures
     c.route_in-route.ensures) in
     record {

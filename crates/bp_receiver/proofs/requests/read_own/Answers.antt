@@ -1,7 +1,7 @@
 use Rattle.std.proofs.Common.{sym, ap, ◌∙◌}
 use Rattle.bp_web.proofs.HeadLemmas.{none_begins}
 use Rattle.bp_web.proofs.RequestLemmas.{Found, nothing_more, spans_fit}
-use Rattle.bp_receiver.specs.EventRequests.{asked_of}
+use Rattle.bp_receiver.specs.EventRequests.{event_asked}
 use Rattle.bp_receiver.proofs.RequestLemmas.{asking-found, own-asked, own-none, own-refused}
 use Rattle.bp_receiver.proofs.requests.read_own.Goals as goal
 
@@ -24,8 +24,8 @@ returns-in-Ok c not_memory =
     c.route_in-route.result c.of.ensures c.of-target.ensures c.route_in-route.ensures in
     own-asked bytes start room spans f c.in-Ok.asking c.asked_in.result (sym asks ∙ c.in-Ok.is)
     (c.asked_in.ensures not_memory
-    ∙ ap (λ t. asked_of c.in-Ok.asking t c.after.result.now) c.of-target.ensures
-    ∙ ap (asked_of c.in-Ok.asking _) c.after.ensures)
+    ∙ ap (λ t. event_asked c.in-Ok.asking t c.after.result.now) c.of-target.ensures
+    ∙ ap (event_asked c.in-Ok.asking _) c.after.ensures)
 
 pub returns-in-Err : goal.returns-in-Err
 returns-in-Err c not_memory =

@@ -1,5 +1,5 @@
 use Rattle.std.proofs.Common.{subst, sym}
-use Rattle.bp_desk.specs.Serving.{ServesDoor}
+use Rattle.bp_desk.specs.Serving.{ServesCallDoor}
 use Rattle.bp_seats.specs.Seats.{SameSeat, SeatView}
 use Rattle.bp_seats.specs.Serving.{history_at}
 use Rattle.bp_seats.proofs.SeatLemmas.{same_not}
@@ -14,7 +14,7 @@ pub returns : goal.returns
 returns g c =
     let P : SeatView → Type 0 = λ start. SameSeat start c.serve_by.new.at in
     let Q : SeatView → Type 0 = λ start.
-    ServesDoor start.view.number c.args.connections (history_at c.args.seat.now.view)
+    ServesCallDoor start.view.number c.args.connections (history_at c.args.seat.now.view)
     (g.D.Door.shows c.args.door.now) (history_at c.serve_by.new.at.view)
     (g.D.Door.shows c.serve_by.new.door) in
     record {

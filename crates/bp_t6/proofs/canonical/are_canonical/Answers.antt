@@ -3,7 +3,7 @@ use Rattle.std.proofs.lemmas.Bool.{and_parts, cases_lt, leb-true, lt-ltb}
 use Rattle.std.specs.Int.{from_bool}
 use Rattle.bp_rows.specs.Changes.{place_at}
 use Rattle.bp_t6.specs.Places.{b1, b2}
-use Rattle.bp_t6.specs.Written.{run_of}
+use Rattle.bp_t6.specs.Written.{written_run}
 use Rattle.bp_t6.specs.Reading.{place_under}
 use Rattle.bp_t6.proofs.PlaceLemmas.{b1_is, after_is, from_small}
 use Rattle.bp_t6.proofs.canonical.are_canonical.Goals as goal
@@ -24,8 +24,8 @@ returns c = λ over p q shows is_p has_p is_q has_q e.
     let parts = and_parts coded (nat_le c.from.result c.args.second.pixels) e in
     let both = and_parts c.args.first.canonical c.args.second.canonical parts.0 in
     record {
-      first_coded = has_p both.0 ∙ ap run_of (sym is_p);
-      second_coded = has_q both.1 ∙ ap run_of (sym is_q);
+      first_coded = has_p both.0 ∙ ap written_run (sym is_p);
+      second_coded = has_q both.1 ∙ ap written_run (sym is_q);
       begins = λ some. omega (arith, is_p, c.if-a1-under.false, start);
       goes_on = λ less.
           let inside : nat_lt a1 w ≡ true = lt-ltb a1 w (omega (arith, less, is_p, start, shows.long)) in

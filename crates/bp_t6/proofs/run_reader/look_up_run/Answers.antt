@@ -4,7 +4,7 @@ use Rattle.bp_codes.specs.Span.{span_bits}
 use Rattle.bp_codes.proofs.BitListLemmas.{length-bits_of}
 use Rattle.std.proofs.lemmas.Bool.{and_parts, eqb-true}
 use Rattle.bp_t6.specs.Modes.{run_codes, code}
-use Rattle.bp_t6.specs.Written.{run_of}
+use Rattle.bp_t6.specs.Written.{written_run}
 use Rattle.bp_t6.proofs.CodeLemmas.{code_length}
 use Rattle.bp_t6.proofs.LookLemmas.{MakeUps, make_up_more, run_end, row_length, run_missing, run_passes, few_pixels, many_pixels}
 use Rattle.bp_t6.proofs.run_reader.look_up_run.Goals as goal
@@ -54,7 +54,7 @@ returns-then-row-lt-TERMINATING_CODES-clause-found c =
       run = end.run;
       has = end.has;
       size = end.size ∙ ap (λ n. c.codes.pixels + n) more;
-      chosen = λ e. end.chosen e ∙ ap (λ n. run_of (c.codes.pixels + n)) more;
+      chosen = λ e. end.chosen e ∙ ap (λ n. written_run (c.codes.pixels + n)) more;
       codes = end.codes;
     }
 

@@ -1,6 +1,6 @@
 use Rattle.std.proofs.Common.{◌≡◌, ◌++◌, ◌/◌, ◌%◌, ◌+◌, Bool, List, OnOk, ap, sym, ◌∙◌, subst, arith, append_assoc}
 use Rattle.bp_t6.specs.Modes.{code, run_bits_in}
-use Rattle.bp_t6.specs.Written.{run_of}
+use Rattle.bp_t6.specs.Written.{written_run}
 use Rattle.bp_t6.specs.Marks.{Continues}
 use Rattle.bp_t6.proofs.MarkLemmas.{continues_put, continues_same, continues_then}
 use Rattle.bp_t6.proofs.RunCodeLemmas.{tops, run_few, run_many}
@@ -12,7 +12,7 @@ returns-clause-put c =
     let codes = c.args.codes.now in let n = c.args.run in let old = c.args.out.now in let last = code codes (n % 64) in
     let count : c.loop.counter ≡ n / 2560 = omega arith in
     let first : c.loop.out ≡ old ++ tops codes (n / 2560) = c.loop.invariant ∙ ap (λ k. old ++ tops codes k) count in
-    let end : c.if-rest-ge-MAKE_UP_STEP.out ++ last ≡ old ++ run_bits_in codes (run_of n) =
+    let end : c.if-rest-ge-MAKE_UP_STEP.out ++ last ≡ old ++ run_bits_in codes (written_run n) =
     elim c.if-rest-ge-MAKE_UP_STEP.branch [
       | then-rest-ge-MAKE_UP_STEP+in_ok-put_code-2 w ↦
           let mid = code codes (63 + n % 2560 / 64) in

@@ -1,10 +1,10 @@
 use Rattle.std.proofs.Common.{◌≡◌, ◌+◌, ◌-◌, ◌*◌, sym, ap, ◌∙◌, arith, Some}
-use Rattle.bp_tiff.specs.Directory.{first_from, entry_of}
+use Rattle.bp_tiff.specs.Directory.{first_from, entry_of_tag}
 use Rattle.bp_tiff.proofs.FindingLemmas.{first_hit, first_miss}
 use Rattle.bp_tiff.proofs.directory.find.Goals as goal
 
 pub returns-then-short-tag-clause-gives : goal.returns-then-short-tag-clause-gives
-unfolding entry_of
+unfolding entry_of_tag
 returns-then-short-tag-clause-gives c =
     let d = c.args.directory.now in
     let k = c.loop-k.k in

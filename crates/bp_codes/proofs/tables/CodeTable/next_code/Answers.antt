@@ -1,6 +1,6 @@
 use Rattle.std.proofs.Common.{◌≡◌, ◌+◌, ◌-◌, ◌^◌, ◌≤◌, arith, length, take, drop, map, min, ap, sym, ◌∙◌, rules, length-drop}
 use Rattle.std.proofs.lemmas.List.{length-map}
-use Rattle.bp_codes.specs.Bits.{number_of, code_bits}
+use Rattle.bp_codes.specs.Bits.{number_of_bits, code_bits}
 use Rattle.bp_codes.specs.Span.{span_bits}
 use Rattle.bp_codes.specs.NextCode.{next_row}
 use Rattle.bp_codes.specs.Fronts.{fronts}
@@ -15,7 +15,7 @@ overflow_add-count g c =
     let small : c.min-count.result ≤ 13 = omega (arith, c.self.invariant.within) in
     let place = place_is bits c.min-count.result c.window-window.result small c.window-window.ensures in
     let below = place_below c.self.inside.longest c.min-count.result bits (omega arith) (omega arith) in
-    omega (arith, place, place_small c.self.inside.longest (2 ^ c.min-count.result + number_of (take c.min-count.result bits)) c.self.invariant.within below)
+    omega (arith, place, place_small c.self.inside.longest (2 ^ c.min-count.result + number_of_bits (take c.min-count.result bits)) c.self.invariant.within below)
 
 pub at-requires : goal.at-requires
 at-requires g c =

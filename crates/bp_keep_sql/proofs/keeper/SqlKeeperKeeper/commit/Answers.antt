@@ -28,3 +28,11 @@ pub returns-in-Err-clause-asked : goal.returns-in-Err-clause-asked
 returns-in-Err-clause-asked g c clean =
     rw (← c.self.view_is, ← c.as_slice.ensures)
     (c.in-Err.error, c.refuse.ensures.told, c.in-Err.ensures.refused clean)
+
+pub returns-in-Ok-clause-stopped : goal.returns-in-Ok-clause-stopped
+returns-in-Ok-clause-stopped g c clean =
+    rw (← c.self.view_is, ← c.as_slice.ensures) (c.in-Ok.ensures.stopped clean)
+
+pub returns-in-Err-clause-stopped : goal.returns-in-Err-clause-stopped
+returns-in-Err-clause-stopped g c clean =
+    rw (← c.self.view_is, ← c.as_slice.ensures) (c.in-Err.ensures.stopped clean)

@@ -7,3 +7,9 @@ returns-in-Ok-clause-asked g c clean =
 pub returns-in-Err-clause-asked : goal.returns-in-Err-clause-asked
 returns-in-Err-clause-asked g c clean =
     rw (← c.self.view_is) (c.in-Err.error, c.refuse.ensures.told, c.in-Err.ensures.refused clean)
+
+pub returns-in-Ok-clause-stopped : goal.returns-in-Ok-clause-stopped
+returns-in-Ok-clause-stopped g c clean = rw (← c.self.view_is) (c.in-Ok.ensures.stopped clean)
+
+pub returns-in-Err-clause-stopped : goal.returns-in-Err-clause-stopped
+returns-in-Err-clause-stopped g c clean = rw (← c.self.view_is) (c.in-Err.ensures.stopped clean)

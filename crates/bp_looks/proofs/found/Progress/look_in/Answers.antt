@@ -7,7 +7,7 @@ use Rattle.bp_matter.specs.declared.looks.Hit.{Hit}
 use Rattle.bp_looks.specs.declared.hits.Spot.{Spot}
 use Rattle.bp_looks.specs.Found.{hits_in, walk}
 use Rattle.bp_looks.specs.Hits.{terms_of}
-use Rattle.bp_looks.specs.Parts.{Part, Rows, document_rows, part_at, parts_of, rows_in}
+use Rattle.bp_looks.specs.Parts.{Part, PartRows, document_rows, part_at, parts_of, rows_of_parts}
 use Rattle.bp_looks.proofs.PartLemmas.{length-rows}
 use Rattle.bp_looks.proofs.WalkLemmas.{parts-step, walk-full, walk-take}
 use Rattle.bp_looks.proofs.found.Progress.look_in.Goals as goal
@@ -26,7 +26,7 @@ returns-then-is_full-clause-inside c =
     let found : doc_with c.args.doc.0 m ≡ Some c.in-Some.row.now =
     sym c.doc_with.ensures ∙ ap option_copied c.in-Some.is in
     let many : length (document_rows m c.args.doc.0) ≡ c.in-Some.row.now.pages + 1 =
-    ap (λ (o : Option DocRow). length (rows_in m c.args.doc.0 o)) found
+    ap (λ (o : Option DocRow). length (rows_of_parts m c.args.doc.0 o)) found
     ∙ length-rows m c.in-Some.row.now c.args.doc.0 in
     omega (arith, many)
 
@@ -42,7 +42,7 @@ loop-page-preserved c = λ more.
     let found : doc_with doc m ≡ Some c.in-Some.row.now =
     sym c.doc_with.ensures ∙ ap option_copied c.in-Some.is in
     let many : length parts ≡ c.in-Some.row.now.pages + 1 =
-    ap (λ (o : Option DocRow). length (rows_in m doc o)) found ∙ length-rows m c.in-Some.row.now doc in
+    ap (λ (o : Option DocRow). length (rows_of_parts m doc o)) found ∙ length-rows m c.in-Some.row.now doc in
     let within : page < length parts = omega (arith, many) in
     let here = drop_more parts page [] within in
     let added : c.add_part.new.hits.items ≡ c.loop-page.self.hits.items ++ hits_in ts part =
@@ -65,8 +65,8 @@ returns-clause-past c = λ more.
     let found : doc_with doc m ≡ Some c.in-Some.row.now =
     sym c.doc_with.ensures ∙ ap option_copied c.in-Some.is in
     let many : length parts ≡ c.in-Some.row.now.pages + 1 =
-    ap (λ (o : Option DocRow). length (rows_in m doc o)) found ∙ length-rows m c.in-Some.row.now doc in
+    ap (λ (o : Option DocRow). length (rows_of_parts m doc o)) found ∙ length-rows m c.in-Some.row.now doc in
     let none : drop page parts ≡ [] = drop_all page parts (omega (arith, many)) in
     c.loop-page.invariant more
-    ∙ ap (λ (l : List Rows). walk ts c.loop-page.self.hits.items c.loop-page.self.taken
+    ∙ ap (λ (l : List PartRows). walk ts c.loop-page.self.hits.items c.loop-page.self.taken
     (parts_of doc page l ++ more)) none

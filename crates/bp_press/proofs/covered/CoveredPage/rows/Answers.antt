@@ -3,7 +3,7 @@ use Rattle.std.specs.Prelude.{IsTrue}
 use Rattle.bp_codes.specs.Bits.{bits_of}
 use Rattle.bp_codes.specs.declared.span.Fill.TheVariants.{High}
 use Rattle.bp_rows.specs.Limits.{sides_are_imported}
-use Rattle.bp_t6.specs.Written.{strip_of}
+use Rattle.bp_t6.specs.Written.{bits_strip}
 use Rattle.bp_burn.specs.RowsOut.{RowsOut}
 use Rattle.bp_press.proofs.JobLemmas.{own_strip}
 use Rattle.bp_press.proofs.covered.CoveredPage.rows.Goals as goal
@@ -31,5 +31,5 @@ returns c =
       row = 0;
     } in
     c.over.ensures ∙ ap (λ (strip : List ℕ). out strip c.args.room c.height.result) c.strip.ensures.strip
-    ∙ ap (λ (width : ℕ). out (strip_of p) width c.height.result) c.requires.room
-    ∙ ap (λ (height : ℕ). out (strip_of p) p.width height) c.height.ensures.height
+    ∙ ap (λ (width : ℕ). out (bits_strip p) width c.height.result) c.requires.room
+    ∙ ap (λ (height : ℕ). out (bits_strip p) p.width height) c.height.ensures.height

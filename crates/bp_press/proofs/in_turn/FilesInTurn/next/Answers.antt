@@ -3,7 +3,7 @@ use Rattle.bp_press.specs.Batches.{IsDigested, made_of}
 use Rattle.bp_press.specs.InTurn.{files_left}
 use Rattle.bp_press.specs.Manifest.{manifest_line}
 use Rattle.bp_press.specs.Shown.{matter_behind, production_shown}
-use Rattle.bp_press.specs.VolumeFiles.{row_of}
+use Rattle.bp_press.specs.VolumeFiles.{file_of_entry}
 use Rattle.bp_press.specs.declared.volume_files.VolumeFile.{VolumeFile}
 use Rattle.bp_press.specs.declared.volume_files.VolumeFile.TheVariants.{Dat}
 use Rattle.bp_press.proofs.InTurnLemmas.{one_left}
@@ -18,10 +18,10 @@ returns-then-self-len-clause-taken c =
     let made = c.in_ok-made.made in
     let longer = c.listed_file.new.manifest.items in
     let less : s.next < length list = omega (arith, c.if-self-len.true, c.len.ensures) in
-    let is : made ≡ made_of (row_of f m (get_or list s.next Dat)) =
-    c.in_ok-made.ensures.made Dat ∙ ap (λ (lent : List VolumeFile). made_of (row_of f m (get_or lent s.next Dat))) c.as_slice-list.ensures.value in
-    let grown : longer ≡ s.manifest.items ++ manifest_line (row_of f m (get_or list s.next Dat)) =
-    c.in_ok-made.ensures.line Dat ∙ ap (λ (lent : List VolumeFile). s.manifest.items ++ manifest_line (row_of f m (get_or lent s.next Dat))) c.as_slice-list.ensures.value in
+    let is : made ≡ made_of (file_of_entry f m (get_or list s.next Dat)) =
+    c.in_ok-made.ensures.made Dat ∙ ap (λ (lent : List VolumeFile). made_of (file_of_entry f m (get_or lent s.next Dat))) c.as_slice-list.ensures.value in
+    let grown : longer ≡ s.manifest.items ++ manifest_line (file_of_entry f m (get_or list s.next Dat)) =
+    c.in_ok-made.ensures.line Dat ∙ ap (λ (lent : List VolumeFile). s.manifest.items ++ manifest_line (file_of_entry f m (get_or lent s.next Dat))) c.as_slice-list.ensures.value in
     sym c.self.view_is
     ∙ ap (λ (ended : Bool). files_left f m list s.next s.manifest.items ended) c.if-self.false
     ∙ one_left f m list s.next Dat s.manifest.items longer made less is grown

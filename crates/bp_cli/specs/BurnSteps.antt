@@ -11,7 +11,7 @@ use Rattle.bp_cli.specs.declared.burn.BurnPaths.{BurnPaths as Paths}
 use Rattle.bp_import.specs.Importing.{after_kind}
 use Rattle.bp_cli.specs.declared.stops.Stop.{Stop}
 use Rattle.bp_cli.specs.declared.stops.Stop.TheVariants as stops
-use Rattle.bp_cli.specs.Burn.{BurnLine, BurnPaths, paths_of, path_refused, counted_line}
+use Rattle.bp_cli.specs.Burn.{BurnLine, BurnPaths, burn_paths, path_refused, counted_line}
 use Rattle.bp_cli.specs.Burn.{PathAnswers}
 use Rattle.bp_cli.specs.Endings.{Ending, failed_folder, failed_source}
 
@@ -31,8 +31,8 @@ NamesPath named (Err stops.KeeperFault) = ⊥
 
 -- the paths of the line, or the rule where a word names none
 abbrev pub NamesPaths : BurnLine → Result Paths Stop → Type 0
-NamesPaths b (Ok paths) = paths_of b ≡ Some (paths_seen paths)
-NamesPaths b (Err (stops.Broken rule)) = (paths_of b ≡ None) × (rule ≡ path_refused)
+NamesPaths b (Ok paths) = burn_paths b ≡ Some (paths_seen paths)
+NamesPaths b (Err (stops.Broken rule)) = (burn_paths b ≡ None) × (rule ≡ path_refused)
 NamesPaths b (Err stops.OutOfMemory) = Unit {0}
 NamesPaths b (Err stops.WordsRefused) = ⊥
 NamesPaths b (Err stops.SourceFault) = ⊥
@@ -47,16 +47,16 @@ pub record AnswersAt (from : List ℕ) (told : Option FileMap) (answer : Result 
   pub answers : PathAnswers found answer
 
 -- the page at a path was read; or the rule was met that reading it breaks
-abbrev pub ReadsPage : List ℕ → SourceView → Result Image Stop → SourceView → Type 0
-ReadsPage from source (Ok p) source' =
+abbrev pub ReadsPageAt : List ℕ → SourceView → Result Image Stop → SourceView → Type 0
+ReadsPageAt from source (Ok p) source' =
     AnswersAt from source.files (Ok p) × (source' ≡ source)
-ReadsPage from source (Err (stops.Broken rule)) source' =
+ReadsPageAt from source (Err (stops.Broken rule)) source' =
     AnswersAt from source.files (Err rule) × (source' ≡ after_kind source rule.kind)
-ReadsPage from source (Err stops.SourceFault) source' = source' ≡ failed_source source
-ReadsPage from source (Err stops.OutOfMemory) source' = source' ≡ source
-ReadsPage from source (Err stops.WordsRefused) source' = ⊥
-ReadsPage from source (Err stops.FolderFault) source' = ⊥
-ReadsPage from source (Err stops.KeeperFault) source' = ⊥
+ReadsPageAt from source (Err stops.SourceFault) source' = source' ≡ failed_source source
+ReadsPageAt from source (Err stops.OutOfMemory) source' = source' ≡ source
+ReadsPageAt from source (Err stops.WordsRefused) source' = ⊥
+ReadsPageAt from source (Err stops.FolderFault) source' = ⊥
+ReadsPageAt from source (Err stops.KeeperFault) source' = ⊥
 
 -- a file breaks this rule, which raises no count
 pub record BreaksRule (bytes : List ℕ) (rule : Rule) : Type 0 where
@@ -64,14 +64,14 @@ pub record BreaksRule (bytes : List ℕ) (rule : Rule) : Type 0 where
   pub calm : (source : SourceView) → after_kind source rule.kind ≡ source
 
 -- the page of the bytes, or the rule that they break
-abbrev pub HoldsPage : List ℕ → Result Image Stop → Type 0
-HoldsPage bytes (Ok p) = TiffAnswers bytes (Ok p)
-HoldsPage bytes (Err (stops.Broken rule)) = BreaksRule bytes rule
-HoldsPage bytes (Err stops.OutOfMemory) = Unit {0}
-HoldsPage bytes (Err stops.WordsRefused) = ⊥
-HoldsPage bytes (Err stops.SourceFault) = ⊥
-HoldsPage bytes (Err stops.FolderFault) = ⊥
-HoldsPage bytes (Err stops.KeeperFault) = ⊥
+abbrev pub AnswersPage : List ℕ → Result Image Stop → Type 0
+AnswersPage bytes (Ok p) = TiffAnswers bytes (Ok p)
+AnswersPage bytes (Err (stops.Broken rule)) = BreaksRule bytes rule
+AnswersPage bytes (Err stops.OutOfMemory) = Unit {0}
+AnswersPage bytes (Err stops.WordsRefused) = ⊥
+AnswersPage bytes (Err stops.SourceFault) = ⊥
+AnswersPage bytes (Err stops.FolderFault) = ⊥
+AnswersPage bytes (Err stops.KeeperFault) = ⊥
 
 -- a file was put at a path and its line made, or a part of it was put, with the fault counted
 abbrev pub PutsPage : List ℕ → List ℕ → FolderView → Ending → FolderView → Type 0

@@ -9,7 +9,7 @@ use Rattle.bp_outside.specs.Source.{SourceView}
 use Rattle.bp_rules.specs.Steps.{AtMostOnce}
 use Rattle.bp_cli.specs.Commands.{CommandLine, ReadsAsOften, command_of}
 use Rattle.bp_cli.specs.Deliver.{DeliverAsked, DeliversOver, deliver_of, office}
-use Rattle.bp_cli.specs.Runs.{Outside, Runs}
+use Rattle.bp_cli.specs.Runs.{Outside, RunsOverRows}
 use Rattle.bp_cli.specs.declared.serve.ServeLine.{ServeLine}
 use Rattle.bp_cli.specs.Serve.{ServesOver, hall, serve_of}
 
@@ -79,7 +79,7 @@ pub record RunsDeliver {D : Type 0} (shows : D → DoorView) (asked : DeliverAsk
 -- each other command promises this, and so do words that are none
 pub record RunsCommand {D : Type 0} (command : Option CommandLine) (before : Moment D)
     (history : Option (List Made)) (after : Moment D) (status : ℕ) : Type 0 where
-  pub runs : Runs command before.outside after.outside status
+  pub runs : RunsOverRows command before.outside after.outside status
   pub leaves : LeavesDoors before history after
 
 -- what a run of words promises that don't ask to serve: where they ask to deliver, and else
@@ -97,8 +97,8 @@ pub record Asked : Type 0 where
   pub command : Option CommandLine
 
 -- where there are so many doors
-abbrev pub asked_of : ℕ → List (List ℕ) → Asked
-asked_of doors words =
+abbrev pub run_asked : ℕ → List (List ℕ) → Asked
+run_asked doors words =
     record {
       serves = serve_of doors words;
       delivers = deliver_of doors words;
@@ -117,7 +117,7 @@ RunsAsked shows None asked before history after status =
 abbrev pub RunsWords : {D : Type 0} → (D → DoorView) → List (List ℕ) → Moment D
     → Option (List Made) → Moment D → ℕ → Type 0
 RunsWords shows words before history after status =
-    let asked = asked_of (length before.doors) words in
+    let asked = run_asked (length before.doors) words in
     RunsAsked shows asked.serves asked before history after status
 
 -- a run reads from the source once at most to deliver, and else as often as its command

@@ -19,7 +19,7 @@ use Rattle.bp_cli.specs.declared.stops.Stop.{Stop}
 use Rattle.bp_cli.specs.declared.stops.Stop.TheVariants as stops
 use Rattle.bp_cli.specs.Claw.{replacement_line}
 use Rattle.bp_cli.specs.Endings.{Ending, failed_folder, failed_source}
-use Rattle.bp_cli.specs.NamedFiles.{FileAnswers}
+use Rattle.bp_cli.specs.NamedFiles.{NamedFileAnswers}
 
 -- where a replacement stopped, the work stops
 abbrev pub StopsForClaw : ClawRefusal → Stop → Type 0
@@ -30,9 +30,9 @@ StopsForClaw claws.OutOfMemory stop = stop ≡ stops.OutOfMemory
 -- the file that a word names was read, or the work stopped
 abbrev pub ReadsFile : List ℕ → SourceView → Result (List ℕ) Stop → SourceView → Type 0
 ReadsFile named before (Ok bytes) after =
-    FileAnswers before.files named (Ok bytes) × (after ≡ before)
+    NamedFileAnswers before.files named (Ok bytes) × (after ≡ before)
 ReadsFile named before (Err (stops.Broken rule)) after =
-    FileAnswers before.files named (Err rule) × (after ≡ after_kind before rule.kind)
+    NamedFileAnswers before.files named (Err rule) × (after ≡ after_kind before rule.kind)
 ReadsFile named before (Err stops.SourceFault) after = after ≡ failed_source before
 ReadsFile named before (Err stops.OutOfMemory) after = after ≡ before
 ReadsFile named before (Err stops.WordsRefused) after = ⊥
@@ -73,9 +73,9 @@ PutsReplacement volume m f notice before ending after =
     ending after
 
 -- a notice that breaks a rule stops the work, and leaves the folder
-abbrev pub StopsAt : Rule → FolderView → Ending → FolderView → Type 0
-StopsAt rule before (Ok line) after = ⊥
-StopsAt rule before (Err stop) after =
+abbrev pub StopsAtNotice : Rule → FolderView → Ending → FolderView → Type 0
+StopsAtNotice rule before (Ok line) after = ⊥
+StopsAtNotice rule before (Err stop) after =
     ((stop ≡ stops.Broken rule) ⊎ (stop ≡ stops.OutOfMemory)) × (after ≡ before)
 
 -- the same by the bytes of a notice
@@ -83,7 +83,7 @@ abbrev pub ReplacesBy : List ℕ → Matter → Production → Result (List Clai
     → Ending → FolderView → Type 0
 ReplacesBy volume m f (Ok notice) before ending after =
     PutsReplacement volume m f notice before ending after
-ReplacesBy volume m f (Err rule) before ending after = StopsAt rule before ending after
+ReplacesBy volume m f (Err rule) before ending after = StopsAtNotice rule before ending after
 
 -- the same by the bytes of the file
 abbrev pub ReplacesAfter : List ℕ → Matter → Production → List ℕ → FolderView → Ending

@@ -12,9 +12,9 @@ use Rattle.bp_receiver.specs.declared.grants.Grant.{Grant}
 use Rattle.bp_rules.specs.Steps.{AtMostOnce}
 use Rattle.bp_cli.specs.declared.stops.Stop.{Stop}
 use Rattle.bp_cli.specs.declared.stops.Stop.TheVariants as stops
-use Rattle.bp_cli.specs.Deliver.{DeliverAsked, DeliverEnds, Office, office, records_of, with_opened}
+use Rattle.bp_cli.specs.Deliver.{DeliverAsked, DeliverEnds, Office, office, grant_records, with_opened}
 use Rattle.bp_cli.specs.Endings.{Ending, RowsRead, failed_source}
-use Rattle.bp_cli.specs.NamedFiles.{FileAnswers}
+use Rattle.bp_cli.specs.NamedFiles.{NamedFileAnswers}
 
 -- ---- the file of grants
 
@@ -32,8 +32,8 @@ HoldsGrants bytes (Err stops.KeeperFault) = ⊥
 pub record RecordsRead (named : List ℕ) (given : SourceView) (answer : Result (List Grant) Rule)
     (due after : SourceView) : Type 0 where
   pub file : Result (List ℕ) Rule
-  pub found : FileAnswers given.files named file
-  pub records : records_of file ≡ answer
+  pub found : NamedFileAnswers given.files named file
+  pub records : grant_records file ≡ answer
   pub source : after ≡ due
 
 -- the records of the file that a word names were read; or the rule was met that this breaks

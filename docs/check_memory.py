@@ -105,7 +105,7 @@ SIZED = {
 
 # what sees pixels that are to be covered, words and values that are held back
 WALL = ("bp_t6/src/page_rows.rt", "bp_t6/src/row_code.rt", "bp_burn/src/covered_rows.rt")
-LENDS = ("bp_press/src/covered.rt", "bp_press/src/shown.rt", "bp_receiver/src/owed.rt")
+LENDS = ("bp_press/src/covered.rt", "bp_press/src/lent.rt", "bp_press/src/shown.rt", "bp_receiver/src/owed.rt")
 ANSWERS = re.compile(r"\b(?:Result|Option|Global|alloc|Allocator|OutOfMemory|AllocError)\b")
 REFUSES = re.compile(r"\b(?:Result|Global|alloc|Allocator|OutOfMemory|AllocError|Refusal|Vec|String|Box)\b")
 
@@ -123,8 +123,8 @@ BOTH = {
     ("bp_receiver/src/delivery.rt", "grant"): ["self.tables.production(id).is_none()", "self.grants.len()"],
     ("bp_receiver/src/handler.rt", "answer"): [],
     ("bp_receiver/src/serving.rt", "serve_receiver"): ["let alloc = delivery.alloc;"],
-    ("bp_receiver/src/serving.rt", "answer_read"): [],
-    ("bp_receiver/src/serving.rt", "answer_event"): [],
+    ("bp_receiver/src/event_answers.rt", "answer_read"): [],
+    ("bp_receiver/src/event_answers.rt", "answer_event"): [],
     ("bp_receiver/src/steps.rt", "deliver_step"): [],
     ("bp_receiver/src/steps.rt", "review"): [],
     ("bp_receiver/src/steps.rt", "step_at"): [],

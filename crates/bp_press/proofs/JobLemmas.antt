@@ -20,7 +20,7 @@ use Rattle.bp_matter.specs.ValidPages.{page_fits}
 use Rattle.bp_matter.specs.declared.rows.PageRow.{PageRow}
 use Rattle.bp_press.specs.Contents.{page_image}
 use Rattle.bp_press.specs.Shown.{page_lent, rows_lent}
-use Rattle.bp_press.specs.declared.covered.CoveredPage.{CoveredPage}
+use Rattle.bp_press.specs.declared.lent.CoveredPage.{CoveredPage}
 use Rattle.bp_press.proofs.KeptPageLemmas.{passes}
 use Rattle.bp_press.proofs.ReadLemmas.{banded_is_page}
 

@@ -19,10 +19,10 @@ use Rattle.bp_matter.specs.declared.rows.HeldRow.{HeldRow}
 use Rattle.bp_matter.specs.declared.rows.Item.{Item}
 use Rattle.bp_press.specs.Contents.{ground_of, stamps_on}
 use Rattle.bp_press.specs.Shown.{CanBeCoded, CanBeCovered, IsOwnJob, IsOwnPage, Lends, covers, end_before, image_lent, in_hand, page_lent, rows_lent, shown_words, value_lent, words_left}
-use Rattle.bp_press.specs.declared.covered.CoveredImage.TheVariants as images
-use Rattle.bp_press.specs.declared.covered.CoveredPage.{CoveredPage}
-use Rattle.bp_press.specs.declared.covered.KeptWords.{KeptWords}
-use Rattle.bp_press.specs.declared.covered.ShownValue.TheVariants.{Held, Nothing, Value}
+use Rattle.bp_press.specs.declared.lent.CoveredImage.TheVariants as images
+use Rattle.bp_press.specs.declared.lent.CoveredPage.{CoveredPage}
+use Rattle.bp_press.specs.declared.lent.KeptWords.{KeptWords}
+use Rattle.bp_press.specs.declared.lent.ShownValue.TheVariants.{Held, Nothing, Value}
 use Rattle.bp_press.specs.declared.jobs.Job.TheVariants as jobs
 use Rattle.bp_press.proofs.BatchExamples.{lent, tiny_rows}
 use Rattle.bp_press.proofs.Examples.{area, blank, frozen, redacted, runs, small, smith, withheld}

@@ -22,12 +22,12 @@ use Rattle.bp_freeze.specs.Agree.{kept_words, rects_on}
 use Rattle.bp_press.specs.Contents.{ground_of, held_text, stamps_on}
 use Rattle.bp_press.specs.Jobs.{HasBand}
 use Rattle.bp_press.specs.declared.covered.Covered.{Covered}
-use Rattle.bp_press.specs.declared.covered.CoveredImage.{CoveredImage}
-use Rattle.bp_press.specs.declared.covered.CoveredImage.TheVariants as images
-use Rattle.bp_press.specs.declared.covered.CoveredPage.{CoveredPage}
-use Rattle.bp_press.specs.declared.covered.KeptWords.{KeptWords}
-use Rattle.bp_press.specs.declared.covered.ShownValue.{ShownValue}
-use Rattle.bp_press.specs.declared.covered.ShownValue.TheVariants.{Held, Nothing, Value}
+use Rattle.bp_press.specs.declared.lent.CoveredImage.{CoveredImage}
+use Rattle.bp_press.specs.declared.lent.CoveredImage.TheVariants as images
+use Rattle.bp_press.specs.declared.lent.CoveredPage.{CoveredPage}
+use Rattle.bp_press.specs.declared.lent.KeptWords.{KeptWords}
+use Rattle.bp_press.specs.declared.lent.ShownValue.{ShownValue}
+use Rattle.bp_press.specs.declared.lent.ShownValue.TheVariants.{Held, Nothing, Value}
 use Rattle.bp_press.specs.declared.jobs.Job.{Job}
 use Rattle.bp_press.specs.declared.jobs.Job.TheVariants as jobs
 

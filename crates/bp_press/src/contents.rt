@@ -1,13 +1,13 @@
 // What a volume shows of an item beside its images: its text, and its values of the chosen fields.
-ghost use Rattle.std.specs.Prelude.{◌≡◌, ◌≤◌, ◌+◌, ◌-◌, IfOk, None, [], encode_utf8_all, length};
+ghost use Rattle.std.specs.Prelude.{◌≡◌, ◌≤◌, ◌<◌, ◌+◌, ◌-◌, ◌^◌, IfOk, None, [], encode_utf8_all, length};
 ghost use Rattle.std.specs.List.{Contains, flat_map};
 ghost use Rattle.std.specs.Option.{option_copied};
 ghost use Rattle.bp_core.specs.Review.{basis_code};
 ghost use Rattle.bp_text.specs.PageText.{page_text_of};
-ghost use Rattle.bp_press.specs.Contents.{ground_of, held_text, kept_text, pages_of, part_of, value_shown, withheld_text};
+ghost use Rattle.bp_press.specs.Contents.{ground_of, held_text, kept_text, label_count, pages_of, part_of, value_shown, withheld_text};
 ghost use Rattle.bp_press.specs.Shown.{end_before, value_lent, words_left};
 
-use crate::covered::{KeptWords, ShownValue};
+use crate::lent::{KeptWords, ShownValue};
 use crate::names::add;
 use crate::shown::Shows;
 use bp_core::{Basis, Bytes, OutOfMemory, PageNo, Text, Treatment};
@@ -23,6 +23,14 @@ pub(crate) fn ground_of(treatment: Treatment) -> Option<Basis>
         Treatment::Withhold(basis) => Some(basis),
         _ => None,
     }
+}
+
+// How many labels an item has.
+pub(crate) fn label_count(item: &Item) -> u64
+    requires { item.now.span.last + 1 < 2 ^ 64 }
+    ensures { result ≡ label_count item.now }
+{
+    (item.span.last + 1).saturating_sub(item.span.first)
 }
 
 // The words of a page which no box touches, as text.

@@ -16,6 +16,7 @@ mod gate;
 mod in_turn;
 mod jobs;
 mod laws;
+mod lent;
 mod load_files;
 mod load_rows;
 mod made_files;

@@ -13,7 +13,7 @@ ghost use Rattle.bp_press.specs.Paths.{text_path};
 ghost use Rattle.bp_press.specs.Needs.{CanBeListed, IsLabelled};
 ghost use Rattle.bp_press.specs.Pressing.{AreLabels, CanBePlaced, placed_at};
 
-use crate::contents::{code_text, empty_text, ground_of, value_shown};
+use crate::contents::{code_text, empty_text, ground_of, label_count, value_shown};
 use crate::names::{image_path, label_text, text_path};
 use crate::shown::Shows;
 use crate::volume_files::image_count;
@@ -143,14 +143,6 @@ fn optional_code(alloc: Global, claimed: Option<Basis>) -> Result<Text, OutOfMem
         Some(basis) => code_text(alloc, basis),
         None => Ok(empty_text(alloc)),
     }
-}
-
-// How many labels an item has.
-pub(crate) fn label_count(item: &Item) -> u64
-    requires { item.now.span.last + 1 < 2 ^ 64 }
-    ensures { result ≡ label_count item.now }
-{
-    (item.span.last + 1).saturating_sub(item.span.first)
 }
 
 // Adds how many labels an item has, what is stamped on it, why it is withheld, and its text.

@@ -5,7 +5,7 @@ ghost use Rattle.bp_press.specs.Shown.{CanBeCoded, image_lent};
 ghost use Rattle.bp_t6.specs.Written.{bits_strip};
 ghost use Rattle.bp_tiff.specs.Tiff.{tiff_of};
 
-use crate::covered::CoveredImage;
+use crate::lent::CoveredImage;
 use bp_core::{Bytes, ListOf, OutOfMemory, PageNo, Stamp, StampList};
 use bp_matter::BoxList;
 use bp_t6::laws::strip_size;

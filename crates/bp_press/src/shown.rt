@@ -9,8 +9,8 @@ ghost use Rattle.bp_press.specs.Contents.{ground_of, value_shown};
 ghost use Rattle.bp_press.specs.Jobs.{IsCodable, page_of_job};
 ghost use Rattle.bp_press.specs.Shown.{CanBeCoded, IsOwnJob, image_lent, shown_words, value_lent, words_left};
 
-use crate::covered::{CoveredImage, CoveredJobs, KeptWords, ShownValue};
 use crate::jobs::Job;
+use crate::lent::{CoveredImage, CoveredJobs, KeptWords, ShownValue};
 use bp_core::{PageNo, Text};
 use bp_matter::{Item, Production};
 

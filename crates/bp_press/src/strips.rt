@@ -5,9 +5,9 @@ ghost use Rattle.bp_press.specs.Jobs.{IsCodable, strip_by};
 ghost use Rattle.bp_press.specs.Shown.{CanBeCoded, CanBeCovered, image_lent, page_lent};
 ghost use Rattle.bp_press.specs.declared.jobs.Job.{Job};
 
-use crate::covered::{CoveredImage, CoveredJobs, CoveredPage};
 use crate::gate::Gate;
 use crate::jobs::{JobList, StripList};
+use crate::lent::{CoveredImage, CoveredJobs, CoveredPage};
 use bp_burn::{OutRoom, slip_strip, strip_of_rows};
 use bp_core::{Bytes, ListOf, OutOfMemory};
 use bp_matter::Tables;

@@ -12,7 +12,7 @@ ghost use Rattle.bp_press.specs.Pressing.{AreSheetsFew, CanAllBePlaced, CanBePla
 ghost use Rattle.bp_press.specs.Volume.{files_before, placed_items};
 ghost use Rattle.bp_press.specs.VolumeFiles.{IsListed, Lists};
 
-use crate::load_rows::label_count;
+use crate::contents::label_count;
 use crate::shown::Shows;
 use bp_core::{Basis, OutOfMemory, Treatment};
 use bp_matter::{Item, Production};

@@ -1,7 +1,7 @@
 // Who answers the requests that come to the receiver's desk.
 use crate::delivery::Delivery;
+use crate::event_answers::{answer_read, read_by};
 use crate::requests::event_enough;
-use crate::serving::{answer_read, read_by};
 use bp_doors::{Answered, Handler};
 use bp_keep::Keeper;
 use bp_outside::Enough;

@@ -13,6 +13,7 @@
 #![tactic(auto)]
 
 mod delivery;
+mod event_answers;
 mod events;
 mod grant_files;
 mod grants;

@@ -4,7 +4,7 @@ use Rattle.bp_rows.specs.Image.{Image}
 use Rattle.bp_burn.specs.Band.{produced_of}
 use Rattle.bp_press.specs.Jobs.{IsCodable, page_of_job}
 use Rattle.bp_press.proofs.JobLemmas.{kept_image, kept_sides}
-use Rattle.bp_press.proofs.covered.image_of.Goals as goal
+use Rattle.bp_press.proofs.lent.image_of.Goals as goal
 
 pub returns-in-Some-clause-is : goal.returns-in-Some-clause-is
 returns-in-Some-clause-is c =

@@ -1,6 +1,6 @@
 use Rattle.std.proofs.Common.{arith}
 use Rattle.bp_receiver.proofs.EventServingLemmas.{event-answers-as}
-use Rattle.bp_receiver.proofs.serving.answer_event.Goals as goal
+use Rattle.bp_receiver.proofs.event_answers.answer_event.Goals as goal
 
 pub returns : goal.returns
 returns g c =

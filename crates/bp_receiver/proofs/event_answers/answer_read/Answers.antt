@@ -1,5 +1,5 @@
 use Rattle.bp_receiver.proofs.EventServingLemmas.{answers-as, refusal-answers}
-use Rattle.bp_receiver.proofs.serving.answer_read.Goals as goal
+use Rattle.bp_receiver.proofs.event_answers.answer_read.Goals as goal
 
 pub returns-in-Ok : goal.returns-in-Ok
 returns-in-Ok g c = answers-as _ _ _ _ _ _ c.in-Ok.is c.answer_event.ensures

@@ -6,7 +6,7 @@ use Rattle.bp_rows.specs.Limits.{sides_are_imported}
 use Rattle.bp_t6.specs.Written.{bits_strip}
 use Rattle.bp_burn.specs.RowsOut.{RowsOut}
 use Rattle.bp_press.proofs.JobLemmas.{own_strip}
-use Rattle.bp_press.proofs.covered.CoveredPage.rows.Goals as goal
+use Rattle.bp_press.proofs.lent.CoveredPage.rows.Goals as goal
 
 pub over-requires-clause-sides : goal.over-requires-clause-sides
 over-requires-clause-sides c =

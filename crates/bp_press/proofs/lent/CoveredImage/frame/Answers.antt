@@ -1,10 +1,10 @@
 use Rattle.std.proofs.Common.{subst, sym}
 use Rattle.bp_rows.specs.Image.{IsPage}
 use Rattle.bp_press.specs.Shown.{CanBeCoded, image_lent}
-use Rattle.bp_press.specs.declared.covered.CoveredImage.{CoveredImage}
+use Rattle.bp_press.specs.declared.lent.CoveredImage.{CoveredImage}
 use Rattle.bp_press.proofs.JobLemmas.{lent_page}
 use Rattle.bp_press.proofs.ReadLemmas.{slip_is_page}
-use Rattle.bp_press.proofs.covered.CoveredImage.frame.Goals as goal
+use Rattle.bp_press.proofs.lent.CoveredImage.frame.Goals as goal
 
 pub returns-in-Page-clause-page : goal.returns-in-Page-clause-page
 returns-in-Page-clause-page c =

@@ -1,7 +1,7 @@
 use Rattle.std.proofs.Common.{◌≡◌, length}
 use Rattle.bp_text.specs.Kept.{kept_of}
 use Rattle.bp_freeze.specs.Agree.{rects_on}
-use Rattle.bp_press.proofs.covered.KeptWords.next.Given as goal
+use Rattle.bp_press.proofs.lent.KeptWords.next.Given as goal
 
 -- the words that are left have all that are shown; the boxes are the same
 abbrev pub invariant-loop-word : goal.invariant-loop-word

@@ -29,7 +29,7 @@ use Rattle.bp_matter.specs.contracts.rows.PageWords as page_words
 use Rattle.bp_matter.specs.contracts.calls.Call as call
 use Rattle.bp_matter.specs.contracts.tables.Tables as tables
 use Rattle.bp_press.specs.contracts.covered.Covered as covered
-use Rattle.bp_press.specs.contracts.covered.CoveredJobs as covered_jobs
+use Rattle.bp_press.specs.contracts.lent.CoveredJobs as covered_jobs
 use Rattle.bp_press.specs.contracts.jobs.Job as job
 use Rattle.bp_press.specs.contracts.made_files.CodedBatch as coded_batch
 use Rattle.bp_press.specs.contracts.made_files.Maker as maker

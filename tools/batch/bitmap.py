@@ -1,5 +1,7 @@
 """A bilevel page, and where it is black."""
 import re
+from functools import reduce
+from operator import or_
 
 
 class Bitmap:
@@ -30,15 +32,13 @@ class Bitmap:
         """The smallest box with all black pixels of this one, and how many there are; None where all is white."""
         left, top, right, bottom = box
         mask = ((1 << right - left) - 1) << self.width - right
-        inked = [row for row in range(top, bottom) if self.rows[row] & mask]
+        parts = [row & mask for row in self.rows[top:bottom]]
+        inked = [row for row, part in enumerate(parts, top) if part]
         if not inked:
             return None, 0
-        bits = count = 0
-        for row in inked:
-            bits |= self.rows[row] & mask
-            count += bin(self.rows[row] & mask).count("1")
+        bits = reduce(or_, parts)
         first, last = self.width - bits.bit_length(), self.width - (bits & -bits).bit_length()
-        return (first, inked[0], last + 1, inked[-1] + 1), count
+        return (first, inked[0], last + 1, inked[-1] + 1), sum(map(int.bit_count, parts))
 
 
 def area(box):

@@ -107,21 +107,28 @@ def by_columns(values):
 
 def thresholds_of(cells, paper):
     """Of each cell the grey below which a pixel is black."""
-    found = []
-    for means, bright in zip(around(cells.means), paper):
-        row = [min(max(CONTRAST * mean, DARKEST * white), BRIGHTEST * white) for mean, white in zip(means, bright)]
-        found.append([round(max(LEAST_THRESHOLD, each) / STEP) * STEP for each in row])
-    return found
+    return [[threshold_of(mean, white) for mean, white in zip(*rows)] for rows in zip(around(cells.means), paper)]
+
+
+def threshold_of(mean, white):
+    grey, least, most = CONTRAST * mean, DARKEST * white, BRIGHTEST * white
+    grey = least if grey < least else most if grey > most else grey
+    return round((grey if grey > LEAST_THRESHOLD else LEAST_THRESHOLD) / STEP) * STEP
 
 
 def local_rows(cells, thresholds):
-    """The rows of the page as numbers whose highest bit is the first pixel."""
+    """The rows of the page as numbers whose highest bit is the first pixel. Most rows of a page are white by the highest threshold in
+    them, and then by all."""
     rows = []
     for at, row in enumerate(thresholds):
         spans = [(left, right, TABLES[threshold]) for left, right, threshold in merged(cells.spans, row)]
+        highest = TABLES[max(row)]
         for y in range(at * cells.cell, min(at * cells.cell + cells.cell, cells.height)):
             greys = cells.row(y)
-            rows.append(int(b"".join([greys[left:right].translate(table) for left, right, table in spans]), 2))
+            digits = greys.translate(highest)
+            if b"1" in digits and len(spans) > 1:
+                digits = b"".join([greys[left:right].translate(table) for left, right, table in spans])
+            rows.append(int(digits, 2) if b"1" in digits else 0)
     return rows
 
 

@@ -5,7 +5,7 @@ from dataclasses import dataclass
 from . import greys
 from .bitmap import Bitmap
 from .limits import LONGEST_FILE, LONGEST_SIDE, MOST_PIXELS
-from .programs import run
+from .programs import first_line, run
 from .refused import Refused
 
 
@@ -81,15 +81,23 @@ def bitmap_of(file, page, pbm):
 
 def write_tiff(file, picture, height, path):
     """Writes the page as a TIFF file in Group 4, in one strip."""
-    words = ["pamtotiff", "-g4", "-miniswhite", f"-rowsperstrip={height}"]
-    if picture.resolution:
-        told = picture.resolution
-        words += [f"-xresolution={told.across}", f"-yresolution={told.down}", f"-resolutionunit={told.unit}"]
-    data, _ = run(file, words, picture.pbm)
+    words = words_to_write(picture.resolution, height)
+    data, said = run(file, words, picture.pbm)
+    if not data or said:  # the status of ppm2tiff is 0 also where it failed
+        raise Refused(file, f"its page can't be written, {words[0]} {first_line(said) or 'wrote nothing'}")
     if len(data) > LONGEST_FILE:
         raise Refused(file, f"a page's file has {len(data)} bytes, and at most {LONGEST_FILE} come in")
     with open(path, "wb") as out:
         out.write(data)
+
+
+def words_to_write(told, height):
+    """What makes a TIFF file of a raw PBM: libtiff's program, which can tell as many pixels to the inch both ways, or none; for all else
+    netpbm's, which takes five times as long."""
+    if not told or told.unit == "inch" and told.across == told.down:
+        return ["ppm2tiff", "-c", "g4", "-r", str(height), *(["-R", told.across] if told else []), "/dev/stdout"]
+    resolution = [f"-xresolution={told.across}", f"-yresolution={told.down}", f"-resolutionunit={told.unit}"]
+    return ["pamtotiff", "-quiet", "-g4", "-miniswhite", f"-rowsperstrip={height}", *resolution]
 
 
 def sides_of(pnm):

@@ -1,4 +1,5 @@
-"""Runs the programs of Debian that read PDFs and pictures."""
+"""Runs the programs of Debian that read and write PDFs and pictures."""
+import os
 import shutil
 import subprocess
 
@@ -12,6 +13,7 @@ PACKAGES = {
     "pdfimages": "poppler-utils",
     "tiffinfo": "libtiff-tools",
     "tiffsplit": "libtiff-tools",
+    "ppm2tiff": "libtiff-tools",
     "tifftopnm": "netpbm",
     "jpegtopnm": "netpbm",
     "pngtopam": "netpbm",
@@ -36,15 +38,27 @@ def need(tools, what_for):
 
 def run(file, words, given=None, what="", hint="", fine=(0,)):
     """What the program writes and what it says, both as bytes; refuses `file` where it never ends, or with no status of `fine`:
-    then `what` is the matter with it, and `hint` what to do."""
-    try:
-        ran = subprocess.run(words, input=given, capture_output=True, timeout=LONGEST_WAIT, check=False)
-    except subprocess.TimeoutExpired:
-        raise Refused(file, f"{words[0]} didn't end within {LONGEST_WAIT} seconds") from None
-    if ran.returncode not in fine:
-        said = f"{words[0]} {first_line(ran.stderr) or f'ended with status {ran.returncode}'}"
-        raise Refused(file, "".join([what and f"{what}, ", said, hint and f"; {hint}"]))
-    return ran.stdout, ran.stderr
+    then `what` is the matter with it, and `hint` what to do. A page goes to the program and comes from it by files in memory, since
+    through a pipe it would go in some hundred pieces."""
+    with in_memory(given or b"") as taken, in_memory() as written:
+        try:
+            its_input = None if given is None else taken
+            ran = subprocess.run(words, stdin=its_input, stdout=written, stderr=subprocess.PIPE, timeout=LONGEST_WAIT, check=False)
+        except subprocess.TimeoutExpired:
+            raise Refused(file, f"{words[0]} didn't end within {LONGEST_WAIT} seconds") from None
+        if ran.returncode not in fine:
+            said = f"{words[0]} {first_line(ran.stderr) or f'ended with status {ran.returncode}'}"
+            raise Refused(file, "".join([what and f"{what}, ", said, hint and f"; {hint}"]))
+        written.seek(0)
+        return written.read(), ran.stderr
+
+
+def in_memory(data=b""):
+    """A file in memory that has these bytes, at its front; it is gone once it is closed."""
+    file = open(os.memfd_create("page"), "w+b", buffering=0)
+    file.write(data)
+    file.seek(0)
+    return file
 
 
 def first_line(said):

@@ -390,6 +390,17 @@ class Scans(Case):
         sharp = self.make("--ocr", "none", "--threshold", "50", name="SHARP")
         self.assertEqual(sharp.pixels(1)[len(b"P4\n200 100\n") :][:25], b"\xff" * 12 + sharp.pixels(1)[len(b"P4\n200 100\n") :][12:13] + b"\0" * 12)
 
+    def test_grey_read_row_by_row_or_as_a_whole(self):
+        grey = sh(["pgmramp", "-lr", "200", "100"])
+        for name in ("black", "white"):
+            self.write("-lzw", f"-minis{name}", pnm=grey)
+            shutil.copy(self.scan, self.path(f"{name}.tif"))
+        sh(["tiffcp", "-t", "-w", "64", "-l", "64", "-c", "lzw", self.scan, self.path("tiles.tif")])
+        due = sh(["pgmtopbm", "-threshold", "-value=0.5"], input=grey)
+        for name, how in (("BY_ROW", []), ("WHOLE", ["--as-shown"])):
+            batch = self.make("--ocr", "none", "--threshold", "50", *how, name=name)
+            self.assertEqual([batch.pixels(at) for at in range(3)], [due] * 3)
+
     def test_a_page_of_a_pixel(self):
         self.write("-g4", pnm=sh(["pbmmake", "-black", "1", "1"]))
         shutil.copy(self.scan, self.path("a.tif"))
@@ -1149,7 +1160,7 @@ class Refusals(Case):
         ran = subprocess.run([sys.executable, MAKE, self.folder, os.path.join(self.room, "OUT")], capture_output=True, text=True,
                              env={"PATH": "/nowhere"}, check=False)
         self.assertEqual(ran.returncode, 1)
-        self.assertRegex(ran.stderr, "pdfinfo.*: needed to read them, and not here: apt install netpbm poppler-utils")
+        self.assertRegex(ran.stderr, "pdfinfo.*: needed to read them, and not here: apt install libtiff-tools netpbm poppler-utils")
 
     def test_words_that_are_no_command_line(self):
         for options, name in (([], "a b"), ([], "x" * 33), (["--dpi", "5"], "OUT"), (["--prefix", "a,b"], "OUT"), (["--first", "x"], "OUT")):

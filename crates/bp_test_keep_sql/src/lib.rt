@@ -1,9 +1,7 @@
-//! Tests of a keeper over a database, by the calls of `bp_rules`: a matter in memory, tables of
-//! another definition, and a disk that stops.
+//! Tests of a keeper over a database: commits in memory, tables of another definition, and a disk
+//! that stops.
 #![tactic(auto)]
 
-#[cfg(test)]
-mod batches;
 #[cfg(test)]
 mod many_rows;
 #[cfg(test)]
@@ -12,3 +10,5 @@ mod other_tables;
 mod sql_rows;
 #[cfg(test)]
 mod stops;
+#[cfg(test)]
+mod two_commits;

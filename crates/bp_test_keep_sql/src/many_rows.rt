@@ -1,5 +1,5 @@
 // A database of many rows.
-use crate::sql_rows::puts_of;
+use crate::two_commits::puts_of;
 use bp_core::{Bytes, Row, RowList};
 use bp_keep::Keeper;
 use bp_keep_sql::SqlKeeper;

@@ -1,10 +1,8 @@
-// An import over a disk that stops at each of its calls in turn, and is opened again.
-use crate::batches::{HEADER, batch};
-use crate::sql_rows::beginning;
+// A commit over a disk that stops at each of its calls in turn, and is opened again.
+use crate::two_commits::{after, before, change, puts_of};
+use bp_core::{PutList, RowList};
 use bp_keep::Keeper;
 use bp_keep_sql::SqlKeeper;
-use bp_matter::Batch;
-use bp_rules::{load_tables, step_import};
 use sqlite::{Connection, FileStore, Files, Options};
 use sqlite_disk::{Crash, Disk, Fuse, Memory};
 use std::alloc::{AllocError, Global};
@@ -46,58 +44,48 @@ fn new_database(alloc: Global) -> Result<Database, AllocError> {
     open(alloc, Files { log, db }).map_err(|_| AllocError)
 }
 
-fn begin_in<K: Keeper>(alloc: Global, keeper: &mut K) -> Result<(), Fail> {
-    let _none = keeper.load(alloc)?;
-    keeper.commit(alloc, &beginning(alloc)?)?;
-    Ok(())
-}
-
-// The files of a new matter.
-fn begun(alloc: Global) -> Result<Files<Fused>, Fail> {
-    let mut keeper = SqlKeeper::over(new_database(alloc)?);
-    let begins = begin_in(alloc, &mut keeper);
-    let files = close(keeper.into_connection());
-    begins?;
-    Ok(files)
-}
-
-// Whether the batch came in, and the files after it.
-fn import(alloc: Global, conn: Database, batch: &Batch) -> (bool, Files<Fused>) {
+// Whether these puts were kept, and the files after it.
+fn commit(alloc: Global, conn: Database, puts: &PutList) -> (bool, Files<Fused>) {
     let mut keeper = SqlKeeper::over(conn);
-    let made = match load_tables(alloc, &mut keeper) {
-        Ok(mut tables) => step_import(alloc, &mut tables, &mut keeper, batch).is_ok(),
-        Err(_) => false,
-    };
+    let made = keeper.load(alloc).is_ok() && keeper.commit(alloc, puts).is_ok();
     (made, close(keeper.into_connection()))
 }
 
-// The same over copies of these files, of which each stops after so many calls.
+// The files after the first commit.
+fn begun(alloc: Global) -> Result<Files<Fused>, Fail> {
+    let puts = puts_of(alloc, before(alloc)?)?;
+    match commit(alloc, new_database(alloc)?, &puts) {
+        (true, files) => Ok(files),
+        (false, _) => Err(Fail::from("the first commit was not made")),
+    }
+}
+
+// The second commit over copies of these files, of which each stops after so many calls.
 fn stopped(
     alloc: Global,
     from: &Files<Fused>,
     log: u64,
     db: u64,
-    batch: &Batch,
 ) -> Result<(bool, Files<Fused>), Fail> {
     let log = fused(alloc, from.log.inner().bytes(), log)?;
     let db = fused(alloc, from.db.inner().bytes(), db)?;
+    let puts = change(alloc)?;
     match open(alloc, Files { log, db }) {
-        Ok(conn) => Ok(import(alloc, conn, batch)),
+        Ok(conn) => Ok(commit(alloc, conn, &puts)),
         Err(files) => Ok((false, files)),
     }
 }
 
-// How many batches the files have, after a crash.
-fn found(alloc: Global, mut files: Files<Fused>) -> Result<usize, Fail> {
+// The rows that the files have, after a crash.
+fn found(alloc: Global, mut files: Files<Fused>) -> Result<RowList, Fail> {
     files.log.crash();
     files.db.crash();
     let conn = open(alloc, files).map_err(|_| AllocError)?;
-    let tables = load_tables(alloc, &mut SqlKeeper::over(conn))?;
-    Ok(tables.batches.len())
+    Ok(SqlKeeper::over(conn).load(alloc)?)
 }
 
-// The matter is the one before the import or the one after it; where it came in, the one after.
-// Whether it came in.
+// The rows are those before the second commit or those after it; where it was made, those after.
+// Whether it was.
 fn stands(
     rt: &impl Abort,
     alloc: Global,
@@ -105,48 +93,37 @@ fn stands(
     log: u64,
     db: u64,
 ) -> Result<bool, Fail> {
-    let (made, files) = stopped(alloc, from, log, db, &batch(alloc, HEADER)?)?;
-    let batches = found(alloc, files)?;
-    assert!(rt; batches == 1 || (batches == 0 && !made));
+    let (made, files) = stopped(alloc, from, log, db)?;
+    let rows = found(alloc, files)?;
+    assert!(rt; rows == after(alloc)? || (rows == before(alloc)? && !made));
     Ok(made)
 }
 
-// Stops each call from the first of these on, until one import comes in.
-fn stops(rt: &impl Abort, alloc: Global, of_log: bool, first: u64, end: u64) -> Result<bool, Fail> {
+// Stops each call of the log or of the database, until the commit is made. Whether it was, and not
+// where no call passed.
+fn stops(rt: &impl Abort, alloc: Global, of_log: bool) -> Result<bool, Fail> {
     let from = begun(alloc)?;
-    for calls in first..end {
+    for calls in 0..MOST_CALLS {
         let log = if of_log { calls } else { u64::MAX };
         let db = if of_log { u64::MAX } else { calls };
         if stands(rt, alloc, &from, log, db)? {
-            return Ok(true);
+            return Ok(calls > 0);
         }
     }
     Ok(false)
 }
 
-// More than an open and an import make.
+// More than an open and a commit make.
 const MOST_CALLS: u64 = 100;
 
 #[test]
-fn each_of_the_first_calls_of_the_log_stops(rt: HostRuntime) -> Result<(), Fail> {
-    assert!(rt; !stops(&rt, rt.alloc(), true, 0, 15)?);
-    Ok(())
-}
-
-#[test]
-fn each_of_the_next_calls_of_the_log_stops(rt: HostRuntime) -> Result<(), Fail> {
-    assert!(rt; !stops(&rt, rt.alloc(), true, 15, 30)?);
-    Ok(())
-}
-
-#[test]
-fn each_later_call_of_the_log_stops(rt: HostRuntime) -> Result<(), Fail> {
-    assert!(rt; stops(&rt, rt.alloc(), true, 30, MOST_CALLS)?);
+fn each_call_of_the_log_stops(rt: HostRuntime) -> Result<(), Fail> {
+    assert!(rt; stops(&rt, rt.alloc(), true)?);
     Ok(())
 }
 
 #[test]
 fn each_call_of_the_file_stops(rt: HostRuntime) -> Result<(), Fail> {
-    assert!(rt; stops(&rt, rt.alloc(), false, 0, MOST_CALLS)?);
+    assert!(rt; stops(&rt, rt.alloc(), false)?);
     Ok(())
 }

@@ -1,6 +1,7 @@
 // Doors at ports: over a runtime of the tests' own, call by call, and over real sockets.
 use crate::doors::know_send;
 use crate::lists::counted;
+use crate::looks::{holds, same, same_at};
 use crate::stage::{CLOSED_PIPE, NO_SPACE, NONE, Stage, WOULD_WAIT};
 use bp_outside::{Door, DoorRefusal, TcpDoor, send};
 use std::alloc::{AllocError, Global};
@@ -8,6 +9,7 @@ use std::cell::Cell;
 use std::io;
 use std::io::{ErrorKind, Read, Write};
 use std::net::{Ipv4Addr, Net, OpenListener, OpenStream, Shutdown, SocketAddr, SocketAddrV4};
+use std::process::Abort;
 use std::rc::Rc;
 use std::test::Fail;
 use std::time::{Clock, Duration};
@@ -25,23 +27,27 @@ fn serve<D: Door>(alloc: Global, door: &mut D) -> Result<usize, DoorRefusal> {
     Ok(count)
 }
 
-// It listens once, on the port of its desk, and limits silence; it hangs up by reading off what
-// comes, here 2 bytes and then none.
+// What a door asks of its peer, and what it asks as it hangs up: it reads off what comes, here 2
+// bytes and then none.
+const SERVED: &str = "accept\nread limit 10000\nwrite limit 10000\nread\nwrite\nshut writing\n";
+
+const HUNG_UP: &str = "clock\nclock\nread limit 1600\nread\nclock\nread limit 1200\nread\n";
+
+// It listens once, on the port of its desk, and limits silence.
 #[test]
 fn a_door_asks_for_its_port_alone(rt: HostRuntime) -> Result<(), Fail> {
     let alloc = rt.alloc();
-    let peer = "accept\nread limit 10000\nwrite limit 10000\nread\nwrite\nshut writing\n";
-    let end = "clock\nclock\nread limit 1600\nread\nclock\nread limit 1200\nread\n";
     let stage = Stage::ticking(alloc, NONE, NO_SPACE, b"pingff", 9, 400)?;
-    let mut door = TcpDoor::of(&stage, 3);
-    assert_eq!(rt; serve(alloc, &mut door), Ok(4));
-    let first = format!(in alloc; "bind 127.0.0.1:48203\n{peer}{end}")?;
-    assert_eq!(rt; stage.lines().as_str(), first.as_str());
-    assert_eq!(rt; serve(alloc, &mut door), Ok(4));
-    let second = format!(in alloc; "{peer}{end}")?;
-    assert_eq!(rt; stage.lines().as_str(), second.as_str());
-    assert_eq!(rt; stage.written().as_slice(), b"pongpong".as_slice());
+    serve_twice(&rt, alloc, &stage, &mut TcpDoor::of(&stage, 3));
     Ok(())
+}
+
+fn serve_twice(rt: &impl Abort, alloc: Global, stage: &Stage, door: &mut impl Door) {
+    same(rt, serve(alloc, door), Ok(4));
+    holds(rt, stage.says(&["bind 127.0.0.1:48203\n", SERVED, HUNG_UP]));
+    same(rt, serve(alloc, door), Ok(4));
+    holds(rt, stage.says(&[SERVED, HUNG_UP]));
+    holds(rt, stage.wrote(b"pongpong"));
 }
 
 // The calls are bind (0), accept (1), the limits (2 and 3), read (4) and write (5); a hang up can't
@@ -49,43 +55,60 @@ fn a_door_asks_for_its_port_alone(rt: HostRuntime) -> Result<(), Fail> {
 #[test]
 fn a_door_fails_where_the_system_does(rt: HostRuntime) -> Result<(), Fail> {
     let alloc = rt.alloc();
-    for failing in [0, 1, 2, 3, 4, 5, 6, 7, 8, 9] {
+    for failing in 0..10 {
         let error = if failing == 4 {
             WOULD_WAIT
         } else {
             CLOSED_PIPE
         };
         let stage = Stage::new(alloc, failing, error, b"ping", 9)?;
-        let mut door = TcpDoor::of(&stage, 16);
-        let answer = serve(alloc, &mut door);
-        let failed = Err(DoorRefusal::Failed);
-        let wanted = if failing < 6 { failed } else { Ok(4) };
-        assert_eq!(rt; answer, wanted, "at call {failing}");
-        assert_eq!(rt; serve(alloc, &mut door), Ok(4), "after call {failing}");
-        let binds = if failing == 0 { 2 } else { 1 };
-        let lines = stage.lines();
-        assert_eq!(rt;
-            times(lines.as_str(), "bind 127.0.0.1:48216"),
-            binds,
-            "call {failing}"
-        );
+        fail_and_serve(&rt, alloc, &stage, &mut TcpDoor::of(&stage, 16), failing);
     }
     Ok(())
 }
+
+fn fail_and_serve(
+    rt: &impl Abort,
+    alloc: Global,
+    stage: &Stage,
+    door: &mut impl Door,
+    failing: u64,
+) {
+    let failed = Err(DoorRefusal::Failed);
+    let wanted = if failing < 6 { failed } else { Ok(4) };
+    same_at(rt, serve(alloc, door), wanted, "call", failing);
+    same_at(rt, serve(alloc, door), Ok(4), "after call", failing);
+    let binds = if failing == 0 { 2 } else { 1 };
+    let told = stage.count("bind 127.0.0.1:48216");
+    same_at(rt, told, binds, "call", failing);
+}
+
+// What a door asks that begins to listen, and waits for a peer.
+const BEGUN: &str = "bind 127.0.0.1:48216\naccept\nread limit 10000\nwrite limit 10000\n";
 
 // After an accept that the system refused it rests, and then asks for its port again.
 #[test]
 fn a_door_rests_after_a_refusal(rt: HostRuntime) -> Result<(), Fail> {
     let alloc = rt.alloc();
     let stage = Stage::new(alloc, 0, NO_SPACE, b"ping", 9)?;
-    let mut door = TcpDoor::of(&stage, 16);
-    assert_eq!(rt; door.accept(alloc), Err(DoorRefusal::Failed));
-    let refused = "bind 127.0.0.1:48216\nrest 250\n";
-    assert_eq!(rt; stage.lines().as_str(), refused);
-    assert_eq!(rt; door.accept(alloc), Ok(true));
-    let begun = "bind 127.0.0.1:48216\naccept\nread limit 10000\nwrite limit 10000\n";
-    assert_eq!(rt; stage.lines().as_str(), begun);
+    rest_and_accept(&rt, alloc, &stage, &mut TcpDoor::of(&stage, 16));
     Ok(())
+}
+
+fn rest_and_accept(rt: &impl Abort, alloc: Global, stage: &Stage, door: &mut impl Door) {
+    same(rt, door.accept(alloc), Err(DoorRefusal::Failed));
+    holds(rt, stage.says(&["bind 127.0.0.1:48216\nrest 250\n"]));
+    same(rt, door.accept(alloc), Ok(true));
+    holds(rt, stage.says(&[BEGUN]));
+}
+
+// Sends a reply to the next peer. Whether one came.
+fn reply_with<D: Door>(alloc: Global, door: &mut D, reply: &[u8]) -> Result<bool, DoorRefusal> {
+    if !door.accept(alloc)? {
+        return Ok(false);
+    }
+    send(alloc, door, reply)?;
+    Ok(true)
 }
 
 // A long reply goes out in pieces of 65,536 bytes. A door that is left asks for its port again.
@@ -94,17 +117,22 @@ fn a_long_reply_is_sent(rt: HostRuntime) -> Result<(), Fail> {
     let alloc = rt.alloc();
     let long = counted(alloc, 2_000_000)?;
     let stage = Stage::new(alloc, NONE, NO_SPACE, b"ping", 4_000_000)?;
-    let mut door = TcpDoor::of(&stage, 2);
-    assert_eq!(rt; door.accept(alloc), Ok(true));
-    assert_eq!(rt; send(alloc, &mut door, long.as_slice()), Ok(()));
-    assert!(rt; stage.written().as_slice() == long.as_slice());
-    door.leave();
-    assert_eq!(rt; door.accept(alloc), Ok(true));
-    let lines = stage.lines();
-    assert_eq!(rt; times(lines.as_str(), "write"), 31);
-    assert_eq!(rt; times(lines.as_str(), "write limit 1000"), 0);
-    assert_eq!(rt; times(lines.as_str(), "bind 127.0.0.1:48202"), 2);
+    reply_and_leave(&rt, alloc, &mut TcpDoor::of(&stage, 2), long.as_slice());
+    look_at_long(&rt, &stage, long.as_slice());
     Ok(())
+}
+
+fn reply_and_leave(rt: &impl Abort, alloc: Global, door: &mut impl Door, long: &[u8]) {
+    same(rt, reply_with(alloc, door, long), Ok(true));
+    door.leave();
+    same(rt, door.accept(alloc), Ok(true));
+}
+
+fn look_at_long(rt: &impl Abort, stage: &Stage, long: &[u8]) {
+    holds(rt, stage.wrote(long));
+    same(rt, stage.count("write"), 31);
+    same(rt, stage.count("write limit 1000"), 0);
+    same(rt, stage.count("bind 127.0.0.1:48202"), 2);
 }
 
 // A peer that took no whole piece in its time is waited for a second at a time.
@@ -112,33 +140,35 @@ fn a_long_reply_is_sent(rt: HostRuntime) -> Result<(), Fail> {
 fn a_slow_peer_is_hurried(rt: HostRuntime) -> Result<(), Fail> {
     let alloc = rt.alloc();
     let stage = Stage::new(alloc, NONE, NO_SPACE, b"pin", 3)?;
-    let mut door = TcpDoor::of(&stage, 16);
-    assert_eq!(rt; door.accept(alloc), Ok(true));
-    assert_eq!(rt; send(alloc, &mut door, b"pong"), Ok(()));
-    let begun = "bind 127.0.0.1:48216\naccept\nread limit 10000\nwrite limit 10000\n";
-    let sent = "write\nwrite limit 1000\nwrite\n";
-    let all = format!(in alloc; "{begun}{sent}")?;
-    assert_eq!(rt; stage.lines().as_str(), all.as_str());
+    send_slowly(&rt, alloc, &stage, &mut TcpDoor::of(&stage, 16));
     Ok(())
 }
 
-// How often a line stands in the stage's lines.
-fn times(lines: &str, line: &str) -> usize {
-    lines.lines().filter(|one| *one == line).count()
+fn send_slowly(rt: &impl Abort, alloc: Global, stage: &Stage, door: &mut impl Door) {
+    same(rt, reply_with(alloc, door, b"pong"), Ok(true));
+    holds(rt, stage.says(&[BEGUN, "write\nwrite limit 1000\nwrite\n"]));
 }
 
 // What comes is read off for 2 seconds, and up to 2,097,152 bytes.
 #[test]
 fn hanging_up_ends(rt: HostRuntime) -> Result<(), Fail> {
-    let alloc = rt.alloc();
-    let long = counted(alloc, 2_200_000)?;
+    let long = counted(rt.alloc(), 2_200_000)?;
     for (tick, reads) in [(0, 33), (500, 4), (2000, 1), (1999, 2)] {
-        let stage = Stage::ticking(alloc, NONE, NO_SPACE, long.as_slice(), 65_536, tick)?;
-        let mut door = TcpDoor::of(&stage, 1);
-        assert_eq!(rt; serve(alloc, &mut door), Ok(4));
-        let lines = stage.lines();
-        assert_eq!(rt; times(lines.as_str(), "read"), reads, "tick {tick}");
+        hang_up_by(&rt, rt.alloc(), long.as_slice(), tick, reads)?;
     }
+    Ok(())
+}
+
+fn hang_up_by(
+    rt: &impl Abort,
+    alloc: Global,
+    long: &[u8],
+    tick: u64,
+    reads: usize,
+) -> Result<(), AllocError> {
+    let stage = Stage::ticking(alloc, NONE, NO_SPACE, long, 65_536, tick)?;
+    same(rt, serve(alloc, &mut TcpDoor::of(&stage, 1)), Ok(4));
+    same_at(rt, stage.count("read"), reads, "tick", tick);
     Ok(())
 }
 
@@ -160,6 +190,15 @@ impl<'a, R: Net> Loopback<'a, R> {
         })
     }
 
+    // A peer comes. It is kept before it's known whether it could send, so that no end lets it go.
+    fn come_to(&self, listener: &R::Listener) -> io::Result<()> {
+        let address = listener.local_addr()?;
+        let mut peer = self.rt.connect(address)?;
+        let sent = send_off(&mut peer, self.sends);
+        self.peer.set(Some((peer, address)));
+        sent
+    }
+
     // The peer that came, and where it came to.
     fn take_peer(&self) -> io::Result<(R::Stream, SocketAddr)> {
         match self.peer.replace(None) {
@@ -177,11 +216,7 @@ impl<'a, R: Net> Net for Loopback<'a, R> {
     fn bind(&self, _address: SocketAddr) -> io::Result<R::Listener> {
         let any = SocketAddr::V4(SocketAddrV4::new(Ipv4Addr::LOCALHOST, 0));
         let listener = self.rt.bind(any)?;
-        let address = listener.local_addr()?;
-        let mut peer = self.rt.connect(address)?;
-        peer.write_all(self.sends)?;
-        peer.shutdown(Shutdown::Write)?;
-        self.peer.set(Some((peer, address)));
+        self.come_to(&listener)?;
         Ok(listener)
     }
 
@@ -200,11 +235,17 @@ impl<'a, R: Net + Clock> Clock for Loopback<'a, R> {
     }
 }
 
-// What the peer reads to the end.
-fn reply<S: Read>(alloc: Global, peer: &mut S) -> io::Result<Vec<u8>> {
+// Sends these bytes, and no more.
+fn send_off<S: OpenStream + Write>(peer: &mut S, bytes: &[u8]) -> io::Result<()> {
+    peer.write_all(bytes)?;
+    peer.shutdown(Shutdown::Write)
+}
+
+// Whether these bytes are what the peer reads to the end.
+fn reads<S: Read>(alloc: Global, peer: &mut S, reply: &[u8]) -> io::Result<bool> {
     let mut bytes = Vec::new(alloc);
     peer.read_to_end(&mut bytes)?;
-    Ok(bytes)
+    Ok(bytes.as_slice() == reply)
 }
 
 // The door reads 4 bytes of 20,000, and the peer gets the whole reply all the same. Who comes then
@@ -212,17 +253,34 @@ fn reply<S: Read>(alloc: Global, peer: &mut S) -> io::Result<Vec<u8>> {
 // A door of the system itself may be moved to the thread that serves it.
 #[test]
 fn a_peer_gets_the_reply(rt: HostRuntime) -> Result<(), Fail> {
-    let alloc = rt.alloc();
-    let long = counted(alloc, 20_000)?;
-    let network = Loopback::over(alloc, &rt, long.as_slice())?;
-    let mut door = TcpDoor::of(&network, 1);
-    assert_eq!(rt; serve(alloc, &mut door), Ok(4));
-    let (mut peer, address) = network.take_peer()?;
-    let bytes = reply(alloc, &mut peer)?;
-    assert_eq!(rt; bytes.as_slice(), b"pong".as_slice());
-    assert!(rt; rt.connect(address).is_ok());
-    door.leave();
-    assert!(rt; rt.connect(address).is_err());
+    let long = counted(rt.alloc(), 20_000)?;
+    meet(&rt, rt.alloc(), long.as_slice())?;
     know_send(&TcpDoor::of(&rt, 1));
     Ok(())
+}
+
+fn meet<R: Abort + Clock + Net>(rt: &R, alloc: Global, long: &[u8]) -> Result<(), Fail> {
+    let network = Loopback::over(alloc, rt, long)?;
+    meet_over(&network, alloc, &mut TcpDoor::of(&network, 1))?;
+    Ok(())
+}
+
+fn meet_over<R: Abort + Net>(
+    network: &Loopback<R>,
+    alloc: Global,
+    door: &mut impl Door,
+) -> io::Result<()> {
+    let rt = network.rt;
+    same(rt, serve(alloc, door), Ok(4));
+    let (mut peer, address) = network.take_peer()?;
+    let got = reads(alloc, &mut peer, b"pong");
+    leave_and_look(rt, door, address);
+    holds(rt, got?);
+    Ok(())
+}
+
+fn leave_and_look<R: Abort + Net>(rt: &R, door: &mut impl Door, address: SocketAddr) {
+    holds(rt, rt.connect(address).is_ok());
+    door.leave();
+    holds(rt, rt.connect(address).is_err());
 }

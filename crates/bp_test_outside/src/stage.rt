@@ -102,15 +102,42 @@ impl Stage {
         })
     }
 
-    // The calls so far, a line each.
-    pub fn lines(&self) -> String {
-        self.book.take_lines()
+    // Whether these parts, one after the other, are the calls so far, a line each. It forgets them:
+    // the calls after it are told by themselves. A test that were handed the lines would own them.
+    pub fn says(&self, parts: &[&str]) -> bool {
+        let lines = self.book.take_lines();
+        are_joined(lines.as_str().as_bytes(), parts)
     }
 
-    // The bytes written so far.
-    pub fn written(&self) -> Vec<u8> {
-        self.book.take_written()
+    // How often a line stands among the calls so far, which it keeps.
+    pub fn count(&self, line: &str) -> usize {
+        let lines = self.book.take_lines();
+        let count = times(lines.as_str(), line);
+        self.book.lines.set(lines);
+        count
     }
+
+    // Whether these are the bytes written so far. It forgets them.
+    pub fn wrote(&self, bytes: &[u8]) -> bool {
+        let written = self.book.take_written();
+        written.as_slice() == bytes
+    }
+}
+
+// Whether the parts, one after the other, are the text.
+fn are_joined(text: &[u8], parts: &[&str]) -> bool {
+    let mut rest = text;
+    for part in parts {
+        if !rest.starts_with(part.as_bytes()) {
+            return false;
+        }
+        rest = &rest[part.len()..];
+    }
+    rest.is_empty()
+}
+
+fn times(lines: &str, line: &str) -> usize {
+    lines.lines().filter(|one| *one == line).count()
 }
 
 impl Book {
@@ -135,8 +162,8 @@ impl Book {
         Ok(())
     }
 
-    fn call_at(&self, what: &str, path: &str) -> io::Result<()> {
-        let line = format!(in self.alloc; "{what} {path}")?;
+    fn call_at<D: Display + Copy>(&self, what: &str, place: D) -> io::Result<()> {
+        let line = format!(in self.alloc; "{what} {place}")?;
         self.call(line.as_str())
     }
 

@@ -3,6 +3,7 @@ use crate::page_file::WHITE;
 use crate::programs::words_of;
 use bp_cli::run::{Ended, run};
 use bp_core::{Bytes, DocNo, NumberList, Text, Treatment};
+use bp_desk::History;
 use bp_keep::Keeper;
 use bp_keep_sql::SqlKeeper;
 use bp_matter::Call;
@@ -15,10 +16,13 @@ use std::sync::Wait;
 use std::test::Fail;
 use std::thread::Threads;
 
-// The key of the lead.
-const LEAD: [u8; 32] = [0x11; 32];
+// The SHA-256 of `abc`, the lead's key.
+pub const LEAD: [u8; 32] = [
+    0xBA, 0x78, 0x16, 0xBF, 0x8F, 0x01, 0xCF, 0xEA, 0x41, 0x41, 0x40, 0xDE, 0x5D, 0xAE, 0x22, 0x23,
+    0xB0, 0x03, 0x61, 0xA3, 0x96, 0x17, 0x7A, 0x9C, 0xB4, 0x10, 0xFF, 0x61, 0xF2, 0x00, 0x15, 0xAD,
+];
 
-const INIT: &str = "init 1111111111111111111111111111111111111111111111111111111111111111";
+const INIT: &str = "init ba7816bf8f01cfea414140de5dae2223b00361a396177a9cb410ff61f20015ad";
 
 const BATCH: [(&str, &[u8]); 4] = [
     (
@@ -51,26 +55,28 @@ pub fn source(alloc: Global) -> Result<MemSource, Fail> {
 
 // What a command left, but for the keeper.
 #[derive(Drop)]
-struct Left {
-    status: u8,
-    folder: MemFolder,
-    out: MemOut,
+pub struct Left {
+    pub status: u8,
+    pub folder: MemFolder,
+    pub out: MemOut,
+    pub doors: Vec<MemDoor>,
+    pub history: Option<History>,
 }
 
-type Rows = SqlKeeper<MemStore>;
+pub type Rows = SqlKeeper<MemStore>;
 
-// Runs a line over a keeper. What it left, and the keeper that was handed back.
-fn ran<R: Threads + Wait + Sync>(
+// Runs a line over a keeper, and at these doors. What it left, and the keeper that was handed back.
+pub fn ran<R: Threads + Wait + Sync>(
     rt: &R,
     alloc: Global,
     line: &str,
     keeper: Rows,
+    doors: Vec<MemDoor>,
 ) -> Result<(Left, Rows), Fail> {
     let words = words_of(alloc, line)?;
     let mut source = source(alloc)?;
     let mut folder = MemFolder::over(FileList::new(alloc), NumberList::new(alloc));
     let mut out = MemOut::over(Bytes::from_vec(Vec::new(alloc)), NumberList::new(alloc));
-    let doors: Vec<MemDoor> = Vec::new(alloc);
     let ended = run(
         rt,
         alloc,
@@ -81,26 +87,31 @@ fn ran<R: Threads + Wait + Sync>(
         &mut out,
         doors,
     );
-    let (status, keeper) = handed_back(ended)?;
+    left_by(ended, folder, out)
+}
+
+fn left_by(
+    ended: Ended<Rows, MemDoor>,
+    folder: MemFolder,
+    out: MemOut,
+) -> Result<(Left, Rows), Fail> {
+    let Ended {
+        status,
+        keeper,
+        doors,
+        history,
+    } = ended;
+    let Some(keeper) = keeper else {
+        return Err(Fail::from("no keeper came back"));
+    };
     let left = Left {
         status,
         folder,
         out,
+        doors,
+        history,
     };
     Ok((left, keeper))
-}
-
-fn handed_back(ended: Ended<Rows, MemDoor>) -> Result<(u8, Rows), Fail> {
-    let Ended {
-        status,
-        keeper,
-        doors: _,
-        history: _,
-    } = ended;
-    match keeper {
-        Some(keeper) => Ok((status, keeper)),
-        None => Err(Fail::from("no keeper came back")),
-    }
 }
 
 // Runs a line that prints this and puts no file. The keeper after it.
@@ -111,7 +122,7 @@ fn told<R: Abort + Threads + Wait + Sync>(
     keeper: Rows,
     printed: &str,
 ) -> Result<Rows, Fail> {
-    let (left, keeper) = ran(rt, alloc, line, keeper)?;
+    let (left, keeper) = ran(rt, alloc, line, keeper, Vec::new(alloc))?;
     assert!(rt; left.status == 0, "{line}");
     assert!(rt; left.out.written() == printed.as_bytes(), "{line}");
     assert!(rt; left.folder.files().is_empty(), "{line}");
@@ -131,14 +142,14 @@ pub fn decide<K: Keeper>(alloc: Global, keeper: &mut K, key: &[u8; 32]) -> Resul
     Ok(())
 }
 
-// A database with a matter of the batch, decided.
-fn decided<R: Abort + Threads + Wait + Sync>(rt: &R, alloc: Global) -> Result<Rows, Fail> {
+const IMPORTED: &str = "batch B1 documents 1 pages 1\n";
+
+// A database with a matter of the batch, which is told once more where it comes in again.
+pub fn imported<R: Abort + Threads + Wait + Sync>(rt: &R, alloc: Global) -> Result<Rows, Fail> {
     let keeper = SqlKeeper::over(Connection::open_in_memory(alloc)?);
     let keeper = told(rt, alloc, INIT, keeper, "matter made\n")?;
-    let imported = "batch B1 documents 1 pages 1\n";
-    let mut keeper = told(rt, alloc, "import B1", keeper, imported)?;
-    decide(alloc, &mut keeper, &LEAD)?;
-    Ok(keeper)
+    let keeper = told(rt, alloc, "import B1", keeper, IMPORTED)?;
+    told(rt, alloc, "import B1", keeper, IMPORTED)
 }
 
 const LINE: &[u8] = b"production R-1 labels AB-0001 to AB-0001 files 6 manifest ";
@@ -154,9 +165,11 @@ fn same_volume<R: Abort>(rt: &R, one: &Left, other: &Left) {
 #[test]
 fn a_volume_is_pressed_again_over_a_database(rt: HostRuntime) -> Result<(), Fail> {
     let alloc = rt.alloc();
-    let keeper = decided(&rt, alloc)?;
-    let (produced, keeper) = ran(&rt, alloc, "produce R-1 V1 AB- 4 1 1", keeper)?;
-    let (pressed, _keeper) = ran(&rt, alloc, "press R-1", keeper)?;
+    let mut keeper = imported(&rt, alloc)?;
+    decide(alloc, &mut keeper, &LEAD)?;
+    let none = Vec::new(alloc);
+    let (produced, keeper) = ran(&rt, alloc, "produce R-1 V1 AB- 4 1 1", keeper, none)?;
+    let (pressed, _keeper) = ran(&rt, alloc, "press R-1", keeper, Vec::new(alloc))?;
     same_volume(&rt, &produced, &pressed);
     Ok(())
 }

@@ -30,21 +30,36 @@ pub fn words_of(alloc: Global, line: &str) -> Result<Vec<String>, AllocError> {
 
 const HELD: &str = "read /\nread /\nread /\n";
 
+type Opened = Result<Connection<MemStore>, Error>;
+
+// Runs the program on a stage. Its status, and whether a connection came back.
+fn ran<R: Threads + Wait + Sync>(
+    rt: &R,
+    alloc: Global,
+    stage: &Stage,
+    opened: Opened,
+    doors: Doors,
+    answer: io::Result<Args>,
+) -> (u8, bool) {
+    let _held = hold_descriptors(stage);
+    let ended = run_over(stage, rt, alloc, opened, doors, answer);
+    (ended.status, ended.connection.is_some())
+}
+
 // Runs the program, which is to end with this status, after it opened and printed this.
 fn check<R: Abort + Threads + Wait + Sync>(
     rt: &R,
     alloc: Global,
-    answer: io::Result<Args>,
+    opened: Opened,
     doors: Doors,
+    answer: io::Result<Args>,
     (status, lines): (u8, &str),
     written: &[u8],
 ) -> Result<(), Fail> {
     let stage = Stage::new(alloc, &WHITE)?;
-    let _held = hold_descriptors(&stage);
-    let opened = Ok(Connection::open_in_memory(alloc)?);
-    let ended = run_over(&stage, rt, alloc, opened, doors, answer);
-    assert!(rt; ended.status == status, "{lines}");
-    assert!(rt; ended.connection.is_some(), "{lines}");
+    let is_opened = opened.is_ok();
+    let ended = ran(rt, alloc, &stage, opened, doors, answer);
+    assert!(rt; ended == (status, is_opened), "{lines}");
     let told = stage.lines();
     assert!(rt; told.as_str().strip_prefix(HELD) == Some(lines), "{told}");
     assert!(rt; stage.written().as_slice() == written, "{lines}");
@@ -79,7 +94,8 @@ fn the_program_carries_out_the_words_after_its_name(rt: HostRuntime) -> Result<(
     ] {
         let words = words_of(alloc, line)?;
         let doors = Ok(Vec::new(alloc));
-        check(&rt, alloc, Ok(words.into_iter()), doors, ends, written)?;
+        let (opened, answer) = (Connection::open_in_memory(alloc), Ok(words.into_iter()));
+        check(&rt, alloc, opened, doors, answer, ends, written)?;
     }
     Ok(())
 }
@@ -98,27 +114,9 @@ fn words_that_the_system_does_not_give_are_told_apart(rt: HostRuntime) -> Result
         ),
     ] {
         let doors = Ok(Vec::new(alloc));
-        check(&rt, alloc, Err(io::Error::from(kind)), doors, ends, &[])?;
+        let (opened, answer) = (Connection::open_in_memory(alloc), Err(io::Error::from(kind)));
+        check(&rt, alloc, opened, doors, answer, ends, &[])?;
     }
-    Ok(())
-}
-
-// Runs the program where its database can't be opened.
-fn check_unopened<R: Abort + Threads + Wait + Sync>(
-    rt: &R,
-    alloc: Global,
-    error: Error,
-    (status, lines): (u8, &str),
-) -> Result<(), Fail> {
-    let stage = Stage::new(alloc, &WHITE)?;
-    let words = words_of(alloc, "tivrenan log R-1")?;
-    let _held = hold_descriptors(&stage);
-    let opened: Result<Connection<MemStore>, Error> = Err(error);
-    let doors: Doors = Ok(Vec::new(alloc));
-    let ended = run_over(&stage, rt, alloc, opened, doors, Ok(words.into_iter()));
-    assert!(rt; ended.status == status, "{lines}");
-    let told = stage.lines();
-    assert!(rt; told.as_str().strip_prefix(HELD) == Some(lines), "{told}");
     Ok(())
 }
 
@@ -132,7 +130,9 @@ fn a_database_that_is_not_opened_ends_the_program(rt: HostRuntime) -> Result<(),
         ),
         (ErrorCode::CannotOpen, (5, "print beside 3: keeper fault\n")),
     ] {
-        check_unopened(&rt, alloc, Error::SqliteFailure(code), ends)?;
+        let words = words_of(alloc, "tivrenan log R-1")?;
+        let (opened, doors) = (Err(Error::SqliteFailure(code)), Ok(Vec::new(alloc)));
+        check(&rt, alloc, opened, doors, Ok(words.into_iter()), ends, &[])?;
     }
     Ok(())
 }
@@ -142,12 +142,6 @@ fn doors_that_memory_lacked_for_end_the_program(rt: HostRuntime) -> Result<(), F
     let alloc = rt.alloc();
     let words = words_of(alloc, "tivrenan log R-1")?;
     let ends = (6u8, "print beside 3: out of memory\n");
-    check(
-        &rt,
-        alloc,
-        Ok(words.into_iter()),
-        Err(OutOfMemory),
-        ends,
-        &[],
-    )
+    let (opened, doors) = (Connection::open_in_memory(alloc), Err(OutOfMemory));
+    check(&rt, alloc, opened, doors, Ok(words.into_iter()), ends, &[])
 }

@@ -1,12 +1,9 @@
 // The same requests at each of two doors: what is written in each exchange, to the byte.
-use crate::databases::{decide, source};
-use crate::programs::words_of;
-use crate::two_doors::{LEAD, keeper};
-use bp_cli::run::{Ended, run};
+use crate::databases::{LEAD, decide, imported, ran};
 use bp_core::{Bytes, NumberList, RowList};
 use bp_desk::History;
-use bp_keep::{Keeper, MemKeeper};
-use bp_outside::{BytesList, FileList, MemDoor, MemFolder, MemOut};
+use bp_keep::Keeper;
+use bp_outside::{BytesList, MemDoor};
 use std::alloc::{AllocError, Global};
 use std::process::Abort;
 use std::sync::Wait;
@@ -70,70 +67,8 @@ fn is_answered(door: &MemDoor) -> bool {
 // staff.
 const SERVED: &[u8] = b"served 4\n";
 
-// What a command left, but for its doors.
-#[derive(Drop)]
-struct Left {
-    status: u8,
-    printed: MemOut,
-    keeper: MemKeeper,
-    history: Option<History>,
-}
-
-// Runs a line at these doors.
-fn ran<R: Threads + Wait + Sync>(
-    rt: &R,
-    alloc: Global,
-    line: &str,
-    keeper: MemKeeper,
-    doors: Vec<MemDoor>,
-) -> Result<(Left, Vec<MemDoor>), Fail> {
-    let words = words_of(alloc, line)?;
-    let mut source = source(alloc)?;
-    let mut folder = MemFolder::over(FileList::new(alloc), NumberList::new(alloc));
-    let mut out = MemOut::over(Bytes::from_vec(Vec::new(alloc)), NumberList::new(alloc));
-    let ended = run(
-        rt,
-        alloc,
-        &words,
-        &mut source,
-        keeper,
-        &mut folder,
-        &mut out,
-        doors,
-    );
-    left_by(ended, out)
-}
-
-fn left_by(
-    ended: Ended<MemKeeper, MemDoor>,
-    printed: MemOut,
-) -> Result<(Left, Vec<MemDoor>), Fail> {
-    let Ended {
-        status,
-        keeper,
-        doors,
-        history,
-    } = ended;
-    let Some(keeper) = keeper else {
-        return Err(Fail::from("no keeper came back"));
-    };
-    let left = Left {
-        status,
-        printed,
-        keeper,
-        history,
-    };
-    Ok((left, doors))
-}
-
-// A matter with a document, whose lead has the key `abc`.
-fn imported<R: Threads + Wait + Sync>(rt: &R, alloc: Global) -> Result<MemKeeper, Fail> {
-    let (left, _doors) = ran(rt, alloc, "import B1", keeper(alloc, &[])?, Vec::new(alloc))?;
-    Ok(left.keeper)
-}
-
 // The rows of the matter once its document is called.
-fn rows_due<R: Threads + Wait + Sync>(rt: &R, alloc: Global) -> Result<RowList, Fail> {
+fn rows_due<R: Abort + Threads + Wait + Sync>(rt: &R, alloc: Global) -> Result<RowList, Fail> {
     let mut keeper = imported(rt, alloc)?;
     decide(alloc, &mut keeper, &LEAD)?;
     Ok(keeper.load(alloc)?)
@@ -157,15 +92,14 @@ fn has_four(history: &Option<History>) -> bool {
 fn each_request_is_answered_at_both_doors(rt: HostRuntime) -> Result<(), Fail> {
     let alloc = rt.alloc();
     let keeper = imported(&rt, alloc)?;
-    let (left, doors) = ran(&rt, alloc, "serve 2 5", keeper, two_doors(alloc)?)?;
+    let (left, mut keeper) = ran(&rt, alloc, "serve 2 5", keeper, two_doors(alloc)?)?;
     assert_eq!(rt; left.status, 0);
-    assert!(rt; left.printed.written() == SERVED);
+    assert!(rt; left.out.written() == SERVED);
     assert!(rt; has_four(&left.history));
-    assert_eq!(rt; doors.len(), 2);
-    for door in doors.as_slice() {
+    assert_eq!(rt; left.doors.len(), 2);
+    for door in left.doors.as_slice() {
         assert!(rt; is_answered(door));
     }
-    let mut kept = left.keeper;
-    assert!(rt; kept.load(alloc)? == rows_due(&rt, alloc)?);
+    assert!(rt; keeper.load(alloc)? == rows_due(&rt, alloc)?);
     Ok(())
 }

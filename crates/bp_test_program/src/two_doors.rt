@@ -1,5 +1,5 @@
 // Two desks are served at once by the top call, one peer at each: neither is answered before both are read.
-use crate::databases::source;
+use crate::databases::{LEAD, source};
 use crate::meeting_door::MeetingDoor;
 use crate::programs::words_of;
 use bp_cli::run::{Ended, run};
@@ -12,12 +12,6 @@ use std::sync::Wait;
 use std::sync::atomic::AtomicU64;
 use std::test::Fail;
 use std::thread::Threads;
-
-// The SHA-256 of `abc`, which the peers present.
-pub const LEAD: [u8; 32] = [
-    0xBA, 0x78, 0x16, 0xBF, 0x8F, 0x01, 0xCF, 0xEA, 0x41, 0x41, 0x40, 0xDE, 0x5D, 0xAE, 0x22, 0x23,
-    0xB0, 0x03, 0x61, 0xA3, 0x96, 0x17, 0x7A, 0x9C, 0xB4, 0x10, 0xFF, 0x61, 0xF2, 0x00, 0x15, 0xAD,
-];
 
 // The lead adds a reviewer, whose key has the SHA-256 that is written by the last digit.
 const FIRST: &[u8] =
@@ -36,7 +30,7 @@ const BOTH: &[u8] = b"served 2\n";
 const ONE: &[u8] = b"served 1\n";
 
 // A keeper in memory of a new matter, whose calls of these numbers are to fail.
-pub fn keeper(alloc: Global, failing: &[u64]) -> Result<MemKeeper, Fail> {
+fn keeper(alloc: Global, failing: &[u64]) -> Result<MemKeeper, Fail> {
     let tables = begin(alloc, LEAD)?;
     let rows = tables.rows(alloc)?;
     let failing = Vec::from_slice(alloc, failing)?;

@@ -19,8 +19,7 @@ impl Net for Stage {
     type Listener = StagedPort;
 
     fn bind(&self, address: SocketAddr) -> io::Result<StagedPort> {
-        let line = format!(in self.book.alloc; "bind {address}")?;
-        self.book.call(line.as_str())?;
+        self.book.call_at("bind", address)?;
         Ok(StagedPort {
             book: self.book.clone()?,
             address,
@@ -73,8 +72,7 @@ impl super::Book {
             Some(limit) => limit.as_millis(),
             None => 0,
         };
-        let line = format!(in self.alloc; "{what} {millis}")?;
-        self.call(line.as_str())
+        self.call_at(what, millis)
     }
 }
 

@@ -94,7 +94,7 @@ fn the_program_carries_out_the_words_after_its_name(rt: HostRuntime) -> Result<(
     ] {
         let words = words_of(alloc, line)?;
         let doors = Ok(Vec::new(alloc));
-        let (opened, answer) = (Connection::open_in_memory(alloc), Ok(words.into_iter()));
+        let (opened, answer) = (Ok(Connection::open_in_memory(alloc)?), Ok(words.into_iter()));
         check(&rt, alloc, opened, doors, answer, ends, written)?;
     }
     Ok(())
@@ -114,7 +114,8 @@ fn words_that_the_system_does_not_give_are_told_apart(rt: HostRuntime) -> Result
         ),
     ] {
         let doors = Ok(Vec::new(alloc));
-        let (opened, answer) = (Connection::open_in_memory(alloc), Err(io::Error::from(kind)));
+        let opened = Ok(Connection::open_in_memory(alloc)?);
+        let answer = Err(io::Error::from(kind));
         check(&rt, alloc, opened, doors, answer, ends, &[])?;
     }
     Ok(())
@@ -142,6 +143,6 @@ fn doors_that_memory_lacked_for_end_the_program(rt: HostRuntime) -> Result<(), F
     let alloc = rt.alloc();
     let words = words_of(alloc, "tivrenan log R-1")?;
     let ends = (6u8, "print beside 3: out of memory\n");
-    let (opened, doors) = (Connection::open_in_memory(alloc), Err(OutOfMemory));
+    let (opened, doors) = (Ok(Connection::open_in_memory(alloc)?), Err(OutOfMemory));
     check(&rt, alloc, opened, doors, Ok(words.into_iter()), ends, &[])
 }

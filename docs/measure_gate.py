@@ -1,12 +1,14 @@
 #!/usr/bin/env python3
 """Runs `rt ci`, with the words that it is given, and measures it: every two seconds it looks at each process below, and at the end prints
 of each crate the processor minutes of its proof, tests and compiling, those of its edits (their seed with them), and the peak of a single
-process, as the table of docs/GATE.md has them; then all together, and the clock. Ends with the status of `rt ci`.
+process, as the table of docs/GATE.md has them; then all together, also as the system counts it, and the clock. Ends with the status of
+`rt ci`.
 
 What a process uses between the last look and its end isn't seen: a hundredth, as most go on for minutes."""
 import collections
 import os
 import pathlib
+import resource
 import subprocess
 import sys
 import time
@@ -81,7 +83,8 @@ def main():
         look(gate.pid, seen)
         time.sleep(PAUSE)
     print("\n".join(table(seen)))
-    print(f"by the clock {(time.time() - began) / 60:.0f} minutes")
+    used = resource.getrusage(resource.RUSAGE_CHILDREN)
+    print(f"by the system {(used.ru_utime + used.ru_stime) / 60:.0f} minutes; by the clock {(time.time() - began) / 60:.0f}")
     sys.exit(gate.returncode)
 
 

@@ -56,7 +56,7 @@ Architecture: $arch
 Maintainer: $who
 Installed-Size: $(du -sk --exclude=DEBIAN "$root" | cut -f1)
 Depends: libc6 (>= ${libc:-2.34}), python3
-Recommends: nginx, libnginx-mod-http-js, openssl, curl, sqlite3, systemd, poppler-utils, libtiff-tools, netpbm, tesseract-ocr
+Recommends: nginx, libnginx-mod-http-js, openssl, curl, sqlite3, systemd, poppler-utils, libtiff-tools, netpbm, python3-numpy, tesseract-ocr
 Suggests: slurm-wlm, logrotate, apache2-utils
 Section: utils
 Priority: optional

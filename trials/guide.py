@@ -30,7 +30,7 @@ TOP = os.path.dirname(os.path.dirname(os.path.abspath(__file__)))
 DESK_PORT = 48201
 PACKAGES = {
     "nginx": "nginx", "openssl": "openssl", "pdftoppm": "poppler-utils", "tiffsplit": "libtiff-tools", "tifftopnm": "netpbm",
-    "tesseract": "tesseract-ocr", "sqlite3": "sqlite3", "curl": "curl",
+    "tesseract": "tesseract-ocr", "f2py3": "python3-numpy", "sqlite3": "sqlite3", "curl": "curl",
 }
 FOLDERS = ("usr/local", "srv", "etc/nginx/sites-available", "etc/nginx/sites-enabled", "etc/ssl/private", "etc/ssl/certs", "home", "shims")
 SECONDS = 300  # for one command

@@ -2,7 +2,7 @@
 import os
 from dataclasses import dataclass, field
 
-from . import recognized, upright
+from . import pdf_files, picture_files, pictures, recognized, tiff_files, upright
 from .limits import MOST_DOCUMENTS, MOST_PAGES, MOST_PIXELS_IN_ALL
 from .load_files import image_path
 from .pdf_files import PdfFile
@@ -12,6 +12,8 @@ from .refused import Refused
 from .sources import Source
 from .tiff_files import TiffFile
 from .words import inked_words, shown_words
+
+TOOLS = {"PDF": pdf_files.TOOLS, "TIFF": tiff_files.TOOLS, "PNG": picture_files.TOOLS, "JPEG": picture_files.TOOLS}
 
 
 @dataclass
@@ -43,6 +45,11 @@ def open_file(source, options, room):
     if source.kind == "PDF":
         return PdfFile(source, options)
     return TiffFile(source, options, room) if source.kind == "TIFF" else PictureFile(source, options)
+
+
+def tools_for(kinds, options):
+    """What is needed to make pages of files of these kinds."""
+    return [*pictures.TOOLS, *(tool for kind in kinds for tool in TOOLS[kind]), *(upright.TOOLS if options.upright else ())]
 
 
 def check_limits(documents):

@@ -7,9 +7,13 @@ diffusion; so does a whole page of which most cells are such. All else is black 
 within what is ink and what is paper there.
 """
 import re
-import struct
 
 from .programs import run
+
+try:
+    import numpy
+except ModuleNotFoundError:
+    numpy = None  # programs.need says so
 
 CELLS = 100  # along the longer side
 LEAST_CELL, MOST_CELL = 8, 64  # pixels
@@ -25,7 +29,6 @@ FEWEST_CELLS = 6  # of a picture
 MOST_OF_A_PAGE = 0.5  # toned cells
 FULL = 0.5  # toned cells of the box around them, which then is a picture as a whole
 GREY_HEAD = re.compile(rb"P5\s(?:#.*\n)*(\d+)\s+(\d+)\s+(\d+)\s")
-TABLES = [bytes(49 if grey < threshold else 48 for grey in range(256)) for threshold in range(257)]  # to the digits of a number
 
 
 class Cells:
@@ -33,61 +36,36 @@ class Cells:
 
     def __init__(self, pgm):
         found = GREY_HEAD.match(pgm)
-        self.pgm, self.start = pgm, found.end()
+        self.head, self.body = pgm[: found.end()], pgm[found.end() :]
         self.width, self.height = int(found[1]), int(found[2])
+        self.greys = numpy.frombuffer(self.body, numpy.uint8, self.width * self.height).reshape(self.height, self.width)
         self.cell = min(MOST_CELL, max(LEAST_CELL, max(self.width, self.height) // CELLS))
-        self.across, self.down = -(-self.width // self.cell), -(-self.height // self.cell)
-        self.spans = [(left, min(left + self.cell, self.width)) for left in range(0, self.width, self.cell)]
-        self.means, self.brights = [], []
-        for top in range(0, self.height, self.cell):
-            self.look(range(top, min(top + self.cell, self.height), EACH_ROW))
+        self.lefts = numpy.arange(0, self.width, self.cell)
+        self.widths = numpy.diff(self.lefts, append=self.width)
+        looked = [self.look(band[::EACH_ROW]) for band in self.bands()]
+        self.means, self.brights = (numpy.stack(values) for values in zip(*looked))
 
-    def row(self, at):
-        start = self.start + at * self.width
-        return self.pgm[start : start + self.width]
+    def bands(self):
+        """The rows of pixels of each row of cells."""
+        return [self.greys[top : top + self.cell] for top in range(0, self.height, self.cell)]
 
     def look(self, rows):
-        """Adds a row of cells. The first pixels of all cells in these rows are one number of 16 bits a pixel, the second ones another, and
-        so on: so all cells are summed, of which a row has at most 64 pixels, and their brightest found, at once. The last cell across
-        is filled up with black."""
-        count, total, bright = self.across * len(rows), 0, 0
-        black = bytes(self.across * self.cell - self.width)
-        greys, wide = b"".join([self.row(at) + black for at in rows]), bytearray(2 * count)
-        high = int.from_bytes(b"\0\1" * count, "little")
-        for at in range(self.cell):
-            wide[::2] = greys[at :: self.cell]
-            these = int.from_bytes(wide, "little")
-            total += these
-            bright = brighter(these, bright, high)
-        sums, brights = (self.of_cells(number, count) for number in (total, bright))
-        self.means.append([each / (len(rows) * (right - left)) for each, (left, right) in zip(sums, self.spans)])
-        self.brights.append([each / len(rows) for each in brights])
+        """The means of a row of cells, and how bright their brightest are."""
+        sums = numpy.add.reduceat(rows.sum(axis=0, dtype=numpy.uint32), self.lefts)
+        brightest = numpy.maximum.reduceat(rows, self.lefts, axis=1)
+        return sums / (len(rows) * self.widths), brightest.sum(axis=0, dtype=numpy.uint32) / len(rows)
 
-    def of_cells(self, number, count):
-        """Of each cell the sum of what its rows have in a number of so many parts of 16 bits."""
-        parts = struct.unpack(f"<{count}H", number.to_bytes(2 * count, "little"))
-        return [sum(parts[x :: self.across]) for x in range(self.across)]
-
-
-def brighter(one, other, high):
-    """The brighter of each two pixels, of numbers of 16 bits a pixel. `high` has the bit above a grey: of the lead it is left where `one`
-    isn't the darker, and below it then stands by how much."""
-    lead = (one | high) - other
-    is_lead = lead & high
-    return other + (lead & is_lead - (is_lead >> 8))
+    def pixels_of(self, values):
+        """What each pixel of a row has, of a value a cell."""
+        return numpy.repeat(values, self.cell)[: self.width]
 
 
 def paper_of(brights):
     """How bright paper is at each cell: the brightest around, less STEEPEST a cell on the way."""
-    paper = [row[:] for row in brights]
-    down, across = len(paper), len(paper[0])
-    for rows, columns, back in ((range(down), range(across), -1), (range(down - 1, -1, -1), range(across - 1, -1, -1), 1)):
-        for y in rows:
-            row = paper[y]
-            above = paper[y + back] if 0 <= y + back < down else row
-            for x in columns:
-                beside = row[x + back] if 0 <= x + back < across else 0
-                row[x] = max(row[x], beside - STEEPEST, above[x] - STEEPEST)
+    paper = brights.copy()
+    for lines in (paper, paper[::-1], paper.T, paper.T[::-1]):
+        for before, line in zip(lines, lines[1:]):
+            numpy.maximum(line, before - STEEPEST, out=line)
     return paper
 
 
@@ -98,114 +76,79 @@ def around(values):
 
 def by_columns(values):
     """The means over rows around each, turned, so that to do it twice is to do it both ways."""
-    found = []
-    for at in range(len(values)):
-        near = values[max(0, at - WINDOW) : at + WINDOW + 1]
-        found.append([sum(column) / len(near) for column in zip(*near)])
-    return [list(row) for row in zip(*found)]
+    near = [values[max(0, at - WINDOW) : at + WINDOW + 1] for at in range(len(values))]
+    return numpy.stack([rows.mean(axis=0) for rows in near], axis=1)
 
 
 def thresholds_of(cells, paper):
     """Of each cell the grey below which a pixel is black."""
-    return [[threshold_of(mean, white) for mean, white in zip(*rows)] for rows in zip(around(cells.means), paper)]
-
-
-def threshold_of(mean, white):
-    grey, least, most = CONTRAST * mean, DARKEST * white, BRIGHTEST * white
-    grey = least if grey < least else most if grey > most else grey
-    return round((grey if grey > LEAST_THRESHOLD else LEAST_THRESHOLD) / STEP) * STEP
+    greys = numpy.clip(CONTRAST * around(cells.means), DARKEST * paper, BRIGHTEST * paper)
+    return (numpy.rint(numpy.maximum(greys, LEAST_THRESHOLD) / STEP) * STEP).astype(numpy.uint8)
 
 
 def local_rows(cells, thresholds):
-    """The rows of the page as numbers whose highest bit is the first pixel. Most rows of a page are white by the highest threshold in
-    them, and then by all."""
-    rows = []
-    for at, row in enumerate(thresholds):
-        spans = [(left, right, TABLES[threshold]) for left, right, threshold in merged(cells.spans, row)]
-        highest = TABLES[max(row)]
-        for y in range(at * cells.cell, min(at * cells.cell + cells.cell, cells.height)):
-            greys = cells.row(y)
-            digits = greys.translate(highest)
-            if b"1" in digits and len(spans) > 1:
-                digits = b"".join([greys[left:right].translate(table) for left, right, table in spans])
-            rows.append(int(digits, 2) if b"1" in digits else 0)
-    return rows
-
-
-def merged(spans, thresholds):
-    """Neighbours of one threshold as one span."""
-    found = []
-    for (left, right), threshold in zip(spans, thresholds):
-        if found and found[-1][2] == threshold:
-            found[-1] = (found[-1][0], right, threshold)
-        else:
-            found.append((left, right, threshold))
-    return found
-
-
-def toned_cells(cells, paper):
-    """Which cells have no paper: True where they are grey, False where they are as dark as ink."""
-    found = {}
-    for y, (brights, row) in enumerate(zip(cells.brights, paper)):
-        for x, (bright, white) in enumerate(zip(brights, row)):
-            if bright < TONE * white:
-                found[x, y] = bright >= INK * white
-    return found
+    """The rows of the page, eight pixels a byte."""
+    bands = zip(cells.bands(), thresholds)
+    return numpy.concatenate([numpy.packbits(band < cells.pixels_of(row), axis=1) for band, row in bands])
 
 
 def groups_of(toned):
     """The cells in groups, in which each touches another."""
-    left = set(toned)
+    left = set(zip(*map(numpy.ndarray.tolist, toned.nonzero())))
     while left:
         group, todo = set(), [left.pop()]
         while todo:
-            x, y = todo.pop()
-            group.add((x, y))
-            beside = {(x - 1, y), (x + 1, y), (x, y - 1), (x, y + 1)} & left
+            y, x = todo.pop()
+            group.add((y, x))
+            beside = {(y, x - 1), (y, x + 1), (y - 1, x), (y + 1, x)} & left
             left -= beside
             todo += beside
-        yield group
+        yield tuple(numpy.array(sorted(group)).T)
 
 
 def picture_cells(cells, paper):
-    """The cells that become dots, with those around them."""
-    toned = toned_cells(cells, paper)
-    everywhere = {(x, y) for x in range(cells.across) for y in range(cells.down)}
-    if sum(toned.values()) > MOST_OF_A_PAGE * len(everywhere):
-        return everywhere
-    found = set()
+    """Which cells become dots: those without paper, and those around them. Of them some are grey, and some as dark as ink."""
+    toned = cells.brights < TONE * paper
+    grey = toned & (cells.brights >= INK * paper)
+    if grey.sum() > MOST_OF_A_PAGE * grey.size:
+        return numpy.ones_like(grey)
+    chosen = numpy.zeros_like(grey)
     for group in groups_of(toned):
-        if sum(toned[each] for each in group) >= max(FEWEST_CELLS, len(group) / 2):
-            found |= boxed(group)
-    return {(x + right, y + below) for x, y in found for right in (-1, 0, 1) for below in (-1, 0, 1)} & everywhere
+        if grey[group].sum() >= max(FEWEST_CELLS, len(group[0]) / 2):
+            chosen[boxed(group)] = True
+    return with_neighbours(chosen)
 
 
 def boxed(group):
     """The group, or the box around it where it fills most of that."""
-    columns, rows = [x for x, _ in group], [y for _, y in group]
-    box = {(x, y) for x in range(min(columns), max(columns) + 1) for y in range(min(rows), max(rows) + 1)}
-    return box if len(group) > FULL * len(box) else group
+    box = tuple(slice(places.min(), places.max() + 1) for places in group)
+    rows, columns = (places.stop - places.start for places in box)
+    return box if len(group[0]) > FULL * rows * columns else group
 
 
-def masks_of(cells, chosen):
-    """For each row of cells the bits of its chosen ones."""
-    masks = [0] * cells.down
-    for x, y in chosen:
-        left, right = cells.spans[x]
-        masks[y] |= ((1 << right - left) - 1) << cells.width - right
-    return masks
+def with_neighbours(chosen):
+    """These cells and all that touch them, at a corner too."""
+    down, across = chosen.shape
+    wide = numpy.pad(chosen, 1)
+    return sum(wide[y : y + down, x : x + across] for y in range(3) for x in range(3)) > 0
 
 
 def dotted_rows(file, cells, paper):
     """The page in dots, the same ones each time; paper beside a picture has none, where the page's middle cell is paper."""
-    white = sorted(each for row in paper for each in row)[cells.across * cells.down // 2]
+    white = numpy.sort(paper, axis=None)[paper.size // 2]
     lightest = PAPER * white if white >= LEAST_PAPER else 255
     levels = bytes(255 if grey >= lightest else grey for grey in range(256))
-    lighter = cells.pgm[: cells.start] + cells.pgm[cells.start :].translate(levels)
-    pbm, _ = run(file, ["pgmtopbm", "-fs", "-randomseed=1"], lighter)
+    pbm, _ = run(file, ["pgmtopbm", "-fs", "-randomseed=1"], cells.head + cells.body.translate(levels))
     size = (cells.width + 7) // 8
-    body, spare = len(pbm) - size * cells.height, size * 8 - cells.width
-    return [int.from_bytes(pbm[at : at + size], "big") >> spare for at in range(body, len(pbm), size)]
+    return numpy.frombuffer(pbm, numpy.uint8, offset=len(pbm) - size * cells.height).reshape(cells.height, size)
+
+
+def put_dots(rows, cells, chosen, dots):
+    """Gives the chosen cells their dots."""
+    for at, row in enumerate(chosen):
+        mask = numpy.packbits(cells.pixels_of(row))
+        band = slice(at * cells.cell, (at + 1) * cells.cell)
+        rows[band] = rows[band] & ~mask | dots[band] & mask
 
 
 def black_and_white(file, pgm):
@@ -214,12 +157,7 @@ def black_and_white(file, pgm):
     paper = paper_of(cells.brights)
     rows = local_rows(cells, thresholds_of(cells, paper))
     chosen = picture_cells(cells, paper)
-    if chosen:
-        masks, dots = masks_of(cells, chosen), dotted_rows(file, cells, paper)
-        for at, dotted in enumerate(dots):
-            mask = masks[at // cells.cell]
-            rows[at] = rows[at] & ~mask | dotted & mask
-    size = (cells.width + 7) // 8
-    spare = size * 8 - cells.width
-    packed = b"".join([(row << spare).to_bytes(size, "big") for row in rows])
-    return b"P4\n%d %d\n" % (cells.width, cells.height) + packed, bool(chosen)
+    has_dots = bool(chosen.any())
+    if has_dots:
+        put_dots(rows, cells, chosen, dotted_rows(file, cells, paper))
+    return b"P4\n%d %d\n" % (cells.width, cells.height) + rows.tobytes(), has_dots

@@ -3,7 +3,7 @@ at half its sides: then the same words are read in less time. Any other is given
 import ctypes
 from dataclasses import dataclass
 
-from .library import EIGHT_WAYS, HANDLE, four_ints
+from .library import EIGHT_WAYS, HANDLE, boxes_in, four_ints
 from .marks import Mark, are_large, is_print, letters_of
 from .pictures import sides_of
 
@@ -78,8 +78,7 @@ def picture_of(library, pbm):
 def marks_of(library, picture):
     """The black marks; None where they are more than on a page of print, as in a picture of dots."""
     boxes = library.pixConnCompBB(picture, EIGHT_WAYS)
-    count = library.boxaGetCount(boxes)
-    return [Mark(*four_ints(library.boxaGetBoxGeometry, boxes, at)) for at in range(count)] if count <= MOST_MARKS else None
+    return [Mark(*box) for box in boxes_in(library, boxes)] if library.boxaGetCount(boxes) <= MOST_MARKS else None
 
 
 def are_all_in(library, pbm, boxes):

@@ -8,6 +8,8 @@ from .limits import LONGEST_FILE, LONGEST_SIDE, MOST_PIXELS
 from .programs import first_line, run
 from .refused import Refused
 
+TOOLS = ("ppmtopgm", "pgmtopbm", "ppm2tiff", "pamtotiff", "pamdepth", "numpy")
+
 
 @dataclass(frozen=True)
 class Resolution:

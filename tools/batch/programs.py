@@ -1,4 +1,5 @@
-"""Runs the programs of Debian that read and write PDFs and pictures."""
+"""Runs the programs of Debian that read and write PDFs and pictures, and says which of them, or of its libraries, isn't here."""
+import importlib.util
 import os
 import shutil
 import subprocess
@@ -24,13 +25,14 @@ PACKAGES = {
     "pgmtopbm": "netpbm",
     "pamtotiff": "netpbm",
     "tesseract": "tesseract-ocr",
+    "numpy": "python3-numpy",
 }
 LONGEST_WAIT = 600  # seconds, for one page or one file
 
 
 def need(tools, what_for):
-    """Refuses where one of these programs isn't there, with the package that has it."""
-    missing = sorted({tool for tool in tools if not shutil.which(tool)})
+    """Refuses where one of these programs, or a library of Python's, isn't there, with the package that has it."""
+    missing = sorted({tool for tool in tools if not shutil.which(tool) and not importlib.util.find_spec(tool)})
     if missing:
         packages = " ".join(sorted({PACKAGES[tool] for tool in missing}))
         raise Refused(", ".join(missing), f"needed {what_for}, and not here: apt install {packages}")

@@ -36,6 +36,7 @@ NEEDED = {
     "tiffcp": "libtiff-tools",
     "tifftopnm": "netpbm",
     "tesseract": "tesseract-ocr",
+    "f2py3": "python3-numpy",  # its program, as another python3 than Debian's doesn't find the library
 }
 IMAGEMAGICK = ("convert", "identify")  # a program `convert` alone may be another's
 JOBS = os.environ.get("JOBS", str(os.cpu_count() or 1))

@@ -4,7 +4,8 @@ is read by python's csv and netpbm and compared with what was put in; and a copy
 Where the program is built each goes the whole round: in, import, produce, check, out as DAT, LFP, CSV and PDF, which are opened by
 tiffinfo, pdfimages and pdftotext: texts are equal, and images pixel by pixel.
 
-Needs Debian's ghostscript, imagemagick, img2pdf, libtiff-tools, netpbm, poppler-utils and tesseract-ocr, and says which isn't there.
+Needs Debian's ghostscript, imagemagick, img2pdf, libtiff-tools, netpbm, poppler-utils, python3-numpy and tesseract-ocr, and says which
+isn't there.
 Words: names of tests (`take_volume.py Rounds.test_lzw`), as unittest takes them; none: all.
 """
 import csv
@@ -27,7 +28,7 @@ from vendors import sh  # noqa: E402
 TAKE, AS = (os.path.join(TOP, "tools", name) for name in ("take_volume", "volume_as"))
 MODEL = [sys.executable, os.path.join(TOP, "trials", "check_model.py"), "check", "."]
 NEEDED = {"gs": "ghostscript", "identify": "imagemagick", "img2pdf": "img2pdf", "tiffset": "libtiff-tools", "pamtotiff": "netpbm",
-          "pdfimages": "poppler-utils", "tesseract": "tesseract-ocr"}
+          "pdfimages": "poppler-utils", "tesseract": "tesseract-ocr", "f2py3": "python3-numpy"}
 BAND = 32
 os.environ["OMP_THREAD_LIMIT"] = "1"
 WHY_NOT = matter_day.why_not()

@@ -2,12 +2,10 @@
 import argparse
 import re
 
-from batch import documents, pdf_files, picture_files, tiff_files
+from batch import documents
 from batch.refused import Refused
 from batch.sources import Source, kind_of
 
-TOOLS = {"PDF": pdf_files.TOOLS, "TIFF": tiff_files.TOOLS, "PNG": picture_files.TOOLS, "JPEG": picture_files.TOOLS}
-OWN_TOOLS = ("ppmtopgm", "pgmtopbm", "pamtotiff", "pamdepth")
 AS_FINE = 1_000_000  # pixels to the inch: a picture keeps its pixels
 
 

@@ -16,7 +16,7 @@ use anyhow::Result;
 use bp_core::Refusal;
 use bp_rows::Page;
 use bp_test_words::Words;
-use bp_tiff::{read_tiff, take_tiff};
+use bp_tiff::{judge_tiff, read_tiff, take_tiff};
 use std::alloc::{AllocError, Global};
 use std::fs;
 use std::rt::Files;
@@ -107,9 +107,17 @@ fn change(bytes: &mut [u8], place: &str, words: &mut Words) {
     }
 }
 
-// The page of a file, by both readers.
+// The page of a file, by both readers, where the judge says the same.
 fn read(alloc: Global, file: Vec<u8>) -> Result<String> {
+    let judged = judge_tiff(alloc, &file);
     let lent = page_told(alloc, read_tiff(alloc, &file))?;
+    if let Err(refusal) = judged {
+        if of_refusal(alloc, refusal)? != lent {
+            return constant(alloc, "the judge differs");
+        }
+    } else if lent.as_str().starts_with("refused") {
+        return constant(alloc, "the judge passes what is refused");
+    }
     let taken = page_told(alloc, take_tiff(alloc, file))?;
     if lent == taken {
         Ok(lent)

@@ -25,6 +25,15 @@ use Rattle.bp_tiff.specs.Read.{StripHoldsRows, StripsBreak, StripsHold, TiffAnsw
 use Rattle.bp_tiff.proofs.InTurnLemmas.{refused_too}
 use Rattle.bp_tiff.proofs.OneAnswerLemmas.{HoldsIf, OneAnswer}
 
+-- what follows of a fact follows where a judge passes
+pub passes_too :
+    (P Q : Type 0) (result : Result (Unit {0}) Refusal)
+    → (P → Q)
+    → IfOk result (λ _. P)
+    → IfOk result (λ _. Q)
+passes_too P Q (Ok u) follows p = follows p
+passes_too P Q (Err refusal) follows p = tt
+
 -- ---- the rows of a strip of T.6
 
 -- so many rows of that width were read of the bits
@@ -115,17 +124,18 @@ row_fits bits width rows rule few says =
     omega (arith, few, fault_row says.fault, ap (λ (r : Rule). r.a) says.says)
 
 pub counted_fault :
-    (bits : List Bool) (width rows first : ℕ) (rule : Rule)
+    (bits : List Bool) (width rows first from : ℕ) (rule : Rule)
+    → from ≡ first
     → SaysFault bits width rows 0 rule
-    → SaysFault bits width rows first (record rule { a = first + rule.a })
-counted_fault bits width rows first rule says =
-    let row : first + (0 + says.row) ≡ first + says.row = omega arith in
+    → SaysFault bits width rows first (record rule { a = from + rule.a })
+counted_fault bits width rows first from rule is says =
+    let row : from + (0 + says.row) ≡ first + says.row = omega (arith, is) in
     record {
       kind = says.kind;
       row = says.row;
       at = says.at;
       fault = says.fault;
-      says = ap (λ (r : Rule). record r { a = first + r.a }) says.says
+      says = ap (λ (r : Rule). record r { a = from + r.a }) says.says
           ∙ ap (λ n. fault_rule says.kind n says.at) row;
     }
 
@@ -145,8 +155,8 @@ coded_strip bytes l k n strip coded s e read =
     let S : List ℕ → Type 0 = λ x. StripReads (bits_of l.coding.fill x) w (strip_rows l k) read.0 in
     let P : Bool → Type 0 =
     λ b. HoldsIf b l.coding w (strip_rows l k) (strip_bytes bytes l k) lines in
-    let holds = record { values = read.0; reads = subst S s (subst N e read.1); means = refl } in
-    (lines, subst P (sym coded) holds)
+    let reads = subst S s (subst N e read.1) in
+    (lines, subst P (sym coded) (record { values = read.0; reads = reads; means = refl }))
 
 pub packed_strip :
     (bytes : List ℕ) (l : Layout) (k n : ℕ) (strip : List ℕ)
@@ -163,8 +173,8 @@ packed_strip bytes l k n strip plain s e enough =
     let N : ℕ → Type 0 = λ m. m * row_bytes w ≤ length strip in
     let S : List ℕ → Type 0 = λ x. strip_rows l k * row_bytes w ≤ length x in
     let P : Bool → Type 0 = λ b. HoldsIf b l.coding w (strip_rows l k) own lines in
-    let holds = record { enough = subst S s (subst N e enough); means = refl } in
-    (lines, subst P (sym plain) holds)
+    let long = subst S s (subst N e enough) in
+    (lines, subst P (sym plain) (record { enough = long; means = refl }))
 
 -- ---- the strips in turn
 
@@ -199,12 +209,12 @@ one_judged bytes l k within before strip =
     record {
       holds = λ rest held.
           let P : ℕ → Type 0 = λ q. StripsHold bytes l q k (strip.0 ++ rest) in
-          let these = record { these = strip.0; rest = rest; one = strip.1; others = held; joined = refl } in
-          before.holds (strip.0 ++ rest) (subst P (sym left) these);
+          before.holds (strip.0 ++ rest)
+          (subst P (sym left) (record { these = strip.0; rest = rest; one = strip.1; others = held; joined = refl }));
       breaks = λ rule broken.
           let P : ℕ → Type 0 = λ q. StripsBreak bytes l q k rule in
-          let later = record { these = strip.0; one = strip.1; others = broken } in
-          before.breaks rule (subst P (sym left) (inr later));
+          before.breaks rule
+          (subst P (sym left) (inr (record { these = strip.0; one = strip.1; others = broken })));
     }
 
 pub all_judged :
@@ -219,14 +229,12 @@ all_judged bytes l k last before =
 -- ---- the file
 
 pub file_holds :
-    (bytes : List ℕ) (l : Layout) (result : Result (Unit {0}) Refusal)
+    (bytes : List ℕ) (l : Layout)
     → layout_of bytes ≡ Ok l
-    → IfOk result (λ _. (lines : Lines) × StripsHold bytes l l.strips.count 0 lines)
-    → IfOk result (λ _. (p : Image) × TiffReads bytes p)
-file_holds bytes l (Ok u) laid found =
-    let reads = record { layout = l; laid = laid; held = found.1; page = refl } in
-    (page_of_layout l found.0, reads)
-file_holds bytes l (Err refusal) laid found = tt
+    → (lines : Lines) × StripsHold bytes l l.strips.count 0 lines
+    → (p : Image) × TiffReads bytes p
+file_holds bytes l laid held =
+    (page_of_layout l held.0, record { layout = l; laid = laid; held = held.1; page = refl })
 
 pub file_breaks :
     (bytes : List ℕ) (l : Layout) (result : Result (Unit {0}) Refusal)

@@ -35,4 +35,4 @@ pub use layout::{Coding, Layout, Scale, Sides, Strips, read_layout};
 pub use numbers::ByteOrder;
 pub use reading::{read_tiff, take_tiff};
 pub use values::Values;
-pub use writing::{Strip, TiffParts, strip_parts, tiff_parts, write_strip, write_tiff};
+pub use writing::{Strip, TiffParts, tiff_parts, write_strip, write_tiff};

@@ -1,5 +1,5 @@
 // Page files judged: whether each holds a page, which isn't made.
-ghost use Rattle.std.specs.Prelude.{◌≡◌, ◌+◌, ◌*◌, ◌<◌, ◌≤◌, ◌^◌, ℕ, Bool, List, Result, length, IfOk, IfErr};
+ghost use Rattle.std.specs.Prelude.{◌<◌, ◌≤◌, ◌^◌, ℕ, Bool, List, Result, length, IfOk, IfErr};
 ghost use Rattle.bp_codes.specs.Span.{span_bits};
 ghost use Rattle.bp_core.specs.Answers.{Answers, IfRule};
 ghost use Rattle.bp_core.specs.declared.rules.Rule.{Rule as BrokenRule};

@@ -107,22 +107,25 @@ fn change(bytes: &mut [u8], place: &str, words: &mut Words) {
     }
 }
 
-// The page of a file, by both readers, where the judge says the same.
+// The page of a file, by both readers, of which the judge says the same.
 fn read(alloc: Global, file: Vec<u8>) -> Result<String> {
     let judged = judge_tiff(alloc, &file);
     let lent = page_told(alloc, read_tiff(alloc, &file))?;
-    if let Err(refusal) = judged {
-        if of_refusal(alloc, refusal)? != lent {
-            return constant(alloc, "the judge differs");
-        }
-    } else if lent.as_str().starts_with("refused") {
-        return constant(alloc, "the judge passes what is refused");
-    }
     let taken = page_told(alloc, take_tiff(alloc, file))?;
-    if lent == taken {
-        Ok(lent)
-    } else {
-        constant(alloc, "the two readers differ")
+    if lent != taken {
+        return constant(alloc, "the two readers differ");
+    }
+    if !is_judged_so(alloc, judged, lent.as_str())? {
+        return constant(alloc, "the judge differs from the readers");
+    }
+    Ok(lent)
+}
+
+// Whether the judge passed what was told as a page, or gave the rule that was told.
+fn is_judged_so(alloc: Global, judged: Result<(), Refusal>, told: &str) -> Result<bool> {
+    match judged {
+        Ok(()) => Ok(!told.starts_with("refused")),
+        Err(refusal) => Ok(of_refusal(alloc, refusal)?.as_str() == told),
     }
 }
 

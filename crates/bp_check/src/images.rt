@@ -16,12 +16,12 @@ use crate::refusals::ImportRefusal;
 use bp_core::{Refusal, Text, path_of};
 use bp_load::OptLine;
 use bp_outside::Source;
-use bp_tiff::read_tiff;
+use bp_tiff::judge_tiff;
 use std::alloc::Global;
 
 /// The paths of the images of all lines behind `paths`, each of which is one page. PathRefused, what
-/// `read_file` and `read_tiff` refuse; each with the line, from 1. An image is let go before the next is
-/// read.
+/// `read_file` and `judge_tiff` refuse; each with the line, from 1. An image is let go before the next
+/// is read.
 pub(crate) fn check_images<S: Source>(
     alloc: Global,
     source: &mut S,
@@ -132,8 +132,8 @@ fn check_page(alloc: Global, bytes: &[u8], number: u32) -> Result<(), ImportRefu
         → StepGives (λ _. tt) result (ok_at_line number page) }
     ensures calm { IfErr result IsCalmRefusal }
 {
-    match read_tiff(alloc, bytes) {
-        Ok(_) => Ok(()),
+    match judge_tiff(alloc, bytes) {
+        Ok(()) => Ok(()),
         Err(refusal) => Err(refused_at(refusal, number)),
     }
 }

@@ -16,7 +16,7 @@ use anyhow::Result;
 use bp_core::Refusal;
 use bp_rows::Page;
 use bp_test_words::Words;
-use bp_tiff::{read_tiff, take_tiff};
+use bp_tiff::{judge_tiff, read_tiff, take_tiff};
 use std::alloc::{AllocError, Global};
 use std::fs;
 use std::rt::Files;
@@ -107,14 +107,25 @@ fn change(bytes: &mut [u8], place: &str, words: &mut Words) {
     }
 }
 
-// The page of a file, by both readers.
+// The page of a file, by both readers, of which the judge says the same.
 fn read(alloc: Global, file: Vec<u8>) -> Result<String> {
+    let judged = judge_tiff(alloc, &file);
     let lent = page_told(alloc, read_tiff(alloc, &file))?;
     let taken = page_told(alloc, take_tiff(alloc, file))?;
-    if lent == taken {
-        Ok(lent)
-    } else {
-        constant(alloc, "the two readers differ")
+    if lent != taken {
+        return constant(alloc, "the two readers differ");
+    }
+    if !is_judged_so(alloc, judged, lent.as_str())? {
+        return constant(alloc, "the judge differs from the readers");
+    }
+    Ok(lent)
+}
+
+// Whether the judge passed what was told as a page, or gave the rule that was told.
+fn is_judged_so(alloc: Global, judged: Result<(), Refusal>, told: &str) -> Result<bool> {
+    match judged {
+        Ok(()) => Ok(!told.starts_with("refused")),
+        Err(refusal) => Ok(of_refusal(alloc, refusal)?.as_str() == told),
     }
 }
 

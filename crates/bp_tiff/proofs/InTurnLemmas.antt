@@ -2,6 +2,9 @@
 use Rattle.std.proofs.Common.{ℕ, ◌≡◌, ◌+◌, ◌-◌, ◌*◌, ◌<◌, ◌≤◌, zero, suc, Bool, true, false, List, [], ◌++◌, length, take, refl, sym, ap, subst, ◌∙◌, arith, inl, inr, ⊎_elim, append_assoc, append-nil, length-append}
 use Rattle.std.proofs.lemmas.Bool.{and_parts, cases_eq}
 use Rattle.std.proofs.lemmas.List.{length-take-le}
+use Rattle.bp_core.specs.Answers.{IfRule}
+use Rattle.bp_core.specs.declared.refusals.Refusal.{Refusal}
+use Rattle.bp_core.specs.declared.refusals.Refusal.TheVariants as refusals
 use Rattle.bp_core.specs.declared.rules.Rule.{Rule}
 use Rattle.bp_codes.specs.declared.span.Fill.TheVariants.{High}
 use Rattle.bp_codes.specs.Bits.{bits_of}
@@ -90,12 +93,27 @@ read_more bytes l k old new within some before a =
           before.breaks rule (subst P (sym left) (inr (record { these = lines_in l r a.more; one = a.holds; others = broken })));
     }
 
-pub breaks_here : (bytes : List ℕ) (l : Layout) (k : ℕ) (old : List ℕ) (rule : Rule) → k < l.strips.count → HasReadStrips bytes l k old → Breaks bytes l k rule → StripsBreak bytes l l.strips.count 0 rule
-breaks_here bytes l k old rule some before broken =
+-- a rule that one strip breaks is the first of all strips, where those before it break none
+pub breaks_here :
+    (bytes : List ℕ) (l : Layout) (k : ℕ) (rule : Rule)
+    → k < l.strips.count
+    → (StripsBreak bytes l (l.strips.count - k) k rule → StripsBreak bytes l l.strips.count 0 rule)
+    → Breaks bytes l k rule
+    → StripsBreak bytes l l.strips.count 0 rule
+breaks_here bytes l k rule some before broken =
     let n = l.strips.count in
     let left : n - k ≡ suc (n - (k + 1)) = omega arith in
     let P : ℕ → Type 0 = λ q. StripsBreak bytes l q k rule in
-    before.breaks rule (subst P (sym left) (inl broken))
+    before (subst P (sym left) (inl broken))
+
+-- what follows of a rule follows of a refusal
+pub refused_too :
+    (P Q : Rule → Type 0) (refusal : Refusal)
+    → ((rule : Rule) → P rule → Q rule)
+    → IfRule P refusal
+    → IfRule Q refusal
+refused_too P Q (refusals.Rule rule) follows p = follows rule p
+refused_too P Q refusals.OutOfMemory follows p = tt
 
 -- ---- the last one was read
 

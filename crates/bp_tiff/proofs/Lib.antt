@@ -3,6 +3,7 @@ pub mod FileLemmas
 pub mod FindingLemmas
 pub mod InTurnLemmas
 pub mod JoinedLemmas
+pub mod JudgeLemmas
 pub mod OneAnswerLemmas
 pub mod PageRuleLemmas
 pub mod ReadBackLemmas

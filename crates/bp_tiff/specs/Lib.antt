@@ -1,6 +1,7 @@
 pub mod Appending
 pub mod Directory
 pub mod Entries
+pub mod Judged
 pub mod Layout
 pub mod Numbers
 pub mod Pixels

@@ -1,5 +1,5 @@
 // The rows of the strips, put one behind another.
-ghost use Rattle.std.specs.Prelude.{◌≡◌, ◌+◌, ◌*◌, ◌≤◌, ◌<◌, ◌^◌, ◌++◌, [], length, take, drop, OnOk, IfErr};
+ghost use Rattle.std.specs.Prelude.{◌≡◌, ◌+◌, ◌*◌, ◌≤◌, ◌<◌, ◌^◌, ◌++◌, [], length, take, drop, OnOk, IfOk, IfErr};
 ghost use Rattle.bp_rows.specs.Bits.{row_bytes};
 ghost use Rattle.bp_core.specs.Answers.{IfRule};
 ghost use Rattle.bp_tiff.specs.Appending.{AppendsStrip, HasReadStrips, HoldsAll};
@@ -64,8 +64,8 @@ fn put_strip(
     }
 }
 
-// The bytes of strip k.
-fn strip_at<'a>(bytes: &'a [u8], layout: &Layout, k: u32) -> &'a [u8]
+/// The bytes of strip k.
+pub fn strip_at<'a>(bytes: &'a [u8], layout: &Layout, k: u32) -> &'a [u8]
     requires laid { IsLaid bytes.now layout.now }
     requires within { k < layout.now.strips.count }
     ensures gives { result.now ≡ strip_bytes bytes.now layout.now k }
@@ -103,10 +103,21 @@ fn put_packed(strip: &[u8], width: u32, rows: u32, out: &mut Vec<u8>) -> Result<
     ensures long { OnOk result (rows * row_bytes width ≤ length strip.now) }
     ensures refused { IfErr result (IfRule (PackedBreaks width rows strip.now)) }
 {
+    test_packed(strip, width, rows)?;
     let size = bytes_of_strip(width, rows);
-    if strip.len() < size {
+    out.extend_from_slice(&strip[..size])?;
+    Ok(())
+}
+
+/// A strip without compression has the bytes of so many rows, or is too short.
+pub fn test_packed(strip: &[u8], width: u32, rows: u32) -> Result<(), Refusal>
+    requires wide { width ≤ MAX_WIDTH }
+    requires high { rows ≤ 20032 }
+    ensures long { IfOk result (λ _. rows * row_bytes width ≤ length strip.now) }
+    ensures refused { IfErr result (IfRule (PackedBreaks width rows strip.now)) }
+{
+    if strip.len() < bytes_of_strip(width, rows) {
         return Err(Refusal::Rule(strips()));
     }
-    out.extend_from_slice(&strip[..size])?;
     Ok(())
 }

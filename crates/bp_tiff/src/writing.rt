@@ -89,26 +89,6 @@ pub fn write_strip(
         → strip.now ≡ strip_of G4 p
         → IfOk result (λ bytes. bytes ≡ tiff_of G4 p) }
 {
-    file_of_parts(strip_parts(alloc, width, height, xres, yres, unit, strip)?)
-}
-
-/// The same file in its two parts, of which the strip is lent, so that it isn't copied.
-pub fn strip_parts<'a>(
-    alloc: Global,
-    width: u32,
-    height: u32,
-    xres: Res,
-    yres: Res,
-    unit: Unit,
-    strip: &'a [u8],
-) -> Result<TiffParts<'a>, OutOfMemory>
-    requires { length strip.now < 2 ^ 32 }
-    ensures { let said : Said =
-        record { width = width; height = height; xres = xres; yres = yres; unit = unit } in
-        (p : Image) → tiff_fields p ≡ said
-        → strip.now ≡ strip_of G4 p
-        → IfOk result (λ parts. file_in parts ≡ tiff_of G4 p) }
-{
     let fields = Fields {
         width,
         height,
@@ -116,7 +96,8 @@ pub fn strip_parts<'a>(
         yres,
         unit,
     };
-    with_head(alloc, Form::G4, &fields, Strip::Lent(strip))
+    let parts = with_head(alloc, Form::G4, &fields, Strip::Lent(strip))?;
+    file_of_parts(parts)
 }
 
 // A strip, and before it what a file of these fields says of it.

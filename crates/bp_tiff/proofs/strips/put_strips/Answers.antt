@@ -1,19 +1,11 @@
 use Rattle.std.proofs.Common.{◌<◌, arith, subst, ℕ}
-use Rattle.bp_core.specs.declared.rules.Rule.{Rule}
-use Rattle.bp_core.specs.declared.refusals.Refusal.{Refusal}
-use Rattle.bp_core.specs.declared.refusals.Refusal.TheVariants as refusals
-use Rattle.bp_core.specs.Answers.{IfRule}
 use Rattle.bp_tiff.specs.Layout.{strips_due}
-use Rattle.bp_tiff.proofs.InTurnLemmas.{before_end, read_more, breaks_here, all_rows}
+use Rattle.bp_tiff.proofs.InTurnLemmas.{before_end, read_more, breaks_here, all_rows, refused_too}
 use Rattle.bp_tiff.proofs.strips.put_strips.Goals as goal
-
-refused_too : (P Q : Rule → Type 0) (e : Refusal) → ((rule : Rule) → P rule → Q rule) → IfRule P e → IfRule Q e
-refused_too P Q (refusals.Rule rule) f p = f rule p
-refused_too P Q refusals.OutOfMemory f p = tt
 
 pub returns-in-Err-clause-refused : goal.returns-in-Err-clause-refused
 returns-in-Err-clause-refused c =
-    refused_too _ _ c.in-Err.refusal (λ rule broken. breaks_here c.args.bytes.now c.args.layout.now c.loop-k.k c.loop-k.out.items rule (omega arith) c.loop-k.invariant broken)
+    refused_too _ _ c.in-Err.refusal (λ rule broken. breaks_here c.args.bytes.now c.args.layout.now c.loop-k.k rule (omega arith) (c.loop-k.invariant.breaks rule) broken)
     c.in-Err.ensures.refused
 
 pub loop-k-preserved : goal.loop-k-preserved

@@ -100,10 +100,10 @@ fn find_file<P: Shows>(
     }
 }
 
-/// The bytes of the file of that path in the volume of the production that is shown, which the tables
-/// behind it keep; or NoFile exactly where the volume has no file of that path. No file is made but the
-/// one that is asked, and for the manifest those that it digests. An image or a text is found by its
-/// label, among the files of the one item that has its number.
+/// The bytes of the file of that path in the volume of the production that is shown, which the
+/// tables behind it keep; or NoFile exactly where the volume has no file of that path. No file is
+/// made but the one that is asked, and for the manifest those that it digests. An image or a text is
+/// found by its label, among the files of the one item that has its number.
 ///
 ///     let bytes = file_of(alloc, &Covered::of(&tables, &production), &path)?;
 pub fn file_of(alloc: Global, shown: &Covered<'_>, path: &Text) -> Result<Bytes, Refusal>

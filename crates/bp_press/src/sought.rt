@@ -1,5 +1,5 @@
-// The files of a volume among which a path is sought. An image or a text is named by its label, so where
-// the path ends with a label these are the files of the one item that has its number.
+// The files of a volume among which a path is sought. An image or a text is named by its label, so
+// where the path ends with a label these are the files of the one item that has its number.
 ghost use Rattle.std.specs.Prelude.{◌≡◌, ◌≤◌, IfOk, IfSome, IsTrue, OnOk, false, true};
 ghost use Rattle.bp_bates.specs.Prefixes.{is_good_prefix};
 ghost use Rattle.bp_press.specs.Needs.{CanBePressed, IsLabelled};
@@ -64,8 +64,8 @@ fn list_holders<'p, P: Shows>(
     Ok(())
 }
 
-// Whether an item may hold the path that has this number: it has so many from its first on. Any item may
-// hold a path that has none.
+// Whether an item may hold the path that has this number: it has so many from its first on. Any item
+// may hold a path that has none.
 fn may_hold(item: &Item, count: u64, number: Option<u64>) -> bool
     ensures { result ≡ false → IsOutside number item.now.span.first count }
 {
@@ -101,8 +101,8 @@ fn has_label(path: &Text, prefix: &Prefix, number: u64) -> bool
     ends_with_label(path, prefix, number, &TEXT_END)
 }
 
-// The number that so many digits write before the end of a path. What isn't a digit is read as one: the
-// label of the number tells.
+// The number that so many digits write before the end of a path. Where no digits stand there it is
+// any number: `has_label` tells.
 fn last_number(path: &Text, width: u8) -> Option<u64> {
     let bytes = path.as_str().as_bytes();
     let width = usize::from(width);
@@ -113,6 +113,7 @@ fn last_number(path: &Text, width: u8) -> Option<u64> {
     Some(number_of(&bytes[end - width..end]))
 }
 
+// The number that digits write.
 fn number_of(digits: &[u8]) -> u64 {
     let mut number = 0u64;
     for digit in digits {

@@ -1,6 +1,6 @@
 // The files of a volume among which a path is sought. An image or a text is named by its label, so
 // where the path ends with a label these are the files of the one item that has its number.
-ghost use Rattle.std.specs.Prelude.{◌≡◌, ◌≤◌, IfOk, IfSome, IsTrue, OnOk, false, true};
+ghost use Rattle.std.specs.Prelude.{◌≡◌, IfOk, IfSome, IsTrue, OnOk, false, true};
 ghost use Rattle.bp_bates.specs.Prefixes.{is_good_prefix};
 ghost use Rattle.bp_press.specs.Needs.{CanBePressed, IsLabelled};
 ghost use Rattle.bp_press.specs.Pressing.{CanAllBePlaced, files_from};

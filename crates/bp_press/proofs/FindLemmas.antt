@@ -25,7 +25,8 @@ use Rattle.bp_freeze.specs.Log.{label_in}
 use Rattle.bp_press.specs.Manifest.{manifest_line, manifest_of}
 use Rattle.bp_press.specs.Paths.{folder_of, image_path, manifest_path, text_path}
 use Rattle.bp_press.specs.Volume.{file_at, files_before, files_of, placed_items, volume_of}
-use Rattle.bp_press.specs.VolumeFiles.{IsListed, bytes_of_entry, entry_at, entry_path, file_of_entry}
+use Rattle.bp_press.specs.Sought.{IsSought}
+use Rattle.bp_press.specs.VolumeFiles.{bytes_of_entry, entry_at, entry_path, file_of_entry}
 use Rattle.bp_press.specs.declared.volume_files.VolumeFile.{VolumeFile}
 use Rattle.bp_press.proofs.CharacterLemmas.{label_allowed}
 use Rattle.bp_press.proofs.GatherLemmas.{onto}
@@ -104,13 +105,18 @@ strips_by : (s end : List ℕ) (r : Option (Bor (List ℕ))) → MatchOption r (
 unfolding Strips
 strips_by s end r cases = strip_suffix_is Decides-eqb s end r cases
 
+pub stripped_whole : (s end : List ℕ) (r : Option (Bor (List ℕ))) (x : Bor (List ℕ)) → r ≡ Some x
+    → MatchOption r (pointwise eqb (drop (length s - length end) s) end ≡ false) (λ (x : Bor (List ℕ)). (pointwise eqb (drop (length s - length end) s) end ≡ true) × (x.now ≡ take (length s - length end) s) × (length x.now + length end ≡ length s))
+    → s ≡ x.now ++ end
+unfolding Strips
+stripped_whole s end r x is cases = subst (Strips s end) is (strips_by s end r cases)
+
 pub stripped_some : (s end front : List ℕ) (r : Option (Bor (List ℕ))) (x : Bor (List ℕ)) → r ≡ Some x → s ≡ front ++ end
     → MatchOption r (pointwise eqb (drop (length s - length end) s) end ≡ false) (λ (x : Bor (List ℕ)). (pointwise eqb (drop (length s - length end) s) end ≡ true) × (x.now ≡ take (length s - length end) s) × (length x.now + length end ≡ length s))
     → x.now ≡ front
 unfolding Strips
 stripped_some s end front r x is ends cases =
-    let stripped : s ≡ x.now ++ end = subst (Strips s end) is (strips_by s end r cases) in
-    append_cancel_right x.now front end (sym stripped ∙ ends)
+    append_cancel_right x.now front end (sym (stripped_whole s end r x is cases) ∙ ends)
 
 pub stripped_none : (s end front : List ℕ) (r : Option (Bor (List ℕ))) → r ≡ None → s ≡ front ++ end
     → MatchOption r (pointwise eqb (drop (length s - length end) s) end ≡ false) (λ (x : Bor (List ℕ)). (pointwise eqb (drop (length s - length end) s) end ≡ true) × (x.now ≡ take (length s - length end) s) × (length x.now + length end ≡ length s))
@@ -209,17 +215,24 @@ whole : (f : Production) (m : Matter) → files_before f (placed_items f m) ++ f
 unfolding volume_of files_of
 whole f m = refl
 
-pub listed_here : (path : List ℕ) (f : Production) (m : Matter) (list lent : List VolumeFile) (bytes : List ℕ) → lent ≡ list → IsListed f m list (files_before f (placed_items f m))
-    → Some bytes ≡ file_at path (map (file_of_entry f m) lent) → Some bytes ≡ file_at path (volume_of f m)
-listed_here path f m list lent bytes same h found =
-    earlier path (files_before f (placed_items f m)) (file (manifest_path f.request) (manifest_of (files_before f (placed_items f m))) ∷ []) bytes
-    (found ∙ ap (file_at path) (ap (map (file_of_entry f m)) same ∙ h.files)) ∙ ap (file_at path) (whole f m)
-
-pub listed_later : (path : List ℕ) (f : Production) (m : Matter) (list lent again : List VolumeFile) → lent ≡ list → again ≡ list → IsListed f m list (files_before f (placed_items f m))
-    → None ≡ file_at path (map (file_of_entry f m) lent)
-    → file_at path (file (manifest_path f.request) (manifest_of (map (file_of_entry f m) again)) ∷ []) ≡ file_at path (volume_of f m)
-listed_later path f m list lent again same twice h none =
+pub found_here : (path : List ℕ) (f : Production) (m : Matter) (list lent : List VolumeFile) (bytes : List ℕ)
+    → lent ≡ list
+    → IsSought f m path list (files_before f (placed_items f m))
+    → Some bytes ≡ file_at path (map (file_of_entry f m) lent)
+    → Some bytes ≡ file_at path (volume_of f m)
+found_here path f m list lent bytes same h found =
     let rows = files_before f (placed_items f m) in
-    ap (λ (files : List FileRow). file_at path (file (manifest_path f.request) (manifest_of files) ∷ [])) (ap (map (file_of_entry f m)) twice ∙ h.files)
-    ∙ later path rows (file (manifest_path f.request) (manifest_of rows) ∷ []) (none ∙ ap (file_at path) (ap (map (file_of_entry f m)) same ∙ h.files))
+    earlier path rows (file (manifest_path f.request) (manifest_of rows) ∷ []) bytes
+    (found ∙ ap (λ (l : List VolumeFile). file_at path (map (file_of_entry f m) l)) same ∙ h.found)
+    ∙ ap (file_at path) (whole f m)
+
+pub found_later : (path : List ℕ) (f : Production) (m : Matter) (list lent : List VolumeFile)
+    → lent ≡ list
+    → IsSought f m path list (files_before f (placed_items f m))
+    → None ≡ file_at path (map (file_of_entry f m) lent)
+    → file_at path (file (manifest_path f.request) (manifest_of (files_before f (placed_items f m))) ∷ []) ≡ file_at path (volume_of f m)
+found_later path f m list lent same h none =
+    let rows = files_before f (placed_items f m) in
+    later path rows (file (manifest_path f.request) (manifest_of rows) ∷ [])
+    (none ∙ ap (λ (l : List VolumeFile). file_at path (map (file_of_entry f m) l)) same ∙ h.found)
     ∙ ap (file_at path) (whole f m)

@@ -27,6 +27,7 @@ pub mod ReadLemmas
 pub mod SameLemmas
 pub mod ShownExamples
 pub mod ShownLemmas
+pub mod SoughtLemmas
 pub mod SpanLemmas
 pub mod ThreadLemmas
 pub mod TwelveExamples

@@ -12,6 +12,7 @@ pub mod Pressed
 pub mod Pressing
 pub mod ReadBack
 pub mod Shown
+pub mod Sought
 pub mod Volume
 pub mod VolumeFiles
 pub mod Writing

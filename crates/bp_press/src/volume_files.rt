@@ -100,7 +100,7 @@ fn list_items<'p, P: Shows>(
 }
 
 // Lists the files of an item: its images, and then its text.
-fn list_item<'p, P: Shows>(
+pub(crate) fn list_item<'p, P: Shows>(
     shown: &P,
     item: &'p Item,
     place: u64,

@@ -18,7 +18,7 @@ TOP = pathlib.Path(__file__).resolve().parent.parent
 
 # file, function: why the answer is made there
 MADE = {
-    ("bp_desk/src/book.rt", "call"): "the copy of the call, or room for it in the journal, was refused",
+    ("bp_book/src/book.rt", "call"): "the copy of the call, or room for it in the journal, was refused",
     ("bp_freeze/src/log.rt", "bytes_of"): "csv's writer answers an error, which in memory is want of memory",
     ("bp_freeze/src/log.rt", "put_line"): "csv's writer answers an error, which in memory is want of memory",
     ("bp_matter/src/kept_page.rt", "hold"): "Arc's own error",
@@ -47,7 +47,7 @@ SIZED = {
     ("bp_burn/src/strips.rt", "start_writer"): (["reserve(size)"], "by the sides and the stamps, which are shown"),
     ("bp_check/src/plans.rt", "load_paths"): (["with_capacity(alloc, 2)"], "two paths"),
     ("bp_check/src/records.rt", "records_of"): (["with_capacity(alloc, left.len())"], "the records of a file that the caller gave"),
-    ("bp_desk/src/book.rt", "call"): (["reserve(1)"], "one call of the journal"),
+    ("bp_book/src/book.rt", "call"): (["reserve(1)"], "one call of the journal"),
     ("bp_freeze/src/marks.rt", "no_marks"):
         (["vec![in alloc; false; documents + 1]"], "a mark for each document, for a lead who freezes"),
     ("bp_import/src/documents.rt", "empty_lists"): (["with_capacity(alloc, count)"], "the pages of the batch that the caller gave"),

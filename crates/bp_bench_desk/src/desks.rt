@@ -5,7 +5,7 @@ use crate::files::page_of;
 use crate::rows::{reviewer, rows_of};
 use anyhow::{Result, bail};
 use bp_core::{DocNo, NumberList, OutOfMemory, RowList, Text, Treatment, ascends};
-use bp_desk::{Book, MOST_CALLS};
+use bp_book::{Book, MOST_CALLS};
 use bp_keep::{Keeper, MemKeeper};
 use bp_matter::Call;
 use bp_outside::{DESK_LIMIT, Door, TcpDoor};

@@ -1,8 +1,8 @@
 -- Lemmas of serving: from what serving a matter gave to how the work of serve ends.
 use Rattle.std.proofs.Common.{ℕ, ◌≡◌, List, Option, None, Ok, Err, refl, sym, subst, ◌∙◌, sum}
 use Rattle.std.specs.Prelude.{IfSome}
-use Rattle.bp_desk.specs.Serving.{RoseBy}
-use Rattle.bp_desk.specs.declared.history.Made.{Made}
+use Rattle.bp_book.specs.Serving.{RoseBy}
+use Rattle.bp_book.specs.declared.history.Made.{Made}
 use Rattle.bp_frozen.specs.Frozen.{FreezeLaw}
 use Rattle.bp_keep.specs.Keeper.{KeeperView}
 use Rattle.bp_matter.specs.KeptRows.{rows_of}

@@ -5,10 +5,10 @@ use Rattle.std.specs.Str.{bytes_eq}
 use Rattle.bp_core.specs.Counts.{risen}
 use Rattle.bp_core.specs.declared.kept.Row.{Row}
 use Rattle.bp_core.specs.declared.rules.Rule.{Rule}
-use Rattle.bp_desk.specs.Calls.{run_calls}
-use Rattle.bp_desk.specs.Serving.{RoseBy}
-use Rattle.bp_desk.specs.declared.history.Made.{Made}
-use Rattle.bp_desk.specs.declared.history.TheConstants.{MOST_CALLS}
+use Rattle.bp_book.specs.Calls.{run_calls}
+use Rattle.bp_book.specs.Serving.{RoseBy}
+use Rattle.bp_book.specs.declared.history.Made.{Made}
+use Rattle.bp_book.specs.declared.history.TheConstants.{MOST_CALLS}
 use Rattle.bp_frozen.specs.Frozen.{FreezesStand}
 use Rattle.bp_keep.specs.Keeper.{KeeperView}
 use Rattle.bp_matter.specs.Matter.{Matter}

@@ -29,7 +29,7 @@ use crate::serve::{ServeLine, Service, serve, serve_in};
 use crate::statuses::OUT_OF_MEMORY;
 use crate::stops::Stop;
 use bp_core::Bytes;
-use bp_desk::History;
+use bp_book::History;
 use bp_import::one_batch;
 use bp_keep::Keeper;
 use bp_matter::laws::rows_law;

@@ -7,7 +7,7 @@ ghost use Rattle.bp_cli.specs.ServeSteps.{SaysServed, ServesAnyhow};
 use crate::stops::Stop;
 use crate::words::number_in;
 use bp_core::{Bytes, OutOfMemory};
-use bp_desk::{Closed, History};
+use bp_book::{Closed, History};
 use bp_frozen::freezes_stand;
 use bp_keep::Keeper;
 use bp_outside::Door;

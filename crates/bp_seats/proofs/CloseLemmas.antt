@@ -8,17 +8,17 @@ use lib.Dec.{leb}
 use Rattle.std.proofs.lemmas.Bool.{cond_both}
 use Rattle.std.proofs.lemmas.List.Elements.{All-cons, All-head, All-nil, All-tail, All-weaker}
 use Rattle.atomic_table.specs.Table.{Final, Me, Seen, State}
-use Rattle.bp_desk.specs.Books.{StaysWith}
-use Rattle.bp_desk.specs.Calls.{run_calls}
+use Rattle.bp_book.specs.Books.{StaysWith}
+use Rattle.bp_book.specs.Calls.{run_calls}
 use Rattle.bp_seats.specs.Calls.{Begins}
 use Rattle.bp_seats.specs.Closing.{Ended, Gathered, Gathering, PeerTold, Told, joined}
 use Rattle.bp_keep.specs.Keeper.{KeeperView}
 use Rattle.bp_matter.specs.Matter.{Matter}
 use Rattle.bp_rules.specs.Steps.{KeepsRows}
 use Rattle.bp_seats.specs.Seats.{AreSeats, SeatsClose, Desked, Met, Rests, SeatCloses, SeatView, seat_number, seat_view}
-use Rattle.bp_desk.specs.Shown.{BookView}
+use Rattle.bp_book.specs.Shown.{BookView}
 use Rattle.bp_seats.specs.Turns.{Fits, IsSeatCaller, IsHome, PeerFits, Ruled, Settled, before, both, times_held, longer, peer_of, raised_by, times, total}
-use Rattle.bp_desk.specs.declared.history.Made.{Made}
+use Rattle.bp_book.specs.declared.history.Made.{Made}
 use Rattle.bp_seats.specs.declared.views.Opening.{Opening}
 use Rattle.bp_seats.specs.declared.views.Peer.{Peer}
 use Rattle.bp_seats.specs.declared.views.View.{View}

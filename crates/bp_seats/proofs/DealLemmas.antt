@@ -9,10 +9,10 @@ use Rattle.std.proofs.lemmas.List.Elements.{All-append, All-cons, All-nil, All-w
 use Rattle.atomic_table.specs.Table.{Allows, Joins, Me, Splits, Step, keeps, opening}
 use Rattle.atomic_table.proofs.Lists.{at_set}
 use Rattle.bp_seats.specs.Calls.{Begins, calls_by}
-use Rattle.bp_desk.specs.Books.{StaysWith}
-use Rattle.bp_desk.specs.Shown.{BookView}
+use Rattle.bp_book.specs.Books.{StaysWith}
+use Rattle.bp_book.specs.Shown.{BookView}
 use Rattle.bp_seats.specs.Turns.{Fits, IsSeatCaller, IsHome, BookIsOut, PeerFits, Ruled, before, both, dealer, dealt, first_view, times_held, longer, note_of, peer_number, peer_of, raised_by, settled, spent, times, total}
-use Rattle.bp_desk.specs.declared.history.Made.{Made}
+use Rattle.bp_book.specs.declared.history.Made.{Made}
 use Rattle.bp_seats.specs.declared.views.Opening.{Opening}
 use Rattle.bp_seats.specs.declared.views.Peer.{Peer}
 use Rattle.bp_seats.specs.declared.views.View.{View}

@@ -4,8 +4,8 @@ use Rattle.std.proofs.lemmas.Bool.{false≢true}
 use Rattle.bp_keep.specs.Keeper.{KeeperView}
 use Rattle.bp_matter.specs.declared.calls.Call.TheVariants as calls
 use Rattle.bp_rules.specs.Stepping.{step_of}
-use Rattle.bp_desk.specs.Calls.{made_by}
-use Rattle.bp_desk.specs.declared.history.Made.{Made}
+use Rattle.bp_book.specs.Calls.{made_by}
+use Rattle.bp_book.specs.declared.history.Made.{Made}
 use Rattle.bp_seats.specs.Calls.{Begins, calls_by}
 use Rattle.bp_seats.specs.Laws.{start_faults}
 use Rattle.bp_seats.specs.Seats.{AltersAfter}

@@ -7,9 +7,9 @@ use Rattle.std.proofs.lemmas.Bool.{leb-true, leb-false, cond_both}
 use Rattle.std.proofs.lemmas.List.Elements.{All-weaker, All-head, All-tail, filter-append}
 use lib.Dec.{leb}
 use Rattle.bp_seats.specs.Calls.{Begins, calls_by, is_by}
-use Rattle.bp_desk.specs.History.{AreOthers}
+use Rattle.bp_book.specs.History.{AreOthers}
 use Rattle.bp_seats.specs.Turns.{IsSeatCaller, longer}
-use Rattle.bp_desk.specs.declared.history.Made.{Made}
+use Rattle.bp_book.specs.declared.history.Made.{Made}
 
 pub begins-refl : (xs : List Made) → Begins xs xs
 begins-refl xs = ([], sym (append-nil xs))

@@ -28,8 +28,8 @@ use Rattle.bp_matter.specs.contracts.rows.BatchRow as batch_row
 use Rattle.bp_matter.specs.contracts.rows.PageWords as page_words
 use Rattle.bp_matter.specs.contracts.calls.Call as call
 use Rattle.bp_matter.specs.contracts.tables.Tables as tables
-use Rattle.bp_desk.specs.contracts.history.Made as made
-use Rattle.bp_desk.specs.contracts.book.Book as book
+use Rattle.bp_book.specs.contracts.history.Made as made
+use Rattle.bp_book.specs.contracts.book.Book as book
 use Rattle.bp_keep.specs.declared.keeper.Keeper as keeper
 use Rattle.atomic_table.specs.declared.shared.TableRule as rule
 use Rattle.atomic_table.proofs.shared.Seat.TheSendSync as place

@@ -1,6 +1,6 @@
 -- The calls of one seat in a history, and how histories begin.
 use Rattle.std.specs.Prelude.{◌≡◌, ◌==◌, ℕ, Bool, List, ◌++◌, filter}
-use Rattle.bp_desk.specs.declared.history.Made.{Made}
+use Rattle.bp_book.specs.declared.history.Made.{Made}
 
 -- whether a seat made the call
 abbrev pub is_by : ℕ → Made → Bool

@@ -2,10 +2,10 @@
 use Rattle.std.specs.Prelude.{◌≡◌, ℕ, ◌+◌, ◌≤◌, false, List, [], ◌∷◌, ◌++◌, length, All}
 use Rattle.bp_seats.specs.Calls.{Begins, calls_by}
 use Rattle.bp_seats.specs.Seats.{Desked, SeatView}
-use Rattle.bp_desk.specs.Books.{StaysWith}
-use Rattle.bp_desk.specs.Shown.{BookView}
+use Rattle.bp_book.specs.Books.{StaysWith}
+use Rattle.bp_book.specs.Shown.{BookView}
 use Rattle.bp_seats.specs.Turns.{IsSeatCaller, both}
-use Rattle.bp_desk.specs.declared.history.Made.{Made}
+use Rattle.bp_book.specs.declared.history.Made.{Made}
 use Rattle.bp_seats.specs.declared.views.Peer.{Peer}
 use Rattle.bp_seats.specs.declared.views.View.{View}
 

@@ -7,13 +7,13 @@ use Rattle.bp_rules.specs.Loading.{LoadsTables}
 use Rattle.bp_rules.specs.Steps.{KeepsRows}
 use Rattle.bp_rules.specs.declared.refusals.MatterRefusal.{MatterRefusal}
 use Rattle.bp_rules.specs.declared.refusals.MatterRefusal.TheVariants as refusals
-use Rattle.bp_desk.specs.Books.{Opens, StaysWith}
-use Rattle.bp_desk.specs.Calls.{run_calls}
-use Rattle.bp_desk.specs.Run.{DoorServed}
-use Rattle.bp_desk.specs.Serving.{Knocks, RoseBy}
-use Rattle.bp_desk.specs.Shown.{BookView}
-use Rattle.bp_desk.specs.declared.history.Made.{Made}
-use Rattle.bp_desk.specs.declared.history.TheConstants.{MOST_CALLS}
+use Rattle.bp_book.specs.Books.{Opens, StaysWith}
+use Rattle.bp_book.specs.Calls.{run_calls}
+use Rattle.bp_book.specs.Run.{DoorServed}
+use Rattle.bp_book.specs.Serving.{Knocks, RoseBy}
+use Rattle.bp_book.specs.Shown.{BookView}
+use Rattle.bp_book.specs.declared.history.Made.{Made}
+use Rattle.bp_book.specs.declared.history.TheConstants.{MOST_CALLS}
 use Rattle.bp_seats.specs.Seats.{SeatView}
 use Rattle.bp_seats.specs.Serving.{ServesFor}
 use Rattle.bp_seats.specs.Turns.{IsSeatCaller}

@@ -1,8 +1,8 @@
--- Serving doors at the seats of a desk, by what bp_desk says of serving a door.
+-- Serving doors at the seats of a desk, by what bp_book says of serving a door.
 use Rattle.std.specs.Prelude.{◌≡◌, ℕ, ◌-◌, ◌^◌, nat_le, if◌then◌else◌}
 use Rattle.bp_outside.specs.Door.{DoorView}
-use Rattle.bp_desk.specs.History.{HistoryView}
-use Rattle.bp_desk.specs.Serving.{Knocks, ServesCallDoor}
+use Rattle.bp_book.specs.History.{HistoryView}
+use Rattle.bp_book.specs.Serving.{Knocks, ServesCallDoor}
 use Rattle.bp_seats.specs.Calls.{calls_by}
 use Rattle.bp_seats.specs.Seats.{SameSeat, SeatView}
 use Rattle.bp_seats.specs.declared.views.View.{View}

@@ -1,7 +1,7 @@
 // The calls of a door are made at a seat.
 use crate::desk::Desk;
 use crate::seat::Seat;
-use bp_desk::{Caller, DeskRefusal};
+use bp_book::{Caller, DeskRefusal};
 use bp_keep::Keeper;
 use bp_matter::{Call, Reply};
 use std::alloc::Global;

@@ -7,7 +7,7 @@ ghost use Rattle.bp_seats.specs.Turns.{times_held};
 use crate::desk::{Desk, DeskOf};
 use crate::seat::{Place, Seat, SeatOf};
 use crate::turns::{BOOK, Meets};
-use bp_desk::{Book, Closed};
+use bp_book::{Book, Closed};
 use bp_keep::Keeper;
 use std::alloc::Global;
 

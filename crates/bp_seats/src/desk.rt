@@ -1,7 +1,7 @@
 // The desk that several seats share: a call waits for the turn, makes it at the book, and leaves it.
 ghost use Rattle.std.specs.Prelude.{◌≡◌, ◌<◌, false, true, [], ◌∷◌, None, length};
-ghost use Rattle.bp_desk.specs.Books.{is_made};
-ghost use Rattle.bp_desk.specs.Calls.{made_by};
+ghost use Rattle.bp_book.specs.Books.{is_made};
+ghost use Rattle.bp_book.specs.Calls.{made_by};
 ghost use Rattle.bp_seats.specs.Seats.{Brings, Calls, IsSeatOf, Remains, Rests, SameSeat, Taken, Tried, grown_if};
 ghost use Rattle.bp_seats.specs.Turns.{freed, grown, with_count};
 
@@ -9,7 +9,7 @@ use crate::seat::{Place, Seat};
 use crate::turns::{BOOK, COUNT, Counts, FAULTS, Leaves, Said, TURN, Takes, Tells, Turns};
 use crate::views::{Opening, View};
 use atomic_table::{Table, TableRule};
-use bp_desk::{Book, DeskRefusal};
+use bp_book::{Book, DeskRefusal};
 use bp_keep::Keeper;
 use bp_matter::{Call, Reply};
 use std::alloc::Global;

@@ -6,7 +6,7 @@ ghost use Rattle.bp_seats.specs.Serving.{ServesFor};
 use crate::callers::AtSeat;
 use crate::desk::Desk;
 use crate::seat::{Seat, SeatOf};
-use bp_desk::{Book, serve_by};
+use bp_book::{Book, serve_by};
 use bp_keep::Keeper;
 use bp_outside::Door;
 use std::alloc::Global;

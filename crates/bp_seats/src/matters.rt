@@ -1,8 +1,8 @@
 // Serving a matter: a desk over the rows of a keeper, from its start to its end.
 ghost use Rattle.std.specs.Prelude.{◌≡◌, ◌+◌, ◌<◌, ◌≤◌, [], length, map, vec_capacity, IfErr, IfOk};
 ghost use Rattle.bp_keep.specs.Keeper.{KeeperView};
-ghost use Rattle.bp_desk.specs.Books.{Opens};
-ghost use Rattle.bp_desk.specs.declared.history.TheConstants.{MOST_CALLS};
+ghost use Rattle.bp_book.specs.Books.{Opens};
+ghost use Rattle.bp_book.specs.declared.history.TheConstants.{MOST_CALLS};
 ghost use Rattle.bp_seats.specs.Matters.{ServesMatter, ServesNone, ServesPosts, post_seat};
 ghost use Rattle.bp_seats.specs.Seats.{AreSeats, SeatsClose, all_fresh};
 
@@ -11,7 +11,7 @@ use crate::doors::{Post, serve_all};
 use crate::posts::{Hall, paired, parted};
 use crate::seat::Seat;
 use crate::starting::Started;
-use bp_desk::{Closed, MOST_CALLS, NotStarted};
+use bp_book::{Closed, MOST_CALLS, NotStarted};
 use bp_keep::Keeper;
 use bp_outside::Door;
 use bp_rules::MatterRefusal;

@@ -4,7 +4,7 @@ ghost use Rattle.std.specs.Prelude.{◌≡◌, ◌≤◌};
 ghost use Rattle.bp_seats.specs.Calls.{calls_by};
 
 use crate::views::View;
-use bp_desk::Book;
+use bp_book::Book;
 use std::marker::Model;
 
 /// A place at the table, and what is known there.

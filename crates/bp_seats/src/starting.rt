@@ -1,7 +1,7 @@
 // A desk starts with its seats.
 ghost use Rattle.std.specs.Prelude.{◌≡◌, ◌<◌, ◌≤◌, [], ◌∷◌, Some, vec_capacity, Err, IfErr, IfOk};
 ghost use Rattle.bp_rules.specs.Loading.{LoadsTables};
-ghost use Rattle.bp_desk.specs.declared.history.TheConstants.{MOST_CALLS};
+ghost use Rattle.bp_book.specs.declared.history.TheConstants.{MOST_CALLS};
 ghost use Rattle.bp_seats.specs.Seats.{Begun, IsMade, IsOver, all_fresh, fresh};
 
 use crate::desk::{Desk, DeskOf, MOST_SEATS};
@@ -9,7 +9,7 @@ use crate::seat::{Place, Seat, SeatOf};
 use crate::turns::Deals;
 use crate::views::Opening;
 use atomic_table::Table;
-use bp_desk::{Book, Closed, MOST_CALLS, NotStarted};
+use bp_book::{Book, Closed, MOST_CALLS, NotStarted};
 use bp_keep::Keeper;
 use bp_rules::MatterRefusal;
 use std::alloc::Global;

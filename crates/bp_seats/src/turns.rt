@@ -4,7 +4,7 @@
 // the keeper's count of faults. The slot has the book, which who holds the turn has taken out.
 use crate::views::{Opening, View};
 use atomic_table::{Join, Play, Split, TableRule};
-use bp_desk::{Book, Made};
+use bp_book::{Book, Made};
 use bp_keep::Keeper;
 use std::marker::{Brand, PhantomData};
 
@@ -38,7 +38,7 @@ impl<K: Keeper> Play<Option<Book<K>>, View> for Takes {
 
 // Which call is made. A call at `Brand` picks it.
 pub(crate) trait Said {
-    ghost use Rattle.bp_desk.specs.declared.history.Made.{Made};
+    ghost use Rattle.bp_book.specs.declared.history.Made.{Made};
 
     ghost made: { Made };
 }

@@ -1,5 +1,5 @@
 // What the seats of a desk know. Values of these types are made in proofs alone, but for `Opening`.
-use bp_desk::Made;
+use bp_book::Made;
 use bp_matter::Tables;
 use std::collections::LinkedList;
 use std::marker::Model;

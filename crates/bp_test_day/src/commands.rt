@@ -14,7 +14,7 @@ use crate::told::{constant, unread};
 use anyhow::Result;
 use bp_cli::run::{Ended, run};
 use bp_core::{Bytes, ListOf, NumberList, RowList};
-use bp_desk::History;
+use bp_book::History;
 use bp_keep::MemKeeper;
 use bp_outside::{MemDoor, MemFolder, MemOut, MemSource};
 use bp_test_words::{Words, escaped};

@@ -3,7 +3,7 @@ use crate::page_file::WHITE;
 use crate::programs::words_of;
 use bp_cli::run::{Ended, run};
 use bp_core::{Bytes, DocNo, NumberList, Text, Treatment};
-use bp_desk::History;
+use bp_book::History;
 use bp_keep::Keeper;
 use bp_keep_sql::SqlKeeper;
 use bp_matter::Call;

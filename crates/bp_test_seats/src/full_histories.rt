@@ -7,7 +7,7 @@ use crate::matters::called;
 use crate::replies::make;
 use crate::stage::{close_pair, start_pair};
 use bp_core::{Bytes, NumberList};
-use bp_desk::DeskRefusal;
+use bp_book::DeskRefusal;
 use bp_keep::MemKeeper;
 use bp_outside::{BytesList, MemDoor};
 use bp_seats::{Desk, Seat, serve_door};

@@ -4,7 +4,7 @@ ghost use Rattle.bp_seats.specs.Seats.{IsSeatOf, SameSeat};
 
 use crate::calls::box_of;
 use crate::matters::KEY;
-use bp_desk::DeskRefusal;
+use bp_book::DeskRefusal;
 use bp_keep::MemKeeper;
 use bp_matter::{Call, Production, Reply};
 use bp_seats::{Desk, Seat};

@@ -1,5 +1,5 @@
 use Rattle.std.proofs.Common.{subst, sym}
-use Rattle.bp_desk.specs.Serving.{ServesCallDoor}
+use Rattle.bp_book.specs.Serving.{ServesCallDoor}
 use Rattle.bp_seats.specs.Seats.{SameSeat, SeatView}
 use Rattle.bp_seats.specs.Serving.{history_at}
 use Rattle.bp_seats.proofs.SeatLemmas.{same_not}

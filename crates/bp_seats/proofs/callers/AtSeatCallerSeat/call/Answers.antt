@@ -1,6 +1,6 @@
 use Rattle.std.proofs.Common.{ℕ, refl, subst}
-use Rattle.bp_desk.specs.Calls.{made_by}
-use Rattle.bp_desk.specs.Exchanges.{CallsAt}
+use Rattle.bp_book.specs.Calls.{made_by}
+use Rattle.bp_book.specs.Exchanges.{CallsAt}
 use Rattle.bp_seats.specs.Serving.{history_at}
 use Rattle.bp_seats.proofs.SeatLemmas.{calls_at, same_twice, still_of}
 use Rattle.bp_seats.proofs.callers.AtSeatCallerSeat.call.Goals as goal

@@ -1,4 +1,4 @@
-use Rattle.bp_desk.specs.Calls.{made_by}
+use Rattle.bp_book.specs.Calls.{made_by}
 use Rattle.bp_seats.proofs.desk.Desk+K.count_made.Given as goal
 
 abbrev pub ghosts-count : goal.ghosts-count

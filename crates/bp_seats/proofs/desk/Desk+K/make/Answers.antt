@@ -1,6 +1,6 @@
 use Rattle.std.proofs.Common.{[], sym, ap, ◌∙◌}
-use Rattle.bp_desk.specs.Books.{is_made}
-use Rattle.bp_desk.specs.Calls.{made_by}
+use Rattle.bp_book.specs.Books.{is_made}
+use Rattle.bp_book.specs.Calls.{made_by}
 use Rattle.bp_seats.specs.Seats.{grown_if}
 use Rattle.bp_seats.specs.Turns.{freed, with_count}
 use Rattle.bp_seats.proofs.TurnLemmas.{brings_as, calls_as, has_room_as, rests_after, same_as}

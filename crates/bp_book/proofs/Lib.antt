@@ -1,7 +1,3 @@
 pub mod BookLemmas
 mod Examples
-pub mod ExchangeLemmas
 pub mod HistoryLemmas
-pub mod RunLemmas
-pub mod ServedLemmas
-pub mod ServingLemmas

@@ -180,8 +180,8 @@ fn answer_of_step(stepped: Result<Reply, MatterRefusal>) -> Result<Reply, DeskRe
     }
 }
 
-// Whether a call stands in the history after this answer.
-pub(crate) fn is_made(answer: &Result<Reply, DeskRefusal>) -> bool
+/// Whether a call stands in the history after this answer.
+pub fn is_made(answer: &Result<Reply, DeskRefusal>) -> bool
     ensures { result ≡ is_made answer.now }
 {
     matches!(answer, Ok(_) | Err(DeskRefusal::Rule(_)))

@@ -1,23 +1,14 @@
-//! The desk: calls to one history, and the doors that they come through.
+//! The book of a matter: calls to one history, each kept before it is answered.
 //!
 //! A `Book` has the tables of a matter, their keeper and the journal of the calls that were made:
-//! `Book::start` first, then `Book::call`, and `Book::end`. `serve_by` serves a door by whoever makes
-//! its calls (`Caller`). What a call does is `BookCalls` of
-//! specs/Books.antt; what serving comes to is `ServesDoor` of specs/Serving.antt, whose heart is
-//! `Served` of specs/Served.antt.
+//! `Book::start` first, then `Book::call`, and `Book::end`. What a call does is `BookCalls` of
+//! specs/Books.antt; what the calls come to is `run_calls` of specs/Calls.antt.
 #![tactic(auto)]
 
-mod accepts;
 mod book;
-mod callers;
-mod handler;
 mod history;
-pub mod laws;
 mod refusals;
-mod replies;
 
-pub use accepts::serve_by;
-pub use book::{Book, Closed, NotStarted};
-pub use callers::Caller;
+pub use book::{Book, Closed, NotStarted, is_made};
 pub use history::{History, MOST_CALLS, Made};
 pub use refusals::DeskRefusal;

@@ -114,7 +114,10 @@ fn words_that_the_system_does_not_give_are_told_apart(rt: HostRuntime) -> Result
         ),
     ] {
         let doors = Ok(Vec::new(alloc));
-        let (opened, answer) = (Connection::open_in_memory(alloc), Err(io::Error::from(kind)));
+        let (opened, answer) = (
+            Connection::open_in_memory(alloc),
+            Err(io::Error::from(kind)),
+        );
         check(&rt, alloc, opened, doors, answer, ends, &[])?;
     }
     Ok(())

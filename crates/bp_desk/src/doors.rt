@@ -3,13 +3,14 @@ ghost use Rattle.std.specs.Prelude.{◌≡◌, ℕ, ◌<◌, All, length, slice_
 ghost use Rattle.bp_desk.specs.Seats.{IsSeatOf};
 ghost use Rattle.bp_desk.specs.Doors.{ServesFor};
 
-use crate::accepts::serve_by;
-use crate::callers::AtSeat;
 use crate::desk::Desk;
+use crate::handler::SeatHandler;
 use crate::seat::{Seat, SeatOf};
 use bp_book::Book;
+use bp_doors::serve;
 use bp_keep::Keeper;
 use bp_outside::Door;
+use bp_web::RouteTable;
 use std::alloc::Global;
 use std::snapshot::Snapshot;
 use std::sync::Wait;
@@ -41,8 +42,16 @@ pub fn serve_door<K: Keeper, D: Door, R: Wait>(
     ensures { ServesFor D.shows connections seat.old door.old seat.new door.new }
 {
     let start = Snapshot::of(seat);
-    let caller = AtSeat { desk, rt, start };
-    serve_by(alloc, &caller, seat, door, connections);
+    // Where there is no memory for the routes, each request is read by some of its own.
+    let routes = RouteTable::new(alloc).ok();
+    let handler = SeatHandler {
+        desk,
+        rt,
+        start,
+        routes,
+    };
+    let mut nothing = ();
+    let _calls = serve(alloc, &handler, seat, &mut nothing, door, connections);
     seat.know_own();
 }
 

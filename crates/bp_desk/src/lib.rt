@@ -8,8 +8,6 @@
 //! specs/Serving.antt, whose heart is `Served` of specs/Served.antt.
 #![tactic(auto)]
 
-mod accepts;
-mod callers;
 mod closing;
 mod desk;
 mod doors;

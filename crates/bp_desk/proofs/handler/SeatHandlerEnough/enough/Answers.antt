@@ -1,5 +1,5 @@
 use Rattle.bp_desk.proofs.ExchangeLemmas.{tells}
-use Rattle.bp_desk.proofs.handler.CallHandlerEnough.enough.Goals as goal
+use Rattle.bp_desk.proofs.handler.SeatHandlerEnough.enough.Goals as goal
 
 pub returns-clause-told : goal.returns-clause-told
 returns-clause-told g c =

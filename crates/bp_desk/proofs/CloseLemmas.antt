@@ -15,10 +15,10 @@ use Rattle.bp_desk.specs.Closing.{Ended, Gathered, Gathering, PeerTold, Told, jo
 use Rattle.bp_keep.specs.Keeper.{KeeperView}
 use Rattle.bp_matter.specs.Matter.{Matter}
 use Rattle.bp_rules.specs.Steps.{KeepsRows}
-use Rattle.bp_desk.specs.Seats.{AreSeats, SeatsClose, Desked, Met, Rests, SeatCloses, SeatView, seat_number, seat_view}
 use Rattle.bp_book.specs.Shown.{BookView}
-use Rattle.bp_desk.specs.Turns.{Fits, IsSeatCaller, IsHome, PeerFits, Ruled, Settled, before, both, times_held, longer, peer_of, raised_by, times, total}
 use Rattle.bp_book.specs.declared.history.Made.{Made}
+use Rattle.bp_desk.specs.Seats.{AreSeats, SeatsClose, Desked, Met, Rests, SeatCloses, SeatView, seat_number, seat_view}
+use Rattle.bp_desk.specs.Turns.{Fits, IsSeatCaller, IsHome, PeerFits, Ruled, Settled, before, both, times_held, longer, peer_of, raised_by, times, total}
 use Rattle.bp_desk.specs.declared.views.Opening.{Opening}
 use Rattle.bp_desk.specs.declared.views.Peer.{Peer}
 use Rattle.bp_desk.specs.declared.views.View.{View}

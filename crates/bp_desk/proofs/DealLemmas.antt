@@ -8,11 +8,11 @@ use Rattle.std.proofs.lemmas.Bool.{cases_eq}
 use Rattle.std.proofs.lemmas.List.Elements.{All-append, All-cons, All-nil, All-weaker}
 use Rattle.atomic_table.specs.Table.{Allows, Joins, Me, Splits, Step, keeps, opening}
 use Rattle.atomic_table.proofs.Lists.{at_set}
-use Rattle.bp_desk.specs.Calls.{Begins, calls_by}
 use Rattle.bp_book.specs.Books.{StaysWith}
 use Rattle.bp_book.specs.Shown.{BookView}
-use Rattle.bp_desk.specs.Turns.{Fits, IsSeatCaller, IsHome, BookIsOut, PeerFits, Ruled, before, both, dealer, dealt, first_view, times_held, longer, note_of, peer_number, peer_of, raised_by, settled, spent, times, total}
 use Rattle.bp_book.specs.declared.history.Made.{Made}
+use Rattle.bp_desk.specs.Calls.{Begins, calls_by}
+use Rattle.bp_desk.specs.Turns.{Fits, IsSeatCaller, IsHome, BookIsOut, PeerFits, Ruled, before, both, dealer, dealt, first_view, times_held, longer, note_of, peer_number, peer_of, raised_by, settled, spent, times, total}
 use Rattle.bp_desk.specs.declared.views.Opening.{Opening}
 use Rattle.bp_desk.specs.declared.views.Peer.{Peer}
 use Rattle.bp_desk.specs.declared.views.View.{View}

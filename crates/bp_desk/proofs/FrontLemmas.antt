@@ -6,10 +6,10 @@ use mathlib.Core.List.{append-nil}
 use Rattle.std.proofs.lemmas.Bool.{leb-true, leb-false, cond_both}
 use Rattle.std.proofs.lemmas.List.Elements.{All-weaker, All-head, All-tail, filter-append}
 use lib.Dec.{leb}
-use Rattle.bp_desk.specs.Calls.{Begins, calls_by, is_by}
 use Rattle.bp_book.specs.History.{AreOthers}
-use Rattle.bp_desk.specs.Turns.{IsSeatCaller, longer}
 use Rattle.bp_book.specs.declared.history.Made.{Made}
+use Rattle.bp_desk.specs.Calls.{Begins, calls_by, is_by}
+use Rattle.bp_desk.specs.Turns.{IsSeatCaller, longer}
 
 pub begins-refl : (xs : List Made) → Begins xs xs
 begins-refl xs = ([], sym (append-nil xs))

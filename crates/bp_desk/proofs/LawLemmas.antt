@@ -10,12 +10,12 @@ use Rattle.bp_core.specs.declared.rules.Rule.{Rule}
 use Rattle.bp_matter.specs.Matter.{Matter}
 use Rattle.bp_rules.specs.Running.{run_of, to_call}
 use Rattle.bp_rules.specs.Stepping.{Stepped, step_of}
-use Rattle.bp_desk.proofs.RunLemmas.{seat_law}
 use Rattle.bp_book.specs.Calls.{matter_by}
 use Rattle.bp_book.specs.History.{AreOthers}
+use Rattle.bp_book.specs.declared.history.Made.{Made}
+use Rattle.bp_desk.proofs.RunLemmas.{seat_law}
 use Rattle.bp_desk.specs.Run.{DoorServed}
 use Rattle.bp_desk.specs.Serving.{RoseBy, raised}
-use Rattle.bp_book.specs.declared.history.Made.{Made}
 use Rattle.bp_desk.specs.Calls.{calls_by}
 use Rattle.bp_desk.specs.Laws.{DoorLaw, FaultsLaw, FaultsRose, RunLaw, SameSeats, SeatsLaw, start_faults, step_without_desk}
 use Rattle.bp_desk.specs.Seats.{Desked, IsSeatOf, SeatCloses, SeatView, all_fresh, fresh, fresh_with, others, seat_number, seat_view}

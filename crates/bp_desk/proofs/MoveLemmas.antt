@@ -10,11 +10,11 @@ use Rattle.std.proofs.lemmas.Bool.{cases_Bool}
 use Rattle.std.proofs.lemmas.List.Elements.{All-nil, All-push, All-same, All-weaker}
 use Rattle.atomic_table.specs.Table.{Act, Allows, Me, Step, Valid, carried_after, gives, homes_after, keeps, takes}
 use Rattle.atomic_table.proofs.Lists.{at_set}
-use Rattle.bp_desk.specs.Calls.{Begins, calls_by}
 use Rattle.bp_book.specs.Books.{StaysWith}
 use Rattle.bp_book.specs.Shown.{BookView}
-use Rattle.bp_desk.specs.Turns.{Fits, IsSeatCaller, IsHome, BookIsOut, PeerFits, Ruled, StaysAs, began_with, counted, freed, grown, times_held, peer_number, raised_by, released, taking, told_number, tried, with_count}
 use Rattle.bp_book.specs.declared.history.Made.{Made}
+use Rattle.bp_desk.specs.Calls.{Begins, calls_by}
+use Rattle.bp_desk.specs.Turns.{Fits, IsSeatCaller, IsHome, BookIsOut, PeerFits, Ruled, StaysAs, began_with, counted, freed, grown, times_held, peer_number, raised_by, released, taking, told_number, tried, with_count}
 use Rattle.bp_keep.specs.Keeper.{KeeperView}
 use Rattle.bp_desk.specs.declared.views.KeeperBegan.{KeeperBegan}
 use Rattle.bp_desk.specs.declared.views.Opening.{Opening}

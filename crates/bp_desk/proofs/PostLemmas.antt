@@ -9,11 +9,11 @@ use Rattle.bp_keep.specs.Keeper.{KeeperView}
 use Rattle.bp_matter.specs.Matter.{Matter}
 use Rattle.bp_outside.specs.Door.{DoorView}
 use Rattle.bp_book.specs.Books.{Opens}
-use Rattle.bp_desk.specs.Run.{DoorServed}
-use Rattle.bp_desk.specs.Serving.{RoseBy}
 use Rattle.bp_book.specs.Shown.{BookView}
 use Rattle.bp_book.specs.declared.history.Made.{Made}
 use Rattle.bp_book.specs.declared.history.TheConstants.{MOST_CALLS}
+use Rattle.bp_desk.specs.Run.{DoorServed}
+use Rattle.bp_desk.specs.Serving.{RoseBy}
 use Rattle.bp_desk.specs.Laws.{FaultsRose, SameSeats, start_faults}
 use Rattle.bp_desk.specs.Matters.{ArePaired, AreServed, IsServed, ServeEach, ServesMatter, ServesPosts, post_door, post_seat}
 use Rattle.bp_desk.specs.Seats.{AreSeats, SeatsClose, Desked, IsSeatOf, SeatCloses, SeatView, all_fresh, fresh_with}

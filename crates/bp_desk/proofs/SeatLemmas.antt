@@ -8,11 +8,11 @@ use Rattle.bp_matter.specs.Matter.{Matter}
 use Rattle.bp_matter.specs.declared.calls.Reply.{Reply}
 use Rattle.bp_book.proofs.HistoryLemmas.{run_calls-append}
 use Rattle.bp_book.specs.Calls.{AltersOn, answer_to, run_calls}
-use Rattle.bp_desk.specs.Exchanges.{AnswersCall, CallsAt, Refuses}
 use Rattle.bp_book.specs.History.{AreOthers}
 use Rattle.bp_book.specs.declared.history.Made.{Made}
 use Rattle.bp_book.specs.declared.refusals.DeskRefusal.{DeskRefusal}
 use Rattle.bp_book.specs.declared.refusals.DeskRefusal.TheVariants as refusals
+use Rattle.bp_desk.specs.Exchanges.{AnswersCall, CallsAt, Refuses}
 use Rattle.bp_desk.specs.Seats.{Called, Calls, IsSeatOf, Desked, Raised, SameSeat, SeatView, Uncalled}
 use Rattle.bp_desk.specs.Doors.{history_at, most, own_faults}
 use Rattle.bp_desk.specs.declared.views.View.{View}

@@ -9,10 +9,10 @@ use Rattle.bp_rules.specs.declared.refusals.MatterRefusal.TheVariants as loads
 use Rattle.bp_book.specs.Books.{Opens, StaysWith}
 use Rattle.std.proofs.lemmas.List.FromFn.{map-range_with_len_more}
 use Rattle.atomic_table.specs.Table.{Me, Splits, opening}
-use Rattle.bp_desk.specs.Seats.{Desked, Rests, SeatView, fresh, fresh_with, others}
 use Rattle.bp_book.specs.declared.history.TheConstants.{MOST_CALLS}
-use Rattle.bp_desk.proofs.DealLemmas.{begins}
 use Rattle.bp_book.specs.Shown.{BookView}
+use Rattle.bp_desk.specs.Seats.{Desked, Rests, SeatView, fresh, fresh_with, others}
+use Rattle.bp_desk.proofs.DealLemmas.{begins}
 use Rattle.bp_desk.specs.Turns.{Ruled, dealer, dealt, first_view}
 use Rattle.bp_desk.specs.declared.views.Opening.{Opening}
 use Rattle.bp_desk.specs.declared.views.View.{View}

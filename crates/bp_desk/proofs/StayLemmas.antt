@@ -7,10 +7,10 @@ use lib.ListN.{get_elem?}
 use Rattle.std.proofs.lemmas.List.Elements.{All-weaker}
 use Rattle.atomic_table.specs.Table.{State}
 use Rattle.atomic_table.proofs.Lists.{at_set, at_snoc, set_else, at_longer}
-use Rattle.bp_desk.specs.Calls.{Begins}
 use Rattle.bp_book.specs.Shown.{BookView}
-use Rattle.bp_desk.specs.Turns.{Fits, IsHome, BookIsOut, PeerFits, Ruled, Stands, times_held, raised_by}
 use Rattle.bp_book.specs.declared.history.Made.{Made}
+use Rattle.bp_desk.specs.Calls.{Begins}
+use Rattle.bp_desk.specs.Turns.{Fits, IsHome, BookIsOut, PeerFits, Ruled, Stands, times_held, raised_by}
 use Rattle.bp_desk.specs.declared.views.Opening.{Opening}
 use Rattle.bp_desk.specs.declared.views.Peer.{Peer}
 use Rattle.bp_desk.specs.declared.views.View.{View}

@@ -10,15 +10,15 @@ use Rattle.bp_matter.specs.declared.calls.Reply.{Reply}
 use Rattle.atomic_table.specs.Table.{Me, rest}
 use Rattle.bp_book.specs.Books.{BookCalls, Entered, StaysWith, Unmade, is_made}
 use Rattle.bp_book.specs.Calls.{answer_to, run_calls}
-use Rattle.bp_desk.specs.Calls.{Begins, calls_by}
-use Rattle.bp_desk.specs.Seats.{AltersAfter, Brings, Called, Calls, Raised, Remains, Rests, Tried, Uncalled, grown_if}
 use Rattle.bp_book.specs.History.{AreOthers}
-use Rattle.bp_desk.proofs.FrontLemmas.{calls_by-own, others_between}
 use Rattle.bp_book.specs.Shown.{BookView}
-use Rattle.bp_desk.specs.Turns.{StaysAs, Won, freed, taking, with_count}
 use Rattle.bp_book.specs.declared.history.Made.{Made}
 use Rattle.bp_book.specs.declared.refusals.DeskRefusal.{DeskRefusal}
 use Rattle.bp_book.specs.declared.refusals.DeskRefusal.TheVariants as refusals
+use Rattle.bp_desk.specs.Calls.{Begins, calls_by}
+use Rattle.bp_desk.specs.Seats.{AltersAfter, Brings, Called, Calls, Raised, Remains, Rests, Tried, Uncalled, grown_if}
+use Rattle.bp_desk.proofs.FrontLemmas.{calls_by-own, others_between}
+use Rattle.bp_desk.specs.Turns.{StaysAs, Won, freed, taking, with_count}
 use Rattle.bp_desk.specs.declared.views.KeeperBegan.{KeeperBegan}
 use Rattle.bp_desk.specs.declared.views.View.{View}
 

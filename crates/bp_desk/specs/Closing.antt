@@ -1,11 +1,11 @@
 -- What is known where all seats of a desk were taken in.
 use Rattle.std.specs.Prelude.{◌≡◌, ℕ, ◌+◌, ◌≤◌, false, List, [], ◌∷◌, ◌++◌, length, All}
-use Rattle.bp_desk.specs.Calls.{Begins, calls_by}
-use Rattle.bp_desk.specs.Seats.{Desked, SeatView}
 use Rattle.bp_book.specs.Books.{StaysWith}
 use Rattle.bp_book.specs.Shown.{BookView}
-use Rattle.bp_desk.specs.Turns.{IsSeatCaller, both}
 use Rattle.bp_book.specs.declared.history.Made.{Made}
+use Rattle.bp_desk.specs.Calls.{Begins, calls_by}
+use Rattle.bp_desk.specs.Seats.{Desked, SeatView}
+use Rattle.bp_desk.specs.Turns.{IsSeatCaller, both}
 use Rattle.bp_desk.specs.declared.views.Peer.{Peer}
 use Rattle.bp_desk.specs.declared.views.View.{View}
 

@@ -7,9 +7,9 @@ use Rattle.bp_rules.specs.Running.{run_of}
 use Rattle.bp_rules.specs.declared.histories.RunStep.{RunStep}
 use Rattle.bp_rules.specs.declared.histories.RunStep.TheVariants as asks
 use Rattle.bp_book.specs.Calls.{run_calls}
+use Rattle.bp_book.specs.declared.history.Made.{Made}
 use Rattle.bp_desk.specs.Run.{DoorServed}
 use Rattle.bp_desk.specs.Serving.{RoseBy}
-use Rattle.bp_book.specs.declared.history.Made.{Made}
 use Rattle.bp_desk.specs.Seats.{AreSeats, SeatsClose, Desked, IsSeatOf, SameSeat, SeatCloses, SeatView, all_fresh}
 use Rattle.bp_desk.specs.Doors.{ServesAt, most, own_faults}
 

@@ -9,11 +9,11 @@ use Rattle.bp_rules.specs.declared.refusals.MatterRefusal.{MatterRefusal}
 use Rattle.bp_rules.specs.declared.refusals.MatterRefusal.TheVariants as refusals
 use Rattle.bp_book.specs.Books.{Opens, StaysWith}
 use Rattle.bp_book.specs.Calls.{run_calls}
-use Rattle.bp_desk.specs.Run.{DoorServed}
-use Rattle.bp_desk.specs.Serving.{Knocks, RoseBy}
 use Rattle.bp_book.specs.Shown.{BookView}
 use Rattle.bp_book.specs.declared.history.Made.{Made}
 use Rattle.bp_book.specs.declared.history.TheConstants.{MOST_CALLS}
+use Rattle.bp_desk.specs.Run.{DoorServed}
+use Rattle.bp_desk.specs.Serving.{Knocks, RoseBy}
 use Rattle.bp_desk.specs.Seats.{SeatView}
 use Rattle.bp_desk.specs.Doors.{ServesFor}
 use Rattle.bp_desk.specs.Turns.{IsSeatCaller}

@@ -11,14 +11,14 @@ use Rattle.atomic_table.specs.Table.{Me}
 use Rattle.bp_rules.specs.Steps.{KeepsRows}
 use Rattle.bp_book.specs.Calls.{AltersOn, answer_to, run_calls}
 use Rattle.bp_book.specs.History.{AreOthers}
-use Rattle.bp_desk.specs.Calls.{Begins, calls_by}
 use Rattle.bp_book.specs.Books.{Opens, StaysWith}
 use Rattle.bp_book.specs.Shown.{BookView}
-use Rattle.bp_desk.specs.declared.desk.TheConstants.{MOST_SEATS}
-use Rattle.bp_desk.specs.Turns.{IsSeatCaller, StaysAs, began_with, grown, raised_by, taking, times, total}
 use Rattle.bp_book.specs.declared.history.Made.{Made}
 use Rattle.bp_book.specs.declared.refusals.DeskRefusal.{DeskRefusal}
 use Rattle.bp_book.specs.declared.refusals.DeskRefusal.TheVariants as refusals
+use Rattle.bp_desk.specs.Calls.{Begins, calls_by}
+use Rattle.bp_desk.specs.declared.desk.TheConstants.{MOST_SEATS}
+use Rattle.bp_desk.specs.Turns.{IsSeatCaller, StaysAs, began_with, grown, raised_by, taking, times, total}
 use Rattle.bp_desk.specs.declared.views.Opening.{Opening}
 use Rattle.bp_desk.specs.declared.views.View.{View}
 

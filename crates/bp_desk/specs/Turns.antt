@@ -25,10 +25,10 @@ use Rattle.atomic_table.specs.Table.{State, Me, Step}
 use Rattle.bp_keep.specs.Keeper.{KeeperView}
 use Rattle.bp_matter.specs.Matter.{Matter}
 use Rattle.bp_matter.specs.declared.calls.Call.TheVariants as calls
-use Rattle.bp_desk.specs.Calls.{Begins, calls_by}
 use Rattle.bp_book.specs.Books.{StaysWith}
 use Rattle.bp_book.specs.Shown.{BookView}
 use Rattle.bp_book.specs.declared.history.Made.{Made}
+use Rattle.bp_desk.specs.Calls.{Begins, calls_by}
 use Rattle.bp_desk.specs.declared.views.KeeperBegan.{KeeperBegan}
 use Rattle.bp_desk.specs.declared.views.Opening.{Opening}
 use Rattle.bp_desk.specs.declared.views.Peer.{Peer}

@@ -1,7 +1,7 @@
 // Serving doors at the seats of a desk.
 ghost use Rattle.std.specs.Prelude.{◌≡◌, ℕ, ◌<◌, All, length, slice_index_or};
-ghost use Rattle.bp_desk.specs.Seats.{IsSeatOf};
 ghost use Rattle.bp_desk.specs.Doors.{ServesFor};
+ghost use Rattle.bp_desk.specs.Seats.{IsSeatOf};
 
 use crate::desk::Desk;
 use crate::handler::SeatHandler;

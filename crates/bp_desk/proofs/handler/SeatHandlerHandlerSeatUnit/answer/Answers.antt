@@ -1,10 +1,9 @@
 use Rattle.std.proofs.Common.{ℕ, subst}
-use Rattle.bp_outside.specs.declared.exchange.Exchange.{Exchange}
 use Rattle.bp_desk.specs.Doors.{history_at}
 use Rattle.bp_desk.specs.Exchanges.{Deals}
 use Rattle.bp_desk.proofs.ExchangeLemmas.{answer_bytes}
 use Rattle.bp_desk.proofs.SeatLemmas.{same_twice, still_of}
-use Rattle.bp_desk.proofs.handler.SeatHandlerHandlerSeat.answer.Goals as goal
+use Rattle.bp_desk.proofs.handler.SeatHandlerHandlerSeatUnit.answer.Goals as goal
 
 pub answer_read-requires : goal.answer_read-requires
 answer_read-requires g c = c.requires.0

@@ -18,7 +18,8 @@ TOP = pathlib.Path(__file__).resolve().parent.parent
 
 # file, function: why the answer is made there
 MADE = {
-    ("bp_desk/src/book.rt", "call"): "the copy of the call, or room for it in the journal, was refused",
+    ("bp_book/src/book.rt", "call"): "the copy of the call, or room for it in the journal, was refused",
+    ("bp_desk/src/matters.rt", "serve_matter"): "room for the posts was refused",
     ("bp_freeze/src/log.rt", "bytes_of"): "csv's writer answers an error, which in memory is want of memory",
     ("bp_freeze/src/log.rt", "put_line"): "csv's writer answers an error, which in memory is want of memory",
     ("bp_matter/src/kept_page.rt", "hold"): "Arc's own error",
@@ -27,7 +28,6 @@ MADE = {
     ("bp_outside/src/memory/door.rt", "write"): "the call's own want, noted in the exchange",
     ("bp_rules/src/histories.rt", "answer_next"): "room for an answer was refused",
     ("bp_rules/src/steps.rt", "make"): "room for a change was refused",
-    ("bp_seats/src/matters.rt", "serve_matter"): "room for the posts was refused",
     ("bp_receiver/src/delivery.rt", "grant"): "the copy of the id, or room for a grant, was refused",
     ("bp_records/src/rows.rt", "read_record"): "csv's reader answers an error, which in memory is want of memory",
     ("bp_receiver/src/requests.rt", "read_event"): "the router could not be made for want of memory",
@@ -41,13 +41,16 @@ MADE = {
 
 # file, function: the sizes that memory is asked for by, and what each is
 SIZED = {
+    ("bp_book/src/book.rt", "call"): (["reserve(1)"], "one call of the journal"),
     ("bp_burn/src/burning.rt", "copy_with_rows"):
         (["with_capacity(alloc, size)", "resize(size, 0)"], "the sides of the page that is made"),
     ("bp_burn/src/out_room.rt", "white_runs"): (["with_capacity(alloc, 1)"], "one run"),
     ("bp_burn/src/strips.rt", "start_writer"): (["reserve(size)"], "by the sides and the stamps, which are shown"),
     ("bp_check/src/plans.rt", "load_paths"): (["with_capacity(alloc, 2)"], "two paths"),
     ("bp_check/src/records.rt", "records_of"): (["with_capacity(alloc, left.len())"], "the records of a file that the caller gave"),
-    ("bp_desk/src/book.rt", "call"): (["reserve(1)"], "one call of the journal"),
+    ("bp_desk/src/matters.rt", "serve_matter"): (["with_capacity(alloc, desks as usize)"], "the desks that the command line asks for"),
+    ("bp_desk/src/starting.rt", "over"): (["with_capacity(alloc, seats as usize)"], "the seats that the command line asks for"),
+    ("bp_desk/src/starting.rt", "made"): (["with_capacity(alloc, 1)"], "one book"),
     ("bp_freeze/src/marks.rt", "no_marks"):
         (["vec![in alloc; false; documents + 1]"], "a mark for each document, for a lead who freezes"),
     ("bp_import/src/documents.rt", "empty_lists"): (["with_capacity(alloc, count)"], "the pages of the batch that the caller gave"),
@@ -81,9 +84,6 @@ SIZED = {
     ("bp_rules/src/apply_changes.rt", "reserve_mark"): (["reserve(row.doc)"], "one row on the shelf of a document"),
     ("bp_rules/src/apply_changes.rt", "reserve_four"): (["reserve(count)"], "the rows that a change puts"),
     ("bp_rules/src/histories.rt", "answer_next"): (["reserve(1)"], "one answer"),
-    ("bp_seats/src/matters.rt", "serve_matter"): (["with_capacity(alloc, desks as usize)"], "the desks that the command line asks for"),
-    ("bp_seats/src/starting.rt", "over"): (["with_capacity(alloc, seats as usize)"], "the seats that the command line asks for"),
-    ("bp_seats/src/starting.rt", "made"): (["with_capacity(alloc, 1)"], "one book"),
     ("bp_shelves/src/shelves.rt", "from_rows"): (["reserve(row.doc())"], "one row on the shelf of a document"),
     ("bp_shelves/src/stocking.rt", "make_shelf"): (["reserve(1)"], "one row"),
     ("bp_t6/src/bit_writer.rt", "reserve"): (["reserve(bytes)"], "handed on"),

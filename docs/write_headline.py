@@ -13,7 +13,7 @@ PAGE = TOP / "docs" / "HEADLINE.md"
 RUN = TOP / "crates" / "bp_cli" / "src" / "run.rt"
 
 # from the program down
-FLOORS = """bp_cli bp_frozen bp_seats bp_desk bp_doors bp_web bp_press bp_burn bp_import bp_rules bp_looks bp_freeze bp_matter bp_keep bp_tiff bp_t6 bp_rows
+FLOORS = """bp_cli bp_frozen bp_desk bp_book bp_doors bp_web bp_press bp_burn bp_import bp_rules bp_looks bp_freeze bp_matter bp_keep bp_tiff bp_t6 bp_rows
 bp_codes bp_text bp_records bp_load bp_bates bp_shelves bp_outside bp_core""".split()
 # what a part begins with, and the names at which it stops
 PARTS = [

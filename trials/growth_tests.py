@@ -3,7 +3,7 @@
 
 TESTS is a crate's tests as they were built (`rt test` makes out/CRATE_tests). Each test, or each whose name holds a NAME, runs once as it is,
 which tells how many growths it has; then the Nth is refused, for each N, by growths.c. It has to pass, or to end with the error that memory ran
-out; "the desk did not start" is what the tests of bp_test_seats make of that where Desk::start answers it, and None in the place of a count of
+out; "the desk did not start" is what the tests of bp_test_desk make of that where Desk::start answers it, and None in the place of a count of
 calls where Desk::close does. An assertion that fails is another answer in the place of the right one, but in tests of doors, as four_doors, by
 their names: there each reply has to be 200, and 507 is due here, which growths.py looks at. Prints a row for each test, and ends with 1 where
 one ended otherwise. Needs cc.

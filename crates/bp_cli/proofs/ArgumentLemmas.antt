@@ -8,7 +8,7 @@ use Rattle.std.proofs.lemmas.Bool.{false≢true}
 use Rattle.bp_cli.specs.declared.stops.Stop.{Stop}
 use Rattle.bp_outside.specs.Source.{SourceView}
 use Rattle.bp_outside.specs.Folder.{FolderView}
-use Rattle.bp_desk.specs.declared.history.Made.{Made}
+use Rattle.bp_book.specs.declared.history.Made.{Made}
 use Rattle.bp_outside.specs.Door.{DoorView}
 use Rattle.bp_outside.specs.Out.{OutView}
 use Rattle.bp_keep.specs.Keeper.{KeeperView}

@@ -2,7 +2,7 @@
 -- of its words.
 use Rattle.std.proofs.Common.{ℕ, ◌≡◌, ◌<◌, List, [], ◌∷◌, length, Option, Some, None, arith, refl, sym, ap, subst}
 use Rattle.std.specs.Prelude.{IsSomeAnd, slice_index_or, slice_set}
-use Rattle.bp_desk.specs.declared.history.Made.{Made}
+use Rattle.bp_book.specs.declared.history.Made.{Made}
 use Rattle.bp_keep.specs.Keeper.{KeeperView}
 use Rattle.bp_outside.specs.Door.{DoorView}
 use Rattle.bp_outside.specs.Folder.{FolderView}

@@ -2,7 +2,7 @@
 use Rattle.std.proofs.Common.{ℕ, ◌≡◌, List, Option, None, Ok, Err, refl, sym, subst, ◌∙◌, sum}
 use Rattle.std.specs.Prelude.{IfSome}
 use Rattle.bp_desk.specs.Serving.{RoseBy}
-use Rattle.bp_desk.specs.declared.history.Made.{Made}
+use Rattle.bp_book.specs.declared.history.Made.{Made}
 use Rattle.bp_frozen.specs.Frozen.{FreezeLaw}
 use Rattle.bp_keep.specs.Keeper.{KeeperView}
 use Rattle.bp_matter.specs.KeptRows.{rows_of}
@@ -13,7 +13,7 @@ use Rattle.bp_rules.specs.Loading.{LoadsTables}
 use Rattle.bp_rules.specs.Steps.{KeepsRows, never, once}
 use Rattle.bp_rules.specs.declared.refusals.MatterRefusal.{MatterRefusal}
 use Rattle.bp_rules.specs.declared.refusals.MatterRefusal.TheVariants as refusals
-use Rattle.bp_seats.specs.Matters.{ServesMatter, ServesNone, unasked, unloaded}
+use Rattle.bp_desk.specs.Matters.{ServesMatter, ServesNone, unasked, unloaded}
 use Rattle.bp_cli.specs.declared.serve.ServeLine.{ServeLine}
 use Rattle.bp_cli.specs.declared.stops.Stop.{Stop}
 use Rattle.bp_cli.specs.declared.stops.Stop.TheVariants as stops

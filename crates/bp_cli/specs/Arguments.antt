@@ -16,7 +16,7 @@ use Rattle.bp_cli.specs.Endings.{status_of, ending_text}
 use Rattle.bp_cli.specs.Printing.{Prints}
 use Rattle.bp_keep.specs.Keeper.{KeeperView}
 use Rattle.bp_keep_sql.specs.Keeper.{KeptOver, keeper_shown}
-use Rattle.bp_desk.specs.declared.history.Made.{Made}
+use Rattle.bp_book.specs.declared.history.Made.{Made}
 use Rattle.bp_outside.specs.Door.{DoorView}
 use Rattle.bp_outside.specs.Out.{OutView}
 use Rattle.sqlite.specs.Held.{Held}

@@ -1,7 +1,7 @@
 -- What a run promises, whatever its words ask: what its command does, or what serving or delivering
 -- does.
 use Rattle.std.specs.Prelude.{ℕ, ◌≡◌, Option, Some, None, List, ◌∷◌, length}
-use Rattle.bp_desk.specs.declared.history.Made.{Made}
+use Rattle.bp_book.specs.declared.history.Made.{Made}
 use Rattle.bp_keep.specs.Keeper.{KeeperView}
 use Rattle.bp_outside.specs.Door.{DoorView}
 use Rattle.bp_outside.specs.Out.{OutView}

@@ -5,10 +5,10 @@ use Rattle.std.specs.Str.{bytes_eq}
 use Rattle.bp_core.specs.Counts.{risen}
 use Rattle.bp_core.specs.declared.kept.Row.{Row}
 use Rattle.bp_core.specs.declared.rules.Rule.{Rule}
-use Rattle.bp_desk.specs.Calls.{run_calls}
+use Rattle.bp_book.specs.Calls.{run_calls}
 use Rattle.bp_desk.specs.Serving.{RoseBy}
-use Rattle.bp_desk.specs.declared.history.Made.{Made}
-use Rattle.bp_desk.specs.declared.history.TheConstants.{MOST_CALLS}
+use Rattle.bp_book.specs.declared.history.Made.{Made}
+use Rattle.bp_book.specs.declared.history.TheConstants.{MOST_CALLS}
 use Rattle.bp_frozen.specs.Frozen.{FreezesStand}
 use Rattle.bp_keep.specs.Keeper.{KeeperView}
 use Rattle.bp_matter.specs.Matter.{Matter}
@@ -17,8 +17,8 @@ use Rattle.bp_outside.specs.Counts.{Rose}
 use Rattle.bp_outside.specs.Door.{DoorView}
 use Rattle.bp_outside.specs.Out.{OutView, with_written, OutWritesPrefix}
 use Rattle.bp_rules.specs.Steps.{AtMostOnce, KeepsRows}
-use Rattle.bp_seats.specs.Matters.{AreServed}
-use Rattle.bp_seats.specs.Turns.{IsSeatCaller}
+use Rattle.bp_desk.specs.Matters.{AreServed}
+use Rattle.bp_desk.specs.Turns.{IsSeatCaller}
 use Rattle.bp_cli.specs.declared.serve.ServeLine.{ServeLine}
 use Rattle.bp_cli.specs.declared.serve.TheConstants.{MAX_CONNECTIONS, MAX_DESKS, SERVE_WORDS}
 use Rattle.bp_cli.specs.declared.statuses.TheConstants.{DONE, RULE_BROKEN, KEEPER_FAULT, OUT_OF_MEMORY, OUT_FAULT}

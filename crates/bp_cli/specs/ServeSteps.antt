@@ -1,7 +1,7 @@
 -- What the steps of serve leave, one behind the other.
 use Rattle.std.specs.Prelude.{ℕ, ◌≡◌, ◌≢◌, Option, Some, None, Ok, Err, List}
 use Rattle.bp_core.specs.declared.kept.Row.{Row}
-use Rattle.bp_desk.specs.declared.history.Made.{Made}
+use Rattle.bp_book.specs.declared.history.Made.{Made}
 use Rattle.bp_keep.specs.Keeper.{KeeperView}
 use Rattle.bp_outside.specs.Door.{DoorView}
 use Rattle.bp_outside.specs.Out.{OutView}

@@ -6,12 +6,12 @@ ghost use Rattle.bp_cli.specs.ServeSteps.{SaysServed, ServesAnyhow};
 
 use crate::stops::Stop;
 use crate::words::number_in;
+use bp_book::{Closed, History};
 use bp_core::{Bytes, OutOfMemory};
-use bp_desk::{Closed, History};
+use bp_desk::serve_matter;
 use bp_frozen::freezes_stand;
 use bp_keep::Keeper;
 use bp_outside::Door;
-use bp_seats::serve_matter;
 use std::alloc::Global;
 use std::sync::Wait;
 use std::thread::Threads;

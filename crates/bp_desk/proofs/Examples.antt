@@ -1,357 +1,172 @@
--- Worked examples of the definitions in specs/, each run by the check: two seats of which one asks
--- twice, an exchange of each case, and exchanges that fit no case.
-use Rattle.std.proofs.Common.{◌≡◌, ℕ, ◌<◌, ◌≤◌, true, false, List, [], ◌∷◌, ◌++◌, length, codes, get_or, replicate, refl, sym, ap, subst, ◌∙◌, arith, inl, inr, Ok, Err, length-append}
-use Rattle.std.specs.Str.{chars, is_utf8}
-use Rattle.std.proofs.Math.Utf8.{encode}
-use Rattle.std.proofs.lemmas.List.Elements.{All-cons, All-nil}
-use Rattle.std.proofs.lemmas.List.Sums.{AllPass-from_list_all}
-use Rattle.std.proofs.lemmas.Str.{IsUtf8-from_is_utf8}
-use Rattle.httparse.specs.Grammar.{Field, HasNoRequest, IsField, IsRequestHead, RequestHead, crlf, is_token_byte, is_uri_byte, is_value_byte}
-use Rattle.httparse.proofs.GrammarLemmas.{print_request-append}
-use Rattle.httparse.proofs.OnLiterals.{httparse_on_literals}
-use Rattle.serde_json.proofs.OnLiterals.{serde_json_on_literals}
-use Rattle.std.specs.Fmt.{digits}
-use Rattle.sha2.specs.Sha256.{sha256}
-use Rattle.bp_core.specs.Rules.{bare_rule}
-use Rattle.bp_core.specs.declared.review.Role.TheVariants.{Lead, Reviewer}
-use Rattle.bp_core.specs.declared.rules.RuleKind.TheVariants as kinds
-use Rattle.bp_matter.specs.Matter.{Matter}
-use Rattle.bp_matter.specs.declared.calls.Call.{Call}
-use Rattle.bp_matter.specs.declared.calls.Call.TheVariants.{AddStaff, SeeDoc}
-use Rattle.bp_matter.specs.declared.calls.Reply.TheVariants as replies
-use Rattle.bp_outside.specs.Input.{WasNeeded}
-use Rattle.bp_outside.specs.declared.exchange.Exchange.{Exchange}
-use Rattle.bp_outside.specs.declared.input.TheConstants.{INPUT_CHUNK}
-use Rattle.bp_rules.specs.Refusing.{no_document}
+-- Worked examples: what the definitions give for a few calls of two seats.
+use Rattle.std.proofs.Common.{◌≡◌, ℕ, List, [], ◌∷◌, Some, None, false, ap, arith, get_or, refl}
+use Rattle.std.proofs.lemmas.Bool.{false≢true}
+use Rattle.bp_keep.specs.Keeper.{KeeperView}
+use Rattle.bp_matter.specs.declared.calls.Call.TheVariants as calls
 use Rattle.bp_rules.specs.Stepping.{step_of}
-use Rattle.bp_web.specs.Calls.{doc_no}
-use Rattle.bp_web.specs.Heads.{BeginsWith, NeverBegins, start_of}
-use Rattle.bp_web.specs.Messages.{fields_text, json_message, line_text, message_text}
-use Rattle.bp_web.specs.Replies.{reply_text}
-use Rattle.bp_web.specs.Requests.{HttpReads, IsWhole, asked_of, asking_of, crowded, headless, of_head, whole as whole_request}
-use Rattle.bp_web.proofs.RequestLemmas.{reads_once}
-use Rattle.bp_web.specs.Routes.{fits, next_of, route_of}
-use Rattle.bp_web.specs.Values.{refusal_data}
-use Rattle.bp_web.specs.declared.refusals.WebRefusal.TheVariants as refusals
-use Rattle.bp_web.specs.declared.replies.Answer.TheVariants as answers
-use Rattle.bp_web.specs.declared.requests.Asked.{Asked}
-use Rattle.bp_desk.specs.Calls.{AltersAmong, AltersOn, made_by}
-use Rattle.bp_desk.specs.History.{Turn, turns_of}
-use Rattle.bp_doors.specs.Exchanges.{memory_text}
-use Rattle.bp_doors.specs.Exchanges.Sent.{cut, whole}
-use Rattle.bp_desk.specs.Served.{Served, TellsRequest, TextOfNone, WasReadWhole}
-use Rattle.bp_desk.specs.Served.Served.{called, nobody, uncalled}
-use Rattle.bp_desk.specs.Served.TextOfCall.{no_reply, reply}
-use Rattle.bp_desk.specs.Served.TextOfNone.{fault, no_memory, no_read, no_room, refusal}
-use Rattle.bp_desk.specs.Serving.{IsAnswered}
-use Rattle.bp_desk.specs.declared.history.Made.{Made}
-use Rattle.bp_desk.specs.declared.history.TheConstants.{MOST_CALLS}
-use Rattle.bp_desk.proofs.ServedLemmas.{served_complete}
+use Rattle.bp_book.specs.Calls.{made_by}
+use Rattle.bp_book.specs.declared.history.Made.{Made}
+use Rattle.bp_desk.specs.Calls.{Begins, calls_by}
+use Rattle.bp_desk.specs.Laws.{start_faults}
+use Rattle.bp_desk.specs.Seats.{AltersAfter}
+use Rattle.bp_desk.specs.Doors.{most, own_faults}
+use Rattle.bp_desk.specs.Turns.{StaysAs, began_with, both, dealer, dealt, grown, times_held, longer, no_matter, note_of, raised_by, spent, total, with_count}
+use Rattle.bp_desk.specs.declared.desk.TheConstants.{MOST_SEATS}
+use Rattle.bp_desk.specs.declared.views.View.{View}
 
--- ---- the limits
+abbrev key : List ℕ
+key = 1 ∷ []
 
-most_calls : MOST_CALLS ≡ 1048576
-most_calls = refl
+-- seat 1 asks for document 5, seat 2 for 7, and then for 5
+abbrev one : Made
+one = made_by 1 key (calls.SeeDoc (record { 0 = 5 }))
 
--- ---- the calls of a seat in a history
+abbrev two : Made
+two = made_by 2 key (calls.SeeDoc (record { 0 = 7 }))
 
-abbrev key : ℕ → List ℕ
-key n = replicate 32 n
+abbrev look : Made
+look = made_by 2 key (calls.SeeDoc (record { 0 = 5 }))
 
--- a matter of one lead and nothing else
-abbrev begun : Matter
-begun =
-    record {
-      staff = record {
-        staff = record { 0 = 1 };
-        role = Lead;
-        digest = key 1;
-        name = codes "Ann";
-      } ∷ [];
-      fields = [];
-      docs = [];
-      pages = [];
-      calls = [];
-      boxes = [];
-      held = [];
-      entries = [];
-      prefixes = [];
-      productions = [];
-      batches = [];
-      words = [];
+-- the most seats of a desk
+most_seats : MOST_SEATS ≡ 16
+most_seats = refl
+
+-- ---- histories
+
+-- the calls of seat 2, in order
+of_two : calls_by 2 (one ∷ two ∷ look ∷ []) ≡ two ∷ look ∷ []
+of_two = refl
+
+-- a note has none
+of_note : calls_by 0 (one ∷ two ∷ look ∷ []) ≡ []
+of_note = refl
+
+begins : Begins (one ∷ []) (one ∷ two ∷ [])
+begins = (two ∷ [], refl)
+
+-- what skips the call of another seat begins no history that has it
+skips : Begins (two ∷ []) (one ∷ two ∷ []) → ⊥
+skips (rest, same) =
+    let seats = ap (λ (l : List Made). (get_or l 0 one).seat) same in omega (arith, seats)
+
+the_longer : longer (one ∷ []) (one ∷ two ∷ []) ≡ one ∷ two ∷ []
+the_longer = refl
+
+the_first : longer (one ∷ []) [] ≡ one ∷ []
+the_first = refl
+
+-- ---- views
+
+-- seat 1 of a desk that has given two numbers, after its call, at which the keeper failed once
+abbrev first : View
+first =
+    record spent {
+      number = 1;
+      given = 2;
+      seen = one ∷ [];
+      mine = one ∷ [];
+      found = 3;
+      left = 4;
+      raised = 1;
     }
 
-abbrev see : Call
-see = SeeDoc (doc_no 7)
+abbrev second : View
+second = record spent { number = 2; left = 3 }
 
--- seat 1 asks for a document with a key that nobody has; the lead, at seat 2, adds a reviewer with
--- that key; and seat 1 asks once more
-abbrev history : List Made
-history =
-    made_by 1 (key 2) see ∷ made_by 2 (key 1) (AddStaff (codes "Bob") Reviewer (key 2))
-    ∷ made_by 1 (key 2) see ∷ []
+-- a new seat has the next number, and has seen as much
+dealt_third : (dealt first).number ≡ 3
+dealt_third = refl
 
--- the second answer is that on the matter which seat 2 changed
-turns_of_seat_1 : turns_of 1 begun history
-    ≡ record {
-      asked = record { key = key 2; call = see };
-      answer = answers.Rule (bare_rule kinds.KeyUnknown);
-    } ∷ record {
-      asked = record { key = key 2; call = see };
-      answer = answers.Rule (no_document 7);
-    } ∷ []
-unfolding step_of encode
-turns_of_seat_1 = refl
+dealt_seen : (dealt first).seen ≡ one ∷ []
+dealt_seen = refl
 
-turns_of_seat_3 : turns_of 3 begun history ≡ []
-turns_of_seat_3 = refl
+dealt_mine : (dealt first).mine ≡ []
+dealt_mine = refl
 
--- ---- two requests
+dealer_counts : (dealer first).given ≡ 3
+dealer_counts = refl
 
-abbrev asked : Asked
-asked = record { key = sha256 (codes "abc"); call = see }
+-- a note has no number, no calls of its own, and has raised nothing
+note_number : (note_of first).number ≡ 0
+note_number = refl
 
-head : List Field → RequestHead
-head fields =
-    record {
-      blank = [];
-      method = codes "GET";
-      target = codes "/docs/7";
-      minor = 1;
-      line_end = crlf;
-      fields = fields;
-      last = crlf;
-    }
+note_mine : (note_of first).mine ≡ []
+note_mine = refl
 
-key_field : Field
-key_field = record { name = codes "Desk-Key"; raw = codes " abc"; end = crlf }
+note_raised : (note_of first).raised ≡ 0
+note_raised = refl
 
-request : List ℕ
-request = codes "GET /docs/7 HTTP/1.1\r\nDesk-Key: abc\r\n\r\n"
+-- seat 2 meets the note: it has seen the call, and its own calls stay
+met_seen : (both second (note_of first)).seen ≡ one ∷ []
+met_seen = refl
 
-without_key : List ℕ
-without_key = codes "GET /docs/7 HTTP/1.1\r\n\r\n"
+met_mine : (both second (note_of first)).mine ≡ []
+met_mine = refl
 
-is_field : IsField key_field
-unfolding key_field httparse_on_literals
-is_field =
-    record {
-      name = (omega arith, AllPass-from_list_all is_token_byte (codes "Desk-Key") refl);
-      raw = AllPass-from_list_all is_value_byte (codes " abc") refl;
-    }
+-- seat 1 takes seat 2 in: it has both numbers, once each
+joined_two : times_held 2 (both first second) ≡ 1
+joined_two = refl
 
-is_head : IsRequestHead (head (key_field ∷ []))
-unfolding head httparse_on_literals is_utf8 chars encode
-is_head =
-    record {
-      method = (omega arith, AllPass-from_list_all is_token_byte (codes "GET") refl);
-      target = (omega arith, AllPass-from_list_all is_uri_byte (codes "/docs/7") refl);
-      target_text = IsUtf8-from_is_utf8 (codes "/docs/7") refl;
-      minor = omega arith;
-      fields = All-cons IsField key_field [] is_field (All-nil IsField);
-    }
+joined_one : times_held 1 (both first second) ≡ 1
+joined_one = refl
 
-is_bare_head : IsRequestHead (head [])
-unfolding head httparse_on_literals is_utf8 chars encode
-is_bare_head =
-    record {
-      method = (omega arith, AllPass-from_list_all is_token_byte (codes "GET") refl);
-      target = (omega arith, AllPass-from_list_all is_uri_byte (codes "/docs/7") refl);
-      target_text = IsUtf8-from_is_utf8 (codes "/docs/7") refl;
-      minor = omega arith;
-      fields = All-nil IsField;
-    }
+-- a number that two seats have counts twice
+alike : total (times_held 1) (first ∷ first ∷ []) ≡ 2
+alike = refl
 
-begins : BeginsWith (start_of request) (head (key_field ∷ []))
-unfolding head key_field request httparse_on_literals
-begins = record { rest = []; reads = (is_head, refl); few = omega arith }
+-- the sum of third numbers of all views stays
+sum_before : total raised_by (first ∷ second ∷ []) ≡ 1
+sum_before = refl
 
-begins_bare : BeginsWith (start_of without_key) (head [])
-unfolding head without_key httparse_on_literals
-begins_bare = record { rest = []; reads = (is_bare_head, refl); few = omega arith }
+sum_after : total raised_by (both first second ∷ spent ∷ []) ≡ 1
+sum_after = refl
 
-asks : HttpReads request (Ok asked)
-unfolding head key_field request httparse_on_literals asking_of asked_of route_of fits next_of
-asks = of_head (head (key_field ∷ [])) begins refl
+-- a call is seen and is the seat's own
+call_seen : (grown first look).seen ≡ one ∷ look ∷ []
+call_seen = refl
 
-asks_for_none : HttpReads without_key (Err refusals.KeyMissing)
-unfolding head without_key httparse_on_literals asking_of asked_of route_of fits next_of
-asks_for_none = of_head (head []) begins_bare refl
+call_mine : (grown first look).mine ≡ one ∷ look ∷ []
+call_mine = refl
 
--- ---- when enough was read
+-- the count goes from 4 to 6: the seat's turns raised it by 3 in all
+count_told : (with_count first 6).raised ≡ 3
+count_told = refl
 
--- bytes with some in their middle
-some_middle : (a b c : List ℕ) → 0 < length b → [] ≡ a ++ (b ++ c) → ⊥
-some_middle a b c some none =
-    let nothing = ap length none in
-    absurd (omega (arith, nothing, some, length-append a (b ++ c), length-append b c))
+-- ---- the keeper
 
--- no head is there yet
-no_head_yet : HasNoRequest []
-no_head_yet head rest reads =
-    some_middle _ head.method _ reads.0.method.0 (reads.1 ∙ print_request-append head rest)
+-- a keeper that was asked to load once when the desk began, and told no rows
+abbrev keeper : KeeperView
+keeper = record { rows = None; faults = 3; loads = 1; commits = 0; sure = false }
 
-not_whole_yet : IsWhole [] → ⊥
-not_whole_yet (whole_request head begins fits) = no_head_yet head begins.rest begins.reads
-not_whole_yet (headless none long) = absurd (omega (arith, long))
-not_whole_yet (crowded head rest reads many) = no_head_yet head rest reads
+began_untold : (began_with keeper).told ≡ false
+began_untold = refl
 
-one_can_come : NeverBegins (start_of []) → ⊥
-unfolding request
-one_can_come never = never.never request (head (key_field ∷ [])) begins.rest begins.reads
+-- it stays where it commits and fails
+stays : StaysAs (began_with keeper) (record keeper { faults = 4; commits = 2 })
+stays = record { loads = refl; sure = refl; told = tt }
 
-nothing_yet : TellsRequest [] false
-nothing_yet = (not_whole_yet, one_can_come)
+-- and not where it is asked to load again
+asked_again : StaysAs (began_with keeper) (record keeper { loads = 2 }) → ⊥
+asked_again stays = let same = stays.loads in omega (arith, same)
 
-few_were_needed : (bytes : List ℕ) → length bytes ≤ INPUT_CHUNK → WasNeeded TellsRequest bytes
-few_were_needed bytes few =
-    record { front = []; last = bytes; all = refl; few = few; needed = inr nothing_yet }
+-- nor where it tells rows
+told_later : StaysAs (began_with keeper) (record keeper { rows = Some [] }) → ⊥
+told_later stays = false≢true stays.told
 
--- so many bytes at most are read at once
-read_to_end : (x : Exchange) → x.ended ≡ true → length x.read ≤ INPUT_CHUNK → WasReadWhole x
-read_to_end x ended few = record { stopped = inr ended; needed = few_were_needed x.read few }
+-- a call of an unknown key breaks a rule, so the keeper doesn't fail at it
+alters_not : AltersAfter no_matter [] one → ⊥
+unfolding step_of
+alters_not alters = alters
 
--- ---- an exchange of each case
+-- ---- faults
 
--- an exchange that read these bytes to the end of input, was sent those, and was hung up
-abbrev exchanged : List ℕ → List ℕ → Exchange
-exchanged read written =
-    record {
-      read = read;
-      ended = true;
-      written = written;
-      failed = false;
-      lacked = false;
-      hung_up = true;
-    }
+-- those of the seat's own, whatever the count is
+own : own_faults first ≡ 1
+own = refl
 
-abbrev turn : Turn
-turn = record { asked = asked; answer = answers.Reply replies.Done }
+-- a count that stands still tells no bound
+no_bound : own_faults (record first { left = most }) ≡ most
+no_bound = refl
 
--- its call was made, and its reply sent
-abbrev is_answered : Exchange
-is_answered = exchanged request (reply_text turn.answer)
-
--- it asks for nothing
-abbrev is_no_request : Exchange
-is_no_request = exchanged without_key (reply_text (answers.Web refusals.KeyMissing))
-
--- the keeper failed at its call
-abbrev is_faulted : Exchange
-is_faulted = exchanged request (reply_text answers.KeeperFault)
-
--- memory ran out before it was read
-abbrev is_lacking : Exchange
-is_lacking = record (exchanged [] memory_text) { ended = false }
-
--- the peer was silent until a read was refused
-abbrev is_silent : Exchange
-is_silent = record (exchanged [] []) { ended = false; failed = true }
-
--- its call was made, and memory ran out for its reply
-abbrev lacks_reply : Exchange
-lacks_reply = exchanged request memory_text
-
--- its call was made, and the write of its reply failed
-abbrev is_cut : Exchange
-is_cut = record (exchanged request []) { failed = true }
-
--- there was no room for its call
-abbrev finds_no_room : Exchange
-finds_no_room = exchanged request (reply_text (answers.JournalFull 3))
-
--- a full history of three calls, all of one seat, and eight exchanges at its door, of which one was
--- answered that the keeper failed, at a call that alters what is kept
-each_case : (Alters : Asked → Type 0)
-    → Alters asked
-    → Served Alters true 3 (turn ∷ turn ∷ turn ∷ []) 1
-    (is_answered ∷ is_no_request ∷ is_faulted ∷ is_lacking ∷ is_silent ∷ lacks_reply ∷ is_cut
-    ∷ finds_no_room ∷ [])
-unfolding request without_key
-each_case Alters alters =
-    called turn (turn ∷ turn ∷ []) 1 is_answered _ _ refl
-    (reply asks (read_to_end is_answered refl (omega arith)) refl) (whole refl)
-    (uncalled (turn ∷ turn ∷ []) 0 1 is_no_request _ _ refl
-    (refusal refusals.KeyMissing asks_for_none (read_to_end is_no_request refl (omega arith)) refl)
-    (whole refl)
-    (uncalled (turn ∷ turn ∷ []) 1 0 is_faulted _ _ refl
-    (fault asked asks (read_to_end is_faulted refl (omega arith)) alters refl) (whole refl)
-    (uncalled (turn ∷ turn ∷ []) 0 0 is_lacking _ memory_text refl
-    (no_memory (few_were_needed [] (omega arith)) refl) (whole refl)
-    (uncalled (turn ∷ turn ∷ []) 0 0 is_silent _ [] refl
-    (no_read nothing_yet (inl refl) refl) (whole refl)
-    (called turn (turn ∷ []) 0 lacks_reply _ memory_text refl
-    (no_reply asks (read_to_end lacks_reply refl (omega arith)) refl) (whole refl)
-    (called turn [] 0 is_cut _ (reply_text turn.answer) refl
-    (reply asks (read_to_end is_cut refl (omega arith)) refl)
-    (cut (inl refl) (reply_text turn.answer) refl)
-    (uncalled [] 0 0 finds_no_room _ _ refl
-    (no_room asked asks (read_to_end finds_no_room refl (omega arith)) refl refl refl) (whole refl)
-    nobody)))))))
-
--- ---- what is no serving
-
-fault_digit : get_or (reply_text answers.KeeperFault) 11 0 ≡ 51
-unfolding message_text line_text fields_text json_message refusal_data digits serde_json_on_literals
-fault_digit = refl
-
-memory_digit : get_or memory_text 11 0 ≡ 55
-unfolding message_text line_text fields_text json_message refusal_data digits serde_json_on_literals
-memory_digit = refl
-
-full_digit : get_or (reply_text (answers.JournalFull 3)) 10 0 ≡ 50
-unfolding message_text line_text fields_text json_message refusal_data digits serde_json_on_literals
-full_digit = refl
-
-memory_middle : get_or memory_text 10 0 ≡ 48
-unfolding message_text line_text fields_text json_message refusal_data digits serde_json_on_literals
-memory_middle = refl
-
-nowhere : (x : Exchange) → IsAnswered [] x → ⊥
-nowhere x is = let there = is.there in cc
-
--- a fault that the keeper didn't have
-no_false_fault : (Alters : Asked → Type 0) → Served Alters false 3 [] 0 (is_faulted ∷ []) → ⊥
-no_false_fault Alters served =
-    nowhere is_faulted (served_complete Alters false 3 [] 0 (is_faulted ∷ []) refl refl served 0
-    is_faulted asked refl asks refl refl
-    (λ same. let digit = sym fault_digit ∙ ap (λ text. get_or text 11 0) same ∙ memory_digit in
-    omega (arith, digit)))
-
--- a history that isn't full
-no_false_room : (Alters : Asked → Type 0) → Served Alters false 3 [] 0 (finds_no_room ∷ []) → ⊥
-no_false_room Alters served =
-    nowhere finds_no_room (served_complete Alters false 3 [] 0 (finds_no_room ∷ []) refl refl served 0
-    finds_no_room asked refl asks refl refl
-    (λ same. let digit = sym full_digit ∙ ap (λ text. get_or text 10 0) same ∙ memory_middle in
-    omega (arith, digit)))
-
--- a fault at a call that alters nothing
-no_fault_of_a_look : (Alters : Asked → Type 0) (text : List ℕ)
-    → (Alters asked → ⊥)
-    → text ≡ reply_text answers.KeeperFault
-    → TextOfNone Alters false 3 [] is_faulted text 1
-    → ⊥
-no_fault_of_a_look Alters text looks t (fault other q read alters same) =
-    let one : Ok other ≡ Ok asked = reads_once request (Ok other) (Ok asked) q asks in
-    let P : Asked → Type 0 = Alters in
-    looks (subst P (let e : other ≡ asked = cc in e) alters)
-
--- the lead, who looks at a document, alters nothing, whether it is there or not
-a_look_alters_nothing : AltersOn begun (key 1) see → ⊥
-unfolding step_of encode
-a_look_alters_nothing alters = alters
-
--- and who adds a colleague does
-abbrev add : Call
-add = AddStaff (codes "Bob") Reviewer (key 2)
-
-who_adds_alters : AltersAmong begun history (key 1) add
-unfolding step_of encode
-who_adds_alters =
-    record {
-      before = [];
-      behind = history;
-      all = refl;
-      alters = λ same. let more = ap (λ m. length m.staff) same in absurd (omega (arith, more));
-    }
+at_start : start_faults 3 ≡ 0
+at_start = refl

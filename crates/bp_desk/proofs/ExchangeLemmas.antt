@@ -15,19 +15,19 @@ use Rattle.bp_web.specs.declared.refusals.WebRefusal.TheVariants as web_refusals
 use Rattle.bp_web.specs.declared.replies.Answer.{Answer}
 use Rattle.bp_web.specs.declared.replies.Answer.TheVariants as answers
 use Rattle.bp_web.specs.declared.requests.Asked.{Asked}
+use Rattle.bp_book.specs.Calls.{AltersOn}
+use Rattle.bp_book.specs.History.{AreOthers, HistoryView, asked_by, is_full, matter_of, sent_for}
+use Rattle.bp_book.specs.declared.history.Made.{Made}
+use Rattle.bp_book.specs.declared.refusals.DeskRefusal.{DeskRefusal}
+use Rattle.bp_book.specs.declared.refusals.DeskRefusal.TheVariants as desk_refusals
+use Rattle.bp_book.proofs.HistoryLemmas.{grew_not, no_others, not_full}
 use Rattle.bp_doors.specs.Exchanges.{IsRefusalText, Sent, memory_text, text_of}
 use Rattle.bp_doors.specs.Serving.{RoseBy}
 use Rattle.bp_desk.specs.Exchanges.{AltersNow, AnswersCall, AnswersRead, CallsAt, Deals, ReadsAs, Refuses, answer_from}
 use Rattle.bp_desk.specs.Exchanges.Deals.{made_none, made_one}
-use Rattle.bp_desk.specs.Calls.{AltersOn}
-use Rattle.bp_desk.specs.History.{AreOthers, HistoryView, asked_by, is_full, matter_of, sent_for}
 use Rattle.bp_desk.specs.Served.{Asks, IsEnough, TellsRequest, TextOfNone, WasReadWhole}
 use Rattle.bp_desk.specs.Served.TextOfCall.{no_reply, reply}
 use Rattle.bp_desk.specs.Served.TextOfNone.{fault, no_memory, no_room, refusal}
-use Rattle.bp_desk.specs.declared.history.Made.{Made}
-use Rattle.bp_desk.specs.declared.refusals.DeskRefusal.{DeskRefusal}
-use Rattle.bp_desk.specs.declared.refusals.DeskRefusal.TheVariants as desk_refusals
-use Rattle.bp_desk.proofs.HistoryLemmas.{grew_not, no_others, not_full}
 
 -- what is told of bytes, by what the test promises
 pub tells : (bytes : List ℕ) (answer : Bool)

@@ -3,13 +3,13 @@ use Rattle.std.proofs.Common.{◌≡◌, ℕ, ◌+◌, ◌≤◌, eq-eqb, true, 
 use Rattle.bp_matter.specs.Matter.{Matter}
 use Rattle.bp_matter.specs.declared.calls.Call.{Call}
 use Rattle.bp_web.specs.declared.requests.Asked.{Asked}
-use Rattle.bp_desk.specs.Calls.{AltersAmong, AltersOn, run_calls}
-use Rattle.bp_desk.specs.History.{HistoryView, Turn, is_full, matter_of, turns_of}
+use Rattle.bp_book.specs.Calls.{AltersAmong, AltersOn, run_calls}
+use Rattle.bp_book.specs.History.{HistoryView, Turn, is_full, matter_of, turns_of}
+use Rattle.bp_book.specs.declared.history.Made.{Made}
+use Rattle.bp_book.proofs.HistoryLemmas.{is_at_room, turns_of-others}
 use Rattle.bp_desk.specs.Run.{AltersIn, SeatLaw, fills}
 use Rattle.bp_desk.specs.Served.{Served}
 use Rattle.bp_desk.specs.Serving.{AltersSince}
-use Rattle.bp_desk.specs.declared.history.Made.{Made}
-use Rattle.bp_desk.proofs.HistoryLemmas.{is_at_room, turns_of-others}
 use Rattle.bp_desk.proofs.ServedLemmas.{served_complete, served_history}
 
 stays_full : (seen : HistoryView) (room : ℕ) (rest : List Made)

@@ -10,8 +10,10 @@ use Rattle.bp_web.proofs.RequestLemmas.{reads_once}
 use Rattle.bp_web.specs.Requests.{HttpReads}
 use Rattle.bp_web.specs.declared.refusals.WebRefusal.{WebRefusal}
 use Rattle.bp_web.specs.declared.requests.Asked.{Asked}
-use Rattle.bp_desk.specs.Calls.{run_calls}
-use Rattle.bp_desk.specs.History.{Turn, turns_of}
+use Rattle.bp_book.specs.Calls.{run_calls}
+use Rattle.bp_book.specs.History.{Turn, turns_of}
+use Rattle.bp_book.specs.declared.history.Made.{Made}
+use Rattle.bp_book.proofs.HistoryLemmas.{turns_of-append}
 use Rattle.bp_doors.specs.Exchanges.{Sent, WasRefused, memory_text}
 use Rattle.bp_doors.specs.Exchanges.Sent.{cut, whole}
 use Rattle.bp_desk.specs.Served.{Asks, Served, TextOfCall, TextOfNone}
@@ -19,8 +21,6 @@ use Rattle.bp_desk.specs.Served.Served.{called, nobody, uncalled}
 use Rattle.bp_desk.specs.Served.TextOfCall.{no_reply, reply}
 use Rattle.bp_desk.specs.Served.TextOfNone.{fault, no_memory, no_read, no_room, refusal}
 use Rattle.bp_desk.specs.Serving.{AreAnswered, IsAnswered}
-use Rattle.bp_desk.specs.declared.history.Made.{Made}
-use Rattle.bp_desk.proofs.HistoryLemmas.{turns_of-append}
 
 no_more : (left more : List Turn) → left ≡ [] → more ≡ [] → left ++ more ≡ []
 no_more left more l m = ap (λ turns. turns ++ more) l ∙ m

@@ -9,15 +9,15 @@ use Rattle.bp_doors.specs.Serving.InTurn.{next, nobody as nobody_came}
 use Rattle.bp_doors.proofs.CountLemmas.{none_rose, rose_twice}
 use Rattle.bp_matter.specs.Matter.{Matter}
 use Rattle.bp_matter.specs.declared.calls.Call.{Call}
-use Rattle.bp_desk.specs.Calls.{AltersAmong, AltersOn, run_calls}
+use Rattle.bp_book.specs.Calls.{AltersAmong, AltersOn, run_calls}
+use Rattle.bp_book.specs.History.{Grew, HistoryView, Turn, is_full, matter_of, turn_of, turns_of}
+use Rattle.bp_book.specs.declared.history.Made.{Made}
+use Rattle.bp_book.proofs.HistoryLemmas.{as_full, grew_not, grew_twice, matter_after, run_calls-append, turns_of-append, turns_of-last, turns_of-others}
 use Rattle.bp_desk.specs.Exchanges.{AltersNow, Deals}
 use Rattle.bp_desk.specs.Exchanges.Deals.{made_none, made_one}
-use Rattle.bp_desk.specs.History.{Grew, HistoryView, Turn, is_full, matter_of, turn_of, turns_of}
 use Rattle.bp_desk.specs.Served.{Served}
 use Rattle.bp_desk.specs.Served.Served.{called, nobody, uncalled}
 use Rattle.bp_desk.specs.Serving.{AltersSince, AreAnswered, DealsAt, ServesCalls, ServesCallDoor}
-use Rattle.bp_desk.specs.declared.history.Made.{Made}
-use Rattle.bp_desk.proofs.HistoryLemmas.{as_full, grew_not, grew_twice, matter_after, run_calls-append, turns_of-append, turns_of-last, turns_of-others}
 use Rattle.bp_desk.proofs.ServedLemmas.{fuller, served_append, served_complete}
 
 -- ---- calls that alter what is kept

@@ -13,17 +13,17 @@ use Rattle.bp_web.specs.declared.refusals.WebRefusal.TheVariants as web_refusals
 use Rattle.bp_web.specs.declared.replies.Answer.{Answer}
 use Rattle.bp_web.specs.declared.replies.Answer.TheVariants as answers
 use Rattle.bp_web.specs.declared.requests.Asked.{Asked}
-use Rattle.bp_desk.specs.Calls.{AltersOn, answer_to, run_calls}
-use Rattle.bp_desk.specs.History.{AreOthers, Grew, HistoryView, is_full, matter_of, turn_of}
+use Rattle.bp_book.specs.Calls.{AltersOn, answer_to, run_calls}
+use Rattle.bp_book.specs.History.{AreOthers, Grew, HistoryView, is_full, matter_of, turn_of}
+use Rattle.bp_book.specs.declared.history.Made.{Made}
+use Rattle.bp_book.specs.declared.refusals.DeskRefusal.{DeskRefusal}
+use Rattle.bp_book.specs.declared.refusals.DeskRefusal.TheVariants as desk_refusals
 use Rattle.bp_doors.specs.Exchanges.{Sent, WasCut, memory_text}
 use Rattle.bp_doors.specs.Exchanges.Sent.{whole}
 use Rattle.bp_doors.specs.Exchanges.WasCut.{no_read as cut_read, no_room as cut_room}
 use Rattle.bp_doors.specs.Serving.{RoseBy}
 use Rattle.bp_desk.specs.Served.{TellsRequest, TextOfCall, TextOfNone, WasReadWhole}
 use Rattle.bp_desk.specs.Served.TextOfNone.{no_memory, no_read}
-use Rattle.bp_desk.specs.declared.history.Made.{Made}
-use Rattle.bp_desk.specs.declared.refusals.DeskRefusal.{DeskRefusal}
-use Rattle.bp_desk.specs.declared.refusals.DeskRefusal.TheVariants as desk_refusals
 
 -- ---- a call
 

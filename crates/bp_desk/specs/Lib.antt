@@ -1,8 +1,11 @@
-pub mod Books
 pub mod Calls
+pub mod Closing
+pub mod Doors
 pub mod Exchanges
-pub mod History
+pub mod Laws
+pub mod Matters
 pub mod Run
+pub mod Seats
 pub mod Served
 pub mod Serving
-pub mod Shown
+pub mod Turns

@@ -5,11 +5,11 @@ use Rattle.bp_matter.specs.Matter.{Matter}
 use Rattle.bp_outside.specs.Door.{DoorView}
 use Rattle.bp_outside.specs.declared.exchange.Exchange.{Exchange}
 use Rattle.bp_web.specs.declared.requests.Asked.{Asked}
-use Rattle.bp_desk.specs.Calls.{AltersAmong}
-use Rattle.bp_desk.specs.History.{AreOthers, HistoryView, turns_of}
+use Rattle.bp_book.specs.Calls.{AltersAmong}
+use Rattle.bp_book.specs.History.{AreOthers, HistoryView, turns_of}
+use Rattle.bp_book.specs.declared.history.Made.{Made}
 use Rattle.bp_desk.specs.Served.{Served}
 use Rattle.bp_desk.specs.Serving.{AreAnswered, Returned, ServesCallDoor, raised}
-use Rattle.bp_desk.specs.declared.history.Made.{Made}
 
 -- the history has as many calls as there is room for
 abbrev pub fills : List Made → ℕ → Bool

@@ -9,7 +9,7 @@ use Rattle.bp_web.specs.declared.replies.Answer.TheVariants as answers
 use Rattle.bp_web.specs.declared.requests.Asked.{Asked}
 use Rattle.bp_doors.specs.Exchanges.{Sent, WasRead as WasReadBy, WasRefused, memory_text}
 use Rattle.bp_outside.specs.Input.{WasNeeded}
-use Rattle.bp_desk.specs.History.{Turn}
+use Rattle.bp_book.specs.History.{Turn}
 
 -- whatever bytes follow these, they are read as the same request
 abbrev pub IsEnough : List ℕ → Type 0

@@ -6,14 +6,14 @@ use Rattle.bp_outside.specs.Door.{DoorView}
 use Rattle.bp_outside.specs.declared.exchange.Exchange.{Exchange}
 use Rattle.bp_web.specs.Replies.{reply_text}
 use Rattle.bp_web.specs.declared.requests.Asked.{Asked}
-use Rattle.bp_desk.specs.Calls.{AltersAmong}
-use Rattle.bp_desk.specs.History.{Grew, HistoryView, Turn, is_full, matter_of, turns_of}
+use Rattle.bp_book.specs.Calls.{AltersAmong}
+use Rattle.bp_book.specs.History.{Grew, HistoryView, Turn, is_full, matter_of, turns_of}
+use Rattle.bp_book.specs.declared.history.Made.{Made}
 use Rattle.bp_doors.specs.Exchanges.{memory_text}
 use Rattle.bp_doors.specs.Serving.{InTurn}
 pub use Rattle.bp_doors.specs.Serving.{Knocks, Returned, RoseBy, raised}
 use Rattle.bp_desk.specs.Exchanges.{Deals}
 use Rattle.bp_desk.specs.Served.{Asks, Served, WasReadWhole}
-use Rattle.bp_desk.specs.declared.history.Made.{Made}
 
 -- a call for what was asked alters the matter behind some beginning of the calls that came
 abbrev pub AltersSince : HistoryView → List Made → Asked → Type 0

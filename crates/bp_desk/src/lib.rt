@@ -1,23 +1,34 @@
-//! The desk: calls to one history, and the doors that they come through.
+//! The desk: seats that share the book of one matter, and the doors that calls come to them through. Up
+//! to sixteen serve at once, on threads of their own, and what they did is one history, each call once.
 //!
-//! A `Book` has the tables of a matter, their keeper and the journal of the calls that were made:
-//! `Book::start` first, then `Book::call`, and `Book::end`. `serve_by` serves a door by whoever makes
-//! its calls (`Caller`). What a call does is `BookCalls` of
-//! specs/Books.antt; what serving comes to is `ServesDoor` of specs/Serving.antt, whose heart is
-//! `Served` of specs/Served.antt.
+//! `Desk::start` first, which deals the seats, then `Desk::call` at a seat, or `serve_all`, which serves
+//! the doors of posts, and `Desk::close`; `serve_matter` does all of it for a row of doors. The rule of
+//! the table that the seats share is `Ruled` of specs/Turns.antt, with its nine kinds of step; what a
+//! call tells is `Calls` of specs/Seats.antt; what serving a door comes to is `ServesCallDoor` of
+//! specs/Serving.antt, whose heart is `Served` of specs/Served.antt.
 #![tactic(auto)]
 
-mod accepts;
-mod book;
-mod callers;
+mod closing;
+mod desk;
+mod doors;
 mod handler;
-mod history;
 pub mod laws;
-mod refusals;
+mod matters;
+mod notes;
+mod posts;
 mod replies;
+mod seat;
+mod starting;
+mod threads;
+mod turns;
+mod views;
 
-pub use accepts::serve_by;
-pub use book::{Book, Closed, NotStarted};
-pub use callers::Caller;
-pub use history::{History, MOST_CALLS, Made};
-pub use refusals::DeskRefusal;
+pub use closing::NotClosed;
+pub use desk::{Desk, DeskOf, MOST_SEATS};
+pub use doors::{Post, PostOf, serve_all, serve_door};
+pub use matters::{MatterServed, NobodyServed, serve_matter};
+pub use seat::{Note, NoteOf, Seat, SeatOf};
+pub use starting::Started;
+pub use threads::{desk_is_shared, note_goes, post_goes, seat_goes};
+pub use turns::Turns;
+pub use views::{Began, KeeperBegan, Opening, Peer, View};

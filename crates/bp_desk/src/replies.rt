@@ -1,15 +1,19 @@
 // From the bytes of a request to the text of its reply.
 ghost use Rattle.std.specs.Prelude.{◌≡◌, Result};
 ghost use Rattle.bp_doors.specs.Exchanges.{text_of};
+ghost use Rattle.bp_desk.specs.Doors.{history_at};
 ghost use Rattle.bp_desk.specs.Exchanges.{AnswersRead, ReadsAs, answer_from};
+ghost use Rattle.bp_desk.specs.Seats.{IsSeatOf, SameSeat};
 
-use crate::book::is_made;
-use crate::callers::Caller;
-use crate::refusals::DeskRefusal;
+use crate::desk::Desk;
+use crate::seat::Seat;
+use bp_book::{DeskRefusal, is_made};
 use bp_doors::{Answered, refusal_bytes};
+use bp_keep::Keeper;
 use bp_matter::Reply;
 use bp_web::{Answer, Asked, RouteTable, WebRefusal, read_request, read_request_by, reply_bytes};
 use std::alloc::Global;
+use std::sync::Wait;
 
 // What these bytes ask for, by these routes; where there are none, by some that are made for it.
 pub(crate) fn read_by(
@@ -25,20 +29,21 @@ pub(crate) fn read_by(
     }
 }
 
-// What answers what was read.
-pub(crate) fn answer_read<S, C: Caller<S>>(
+// What answers what was read, at a seat.
+pub(crate) fn answer_read<K: Keeper, R: Wait>(
+    desk: &Desk<K>,
+    rt: &R,
     alloc: Global,
-    caller: &C,
-    at: &mut S,
+    seat: &mut Seat<K>,
     request: &Result<Asked, WebRefusal>,
 ) -> Answered
-    requires { C.Keeps caller.now at.old }
-    ensures answers { AnswersRead (C.seat caller.now) (C.knows at.old) request.now
-        (text_of result.text) (C.knows at.new) }
-    ensures keeps { C.Keeps caller.now at.new }
+    requires { IsSeatOf desk.now seat.old }
+    ensures same { SameSeat seat.old seat.new }
+    ensures answers { AnswersRead seat.old.view.number (history_at seat.old.view) request.now
+        (text_of result.text) (history_at seat.new.view) }
 {
     match request {
-        Ok(asked) => answer_asked(alloc, caller, at, asked),
+        Ok(asked) => answer_asked(desk, rt, alloc, seat, asked),
         Err(refusal) => Answered {
             text: refusal_bytes(alloc, *refusal),
             made: false,
@@ -47,13 +52,20 @@ pub(crate) fn answer_read<S, C: Caller<S>>(
 }
 
 // What answers a call.
-fn answer_asked<S, C: Caller<S>>(alloc: Global, caller: &C, at: &mut S, asked: &Asked) -> Answered
-    requires { C.Keeps caller.now at.old }
-    ensures answers { AnswersRead (C.seat caller.now) (C.knows at.old) (Result.Ok asked.now)
-        (text_of result.text) (C.knows at.new) }
-    ensures keeps { C.Keeps caller.now at.new }
+fn answer_asked<K: Keeper, R: Wait>(
+    desk: &Desk<K>,
+    rt: &R,
+    alloc: Global,
+    seat: &mut Seat<K>,
+    asked: &Asked,
+) -> Answered
+    requires { IsSeatOf desk.now seat.old }
+    ensures same { SameSeat seat.old seat.new }
+    ensures answers { AnswersRead seat.old.view.number (history_at seat.old.view)
+        (Result.Ok asked.now) (text_of result.text) (history_at seat.new.view) }
 {
-    let given = caller.call(alloc, at, &asked.key, &asked.call);
+    seat.know_own();
+    let given = desk.call(rt, alloc, seat, &asked.key, &asked.call);
     let made = is_made(&given);
     let answer = answer_from(given);
     Answered {

@@ -16,8 +16,8 @@ use Rattle.bp_matter.specs.declared.rows.StaffRow.{StaffRow}
 use Rattle.bp_matter.specs.declared.rows.State.TheVariants.{Confirmed}
 use Rattle.bp_freeze.specs.Freezing.{freeze_of, kept_production}
 use Rattle.bp_rules.specs.Stepping.{step_of}
-use Rattle.bp_desk.specs.Calls.{made_by, run_calls}
-use Rattle.bp_desk.specs.declared.history.Made.{Made}
+use Rattle.bp_book.specs.Calls.{made_by, run_calls}
+use Rattle.bp_book.specs.declared.history.Made.{Made}
 use Rattle.bp_frozen.specs.Frozen.{FreezeLaw, FreezeStands, IsFrozenBy}
 
 -- ---- document 1 is withheld, and confirmed; its one page and the words of that are left out: no call below looks at them

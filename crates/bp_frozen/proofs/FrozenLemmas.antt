@@ -25,9 +25,9 @@ use Rattle.bp_receiver.specs.Contents.{CallStays}
 use Rattle.bp_receiver.proofs.AgreeLemmas.{those-stay, with_those_of}
 use Rattle.bp_receiver.proofs.CallLemmas.{Staying, step-stays}
 use Rattle.bp_receiver.proofs.StayLemmas.{stays-itself, stays-then}
-use Rattle.bp_desk.specs.Calls.{answer_by, matter_by, matter_with, run_calls}
-use Rattle.bp_desk.specs.declared.history.Made.{Made}
-use Rattle.bp_desk.proofs.HistoryLemmas.{run_calls-append}
+use Rattle.bp_book.specs.Calls.{answer_by, matter_by, matter_with, run_calls}
+use Rattle.bp_book.specs.declared.history.Made.{Made}
+use Rattle.bp_book.proofs.HistoryLemmas.{run_calls-append}
 use Rattle.bp_frozen.specs.Frozen.{FreezeLaw, IsFrozenBy}
 
 -- ---- what calls leave

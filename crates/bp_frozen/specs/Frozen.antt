@@ -11,8 +11,8 @@ use Rattle.bp_freeze.specs.Alike.{Alike}
 use Rattle.bp_freeze.specs.Freezing.{freeze_of, kept_production}
 use Rattle.bp_freeze.specs.Keeping.{KeepsProduction}
 use Rattle.bp_press.specs.Volume.{volume_of}
-use Rattle.bp_desk.specs.Calls.{answer_to, run_calls}
-use Rattle.bp_desk.specs.declared.history.Made.{Made}
+use Rattle.bp_book.specs.Calls.{answer_to, run_calls}
+use Rattle.bp_book.specs.declared.history.Made.{Made}
 
 -- on this matter the call asked to freeze this, and was answered with this production
 pub record IsFrozenBy (m : Matter) (made : Made) (q : Request) (f : Production) : Type 0 where

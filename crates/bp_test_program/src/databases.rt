@@ -1,9 +1,9 @@
 // Command lines over a database in memory: the keeper that one hands back is handed to the next.
 use crate::page_file::WHITE;
 use crate::programs::words_of;
+use bp_book::History;
 use bp_cli::run::{Ended, run};
 use bp_core::{Bytes, DocNo, NumberList, Text, Treatment};
-use bp_desk::History;
 use bp_keep::Keeper;
 use bp_keep_sql::SqlKeeper;
 use bp_matter::Call;

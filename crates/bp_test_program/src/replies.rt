@@ -1,7 +1,7 @@
 // The same requests at each of two doors: what is written in each exchange, to the byte.
 use crate::databases::{LEAD, decide, imported, ran};
+use bp_book::History;
 use bp_core::{Bytes, NumberList, RowList};
-use bp_desk::History;
 use bp_keep::Keeper;
 use bp_outside::{BytesList, MemDoor};
 use std::alloc::{AllocError, Global};

@@ -1,0 +1,3 @@
+pub mod BookLemmas
+mod Examples
+pub mod HistoryLemmas

@@ -1,5 +1,0 @@
-use Rattle.bp_seats.proofs.LawLemmas.{faults_law}
-use Rattle.bp_seats.proofs.laws.faults_law.Goals as goal
-
-pub returns : goal.returns
-returns c = faults_law

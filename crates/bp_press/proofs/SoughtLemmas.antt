@@ -30,7 +30,7 @@ use Rattle.bp_press.specs.Files.{image_files, item_files, text_file}
 use Rattle.bp_press.specs.Needs.{CanBePressed}
 use Rattle.bp_press.specs.Paths.{folder_of, image_path, text_path}
 use Rattle.bp_press.specs.Pressing.{CanAllBePlaced, CanBePlaced, count_by, files_from, placed_at}
-use Rattle.bp_press.specs.Sought.{HasLabel, IsOutside, IsSought, Seeks}
+use Rattle.bp_press.specs.Sought.{BearsLabel, IsOutside, IsSought, Seeks}
 use Rattle.bp_press.specs.Volume.{data_files, file_at, files_before, placed_items}
 use Rattle.bp_press.specs.VolumeFiles.{EntryCanBeMade, Lists, file_of_entry}
 use Rattle.bp_press.specs.declared.volume_files.VolumeFile.{VolumeFile}
@@ -82,7 +82,7 @@ other_label : (own path front end : List ℕ) (p : Prefix) (m n : ℕ)
     → encode_utf8_all end ≡ end
     → length end ≡ 4
     → m ≤ largest_of p.width
-    → HasLabel path p n
+    → BearsLabel path p n
     → (n ≡ m → ⊥)
     → bytes_eq own path ≡ false
 other_label own path front end p m n is ascii four small has other =
@@ -106,7 +106,7 @@ text_end = refl
 
 image_other : (q : Request) (place m n : ℕ) (path : List ℕ)
     → m ≤ largest_of q.prefix.width
-    → HasLabel path q.prefix n
+    → BearsLabel path q.prefix n
     → (n ≡ m → ⊥)
     → bytes_eq (image_path solidus q place m) path ≡ false
 image_other q place m n path small has other =
@@ -115,7 +115,7 @@ image_other q place m n path small has other =
 
 text_other : (q : Request) (place m n : ℕ) (path : List ℕ)
     → m ≤ largest_of q.prefix.width
-    → HasLabel path q.prefix n
+    → BearsLabel path q.prefix n
     → (n ≡ m → ⊥)
     → bytes_eq (text_path solidus q place m) path ≡ false
 text_other q place m n path small has other =
@@ -132,7 +132,7 @@ outside_from number first count (inl below) less = below
 outside_from number first count (inr past) less = absurd (omega arith)
 
 images_other : (q : Request) (number : ℕ) (path : List ℕ)
-    → HasLabel path q.prefix number
+    → BearsLabel path q.prefix number
     → (place first : ℕ) (images : List Image)
     → first + length images ≤ largest_of q.prefix.width + 1
     → (number < first + length images → number < first)
@@ -155,7 +155,7 @@ count_is f m i (Some basis) = sheet_count f.request i basis
 
 item_other : (f : Production) (m : Matter) (i : Item) (place number : ℕ) (path : List ℕ)
     → CanBePlaced f.request m i
-    → HasLabel path f.request.prefix number
+    → BearsLabel path f.request.prefix number
     → (number < i.span.first) ⊎ (i.span.first + length (part_of f m i).content.images ≤ number)
     → None ≡ file_at path (item_files f.request (placed_at f m i place))
 item_other f m i place number path fit has out =
@@ -224,7 +224,7 @@ seeks_then f m path before mid after xs ys a b =
 pub seeks_passed : (f : Production) (m : Matter) (i : Item) (place : ℕ) (path : List ℕ) (list : List VolumeFile) (count : ℕ) (number : Option ℕ)
     → CanBePlaced f.request m i
     → count ≡ length (part_of f m i).content.images
-    → IfSome number (λ n. HasLabel path f.request.prefix n)
+    → IfSome number (λ n. BearsLabel path f.request.prefix n)
     → IsOutside number i.span.first count
     → Seeks f m path list (item_files f.request (placed_at f m i place)) list
 seeks_passed f m i place path list count None fit many has out = absurd out

@@ -17,7 +17,7 @@ pub record EndsWithLabel (path : List ℕ) (prefix : Prefix) (number : ℕ) (end
   pub is : encode_utf8_all path ≡ (front ++ label_in prefix number) ++ end
 
 -- a path that ends with the label of a number, and then with four bytes, as images and texts do
-pub record HasLabel (path : List ℕ) (prefix : Prefix) (number : ℕ) : Type 0 where
+pub record BearsLabel (path : List ℕ) (prefix : Prefix) (number : ℕ) : Type 0 where
   pub good : IsTrue (is_good_prefix prefix.text prefix.width)
   pub small : number ≤ largest_of prefix.width
   pub end : List ℕ

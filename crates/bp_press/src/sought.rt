@@ -4,7 +4,7 @@ ghost use Rattle.std.specs.Prelude.{◌≡◌, IfOk, IfSome, IsTrue, OnOk, false
 ghost use Rattle.bp_bates.specs.Prefixes.{is_good_prefix};
 ghost use Rattle.bp_press.specs.Needs.{CanBePressed, IsLabelled};
 ghost use Rattle.bp_press.specs.Pressing.{CanAllBePlaced, files_from};
-ghost use Rattle.bp_press.specs.Sought.{HasLabel, IsOutside, IsSought, Seeks};
+ghost use Rattle.bp_press.specs.Sought.{BearsLabel, IsOutside, IsSought, Seeks};
 ghost use Rattle.bp_press.specs.Volume.{files_before, placed_items};
 
 use crate::entries::{IMAGE_END, TEXT_END, ends_with_label};
@@ -77,7 +77,7 @@ fn may_hold(item: &Item, count: u64, number: Option<u64>) -> bool
 
 // The number of the label that a path ends with, as the path of an image or a text does.
 fn label_number(path: &Text, prefix: &Prefix) -> Option<u64>
-    ensures { IfSome result (λ number. HasLabel path.now prefix.now number) }
+    ensures { IfSome result (λ number. BearsLabel path.now prefix.now number) }
 {
     if !good_prefix(&prefix.text, prefix.width) {
         return None;
@@ -93,7 +93,7 @@ fn label_number(path: &Text, prefix: &Prefix) -> Option<u64>
 fn has_label(path: &Text, prefix: &Prefix, number: u64) -> bool
     requires good { IsTrue (is_good_prefix prefix.now.text prefix.now.width) }
     requires label { IsLabelled prefix.now.width number }
-    ensures { result ≡ true → HasLabel path.now prefix.now number }
+    ensures { result ≡ true → BearsLabel path.now prefix.now number }
 {
     if ends_with_label(path, prefix, number, &IMAGE_END) {
         return true;

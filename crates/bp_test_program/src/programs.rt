@@ -94,8 +94,16 @@ fn the_program_carries_out_the_words_after_its_name(rt: HostRuntime) -> Result<(
     ] {
         let words = words_of(alloc, line)?;
         let doors = Ok(Vec::new(alloc));
-        let (opened, answer) = (Ok(Connection::open_in_memory(alloc)?), Ok(words.into_iter()));
-        check(&rt, alloc, opened, doors, answer, ends, written)?;
+        let opened = Ok(Connection::open_in_memory(alloc)?);
+        check(
+            &rt,
+            alloc,
+            opened,
+            doors,
+            Ok(words.into_iter()),
+            ends,
+            written,
+        )?;
     }
     Ok(())
 }

@@ -95,15 +95,8 @@ fn the_program_carries_out_the_words_after_its_name(rt: HostRuntime) -> Result<(
         let words = words_of(alloc, line)?;
         let doors = Ok(Vec::new(alloc));
         let opened = Ok(Connection::open_in_memory(alloc)?);
-        check(
-            &rt,
-            alloc,
-            opened,
-            doors,
-            Ok(words.into_iter()),
-            ends,
-            written,
-        )?;
+        let answer = Ok(words.into_iter());
+        check(&rt, alloc, opened, doors, answer, ends, written)?;
     }
     Ok(())
 }

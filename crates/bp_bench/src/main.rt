@@ -5,9 +5,12 @@
 //     bp_bench opt LINES TIMES
 //     bp_bench words ROWS TIMES
 //     bp_bench strips FILE PAGES TIMES
+//     bp_bench read FILE TIMES
+//     bp_bench judge FILE TIMES
 #![tactic(auto)]
 
 mod dat;
+mod files;
 mod opt;
 mod strips;
 mod sums;
@@ -33,6 +36,8 @@ fn run(rt: &HostRuntime, words: &[String]) -> Result<u64> {
         "opt" => opt::run(rt.alloc(), operands),
         "words" => words::run(rt.alloc(), operands),
         "strips" => strips::run(rt, operands),
+        "read" => files::read(rt, operands),
+        "judge" => files::judge(rt, operands),
         other => bail!("no job {other}"),
     }
 }

@@ -24,7 +24,7 @@ PATIENCE = 600  # seconds until a desk is open, which reads its matter first
 
 
 def make(matter, documents):
-    """The matter, and its volume in out/; the paths of that."""
+    """The matter, and its volume in out/, where its database is, too; the paths of the volume."""
     image, batch = (os.path.join(matter.folder, name) for name in ("small.tif", "B"))
     with open(image, "wb") as out:
         subprocess.run([os.path.join(TOP, "trials", "plain_page.py"), "200"], input=SMALL, stdout=out, check=True)
@@ -36,7 +36,8 @@ def make(matter, documents):
     with open(os.path.join(matter.folder, "grants.csv"), "w", encoding="utf-8") as grants:
         grants.write("3,R-1\n")  # the receiver comes after the lead and who confirms
     out = os.path.join(matter.folder, "out")
-    return sorted(os.path.relpath(os.path.join(at, name), out) for at, _, names in os.walk(out) for name in names)
+    files = (os.path.relpath(os.path.join(at, name), out) for at, _, names in os.walk(out) for name in names)
+    return sorted(path for path in files if not path.startswith("matter.db"))
 
 
 def begun(matter, *words):

@@ -204,10 +204,12 @@ def page():
     kit = [wrapped(f"- `{path}`: {', '.join(f'`{it}`' for it in sorted(words))}") for path, words in sorted(walk.of_kit.items())]
     head = f"""# The headline, to be read
 
-Whoever wants to believe the headline of README has this to read: the clauses of `run`, which are proved, and every definition that they
-reach. `docs/write_headline.py` writes this page from the sources, and the gate checks that it is theirs. In all: {'; '.join(told)}.
-Cases of commands other than `produce`, `press` and `serve` are left out of definitions that go by cases. That a database tells its rows
-is `rows_told` of `bp_keep_sql`, and that a disk tells no files is `Untold` of `bp_outside`: both stand outside this page.
+Whoever wants to believe the headline of README has this to read: the clauses of `run`, which are proved, and every definition of this
+repository that they reach; the kit's own, of lists, options, texts, SHA-256 and JSON, stand in its libraries. `docs/write_headline.py`
+writes this page from the sources, and the gate checks that it is theirs. In all: {'; '.join(told)}.
+Cases of commands other than `produce`, `press` and `serve` are left out of definitions that go by cases. What the file `matter.db` is to
+the rows is `EndsFiles` of `bp_cli` (`Database.antt`), when a database tells its rows `rows_told` of `bp_keep_sql`, and that a disk tells
+no files `Untold` of `bp_outside`: these stand outside this page.
 
 **To read it.** Begin at `RunsCommand`, the first definition below; each name stands further down, room by room from the program to the
 ground. `A → B` is a premise and what follows, or the type of a function; `a ≡ b` says that they are equal; `×` and `⊎` are and, or; `λ x. t` is

@@ -3,14 +3,17 @@
 many desks. .ci/run runs it behind the gate; by hand it is `make check`.
 
 Each part is a script that runs by itself, too, and says what it leaves out where something isn't installed. Here each has so many
-minutes: then it, and whatever it began, is ended, and it failed. Where the system allows that, all run in a network of their own that
-has a loopback alone: no port is taken there, and nothing goes out. They try the program where it is built from the sources as they
-stand, else what they can without it, or a stand-in.
+minutes: then it, and whatever it began, is ended, and it failed. The parts of a group go one after another, groups side by side where
+there are processors for that. Where the system allows that, each group runs in a network of its own that has a loopback alone: no port
+is taken there, and nothing goes out. They try the program where it is built from the sources as they stand, else what they can without
+it, or a stand-in.
 
     all.py [--within MINUTES] [PART ..]
                          no part named: all. With --within no part begins after so many minutes, as what runs them may end at a time
                          of its own: .ci/run says so. Ends with 1 where a part failed twice
 """
+import multiprocessing
+import multiprocessing.connection
 import os
 import shutil
 import signal
@@ -82,6 +85,13 @@ PARTS = {
     "guide": Part("trials/guide.py", 15),
     "desks": Part("trials/desks.sh", 15, desks=16),
 }
+# parts that take a folder or a service of the machine from one another stand in one group, in the order in which they need each other
+GROUPS = [
+    """manual install folder deb backup services cluster reckoned office deliver check claw demo report refusals clerk compare stops
+    clients growths""".split(),
+    "batch take faults forms fetch guide desks".split(),
+    ["page"],
+]
 
 
 def is_built():
@@ -97,33 +107,39 @@ def is_open(port):
         return False
 
 
-def pass_on(pipe, left_out):
+def say(name, line):
+    """One write a line, as groups print side by side."""
+    os.write(1, f"{name}: {line.rstrip()}\n".encode(errors="replace"))
+
+
+def pass_on(name, pipe, left_out):
     """Prints what a part prints, and keeps the lines that say what it leaves out."""
     for line in pipe:
-        print(line, end="", flush=True)
+        say(name, line)
         if "not tried" in line.lower():
-            left_out.append(line.strip())
+            left_out.append(f"{name}: {line.strip()}")
 
 
-def run(part, left_out):
+def run(name, left_out):
     """The status of a part, or None where it took too long. What it leaves among temporary files goes with it."""
     room = tempfile.mkdtemp(prefix="tivrenan-")
     os.chmod(room, 0o755)  # some things are tried as nobody
     try:
-        return run_in(room, part, left_out)
+        return run_in(room, name, left_out)
     finally:
         shutil.rmtree(room, ignore_errors=True)
 
 
-def run_in(room, part, left_out):
+def run_in(room, name, left_out):
+    part = PARTS[name]
     words = [os.path.join(TOP, part.words[0]), *[word.replace("ROOM", room) for word in part.words[1:]]]
     try:
         process = subprocess.Popen(words, cwd=TOP, env={**os.environ, "TMPDIR": room}, stdin=subprocess.DEVNULL, stdout=subprocess.PIPE,
                                    stderr=subprocess.STDOUT, text=True, errors="replace", start_new_session=True)
     except OSError as why:
-        print(f"all.py: {words[0]} can't be started: {why}", flush=True)
+        say(name, f"{words[0]} can't be started: {why}")
         return 127
-    reader = threading.Thread(target=pass_on, args=(process.stdout, left_out), daemon=True)
+    reader = threading.Thread(target=pass_on, args=(name, process.stdout, left_out), daemon=True)
     reader.start()
     try:
         status = process.wait(60 * part.minutes)
@@ -138,22 +154,61 @@ def is_well(name, tried, left_out, until):
     """Whether a part did what is due, or can't be tried here, or not any more, as its time to begin is over. What was tried, and what
     wasn't, is added to these lists."""
     part = PARTS[name]
-    print(f"== {name}: {' '.join(part.words)}", flush=True)
+    say(name, f"== {' '.join(part.words)}")
     why = part.lacks() if time.monotonic() < until else "the minutes of --within are over"
     if why is not None:
         left_out.append(f"{name}: NOT TRIED: {why}")
-        print(left_out[-1], flush=True)
+        say(name, f"NOT TRIED: {why}")
         return True
     tried.append(name)
     began = time.monotonic()
-    status = run(part, left_out)
+    status = run(name, left_out)
     if status not in (0, None) and time.monotonic() < until:
-        print(f"all.py: {name}: status {status}; once more, since a browser and many clients go by the moment", flush=True)
-        status = run(part, left_out)
+        say(name, f"== status {status}; once more, since a browser and many clients go by the moment")
+        status = run(name, left_out)
     took = f"{time.monotonic() - began:.0f} s"
     told = {0: f"ok, {took}", None: f"FAILED: it had {part.minutes} minutes, and was ended"}
-    print(f"all.py: {name}: {told.get(status, f'FAILED: status {status}, {took}')}", flush=True)
+    say(name, f"== {told.get(status, f'FAILED: status {status}, {took}')}")
     return status == 0
+
+
+# ---- groups
+
+
+def try_group(names, until, answer):
+    """Tries parts one after another, in a process of its own: what was tried, what wasn't, and what failed."""
+    apart.adopt()
+    where = "a network of its own" if apart.in_own_network() else "this machine's network, as the system gives no other"
+    say("all.py", f"in {where}: {' '.join(names)}")
+    tried, left_out = [], []
+    try:
+        failed = [name for name in names if not is_well(name, tried, left_out, until)]
+    finally:
+        apart.end_begun()
+    answer.send((tried, left_out, failed))
+
+
+def try_all(groups, until):
+    """Tries groups side by side, and leaves a processor to what they try: of each what was tried, what wasn't, and what failed. All
+    parts of a group that was ended failed."""
+    lanes = max(1, len(os.sched_getaffinity(0)) - 1)
+    left, running, answers = list(groups), {}, []
+    while left or running:
+        while left and len(running) < lanes:
+            names = left.pop(0)
+            answer, given = multiprocessing.Pipe(duplex=False)
+            group = multiprocessing.Process(target=try_group, args=(names, until, given))
+            group.start()
+            given.close()
+            running[answer] = group, names
+        for answer in multiprocessing.connection.wait(running):
+            group, names = running.pop(answer)
+            try:
+                answers.append(answer.recv())
+            except EOFError:
+                answers.append(([], [], names))
+            group.join()
+    return answers
 
 
 def asked(words):
@@ -171,14 +226,12 @@ def main(words):
     apart.adopt()
     for ending in (signal.SIGTERM, signal.SIGHUP):
         signal.signal(ending, lambda number, _: sys.exit(128 + number))
-    where = "a network of its own" if apart.in_own_network() else "this machine's network, as the system gives no other"
-    print(f"all.py: in {where}", flush=True)
-    tried, left_out, failed = [], [], []
-    until = time.monotonic() + 60 * minutes
+    groups = [[name for name in group if name in (names or PARTS)] for group in GROUPS]
     try:
-        failed = [name for name in names or PARTS if not is_well(name, tried, left_out, until)]
+        answers = try_all([group for group in groups if group], time.monotonic() + 60 * minutes)
     finally:
         apart.end_begun()
+    tried, left_out, failed = ([line for answer in answers for line in answer[place]] for place in range(3))
     print("", *left_out, sep="\n")
     print(f"all.py: tried: {' '.join(tried) or 'nothing'}")
     print(f"all.py: FAILED: {' '.join(failed)}" if failed else "all.py: what was tried is as it is due")

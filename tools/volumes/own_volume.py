@@ -25,7 +25,7 @@ class Written:
         check = Check(self.read, self.dat, self.opt, self.manifest, page_rule_of=rule_of)
         fault = next(check.faults(), None)
         if fault:
-            raise NotRight(f"{self.name}: check says `{check_line(fault)}`: {said(fault)[0]}; check_report tells all that is to be mended")
+            raise NotRight(f"{self.name}: check says `{check_line(fault)}`: {said(fault)[0]}; tivrenan-check-report tells all that is to be mended")
         self.columns = check.volume.columns
         self.rows = [[values[column] for column in self.columns] for _, values, _ in check.volume.rows]
         self.lines = check.volume.lines

@@ -1,5 +1,5 @@
 #!/usr/bin/env python3
-"""The limits of docs/STATUSES.md and docs/FORMATS.md at their size and one above: at_limits.py PROGRAM [PART..]. Prints a
+"""Limits of docs/STATUSES.md and docs/FORMATS.md, those of docs/LIMITS.md, at their size and one above: at_limits.py PROGRAM [PART..]. Prints a
 line of a table for each: what it is, status, line, seconds on the clock, and the peak of memory in MB. Ends with status 1
 where a status or a line isn't what is due, or a command hasn't ended after AT_LIMITS_SECONDS (1,800 where that isn't set).
 

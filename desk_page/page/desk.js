@@ -91,7 +91,8 @@ export class Desk {
   }
 
   async #fetch(path, request) {
-    const same = { cache: 'no-store', credentials: 'omit', redirect: 'error', referrerPolicy: 'no-referrer' }
+    // a password or certificate that nginx asks for goes to this origin, and nginx passes none on to a desk
+    const same = { cache: 'no-store', credentials: 'same-origin', redirect: 'error', referrerPolicy: 'no-referrer' }
     try {
       return await fetch(DESKS + path, { ...same, ...request, headers: { 'Desk-Key': this.#key } })
     } catch {

@@ -56,6 +56,7 @@ export function inWords({ name, a }) {
 
 // Answers that nginx made because none of a desk came, by their status.
 const WITHOUT_DESK = {
+  401: 'A password is asked for before the desks, and none that is known was given. Try again.',
   404: 'The way to the desks isn’t set up here.',
   413: 'What was sent is too long.',
   429: 'Too much was asked in a short time. Wait a moment.',

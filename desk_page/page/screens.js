@@ -12,7 +12,7 @@ const FILE = /^[a-z0-9_-]+\.txt$/
 const MOST = 200000 // hits
 
 async function textOf(file) {
-  const answer = await fetch(`screens/${file}`, { cache: 'no-store', credentials: 'omit' })
+  const answer = await fetch(`screens/${file}`, { cache: 'no-store', credentials: 'same-origin' })
   if (!answer.ok) throw new NotNow(`The file screens/${file} can’t be had (${answer.status}). Tell the one who looks after the page.`)
   return answer.text()
 }

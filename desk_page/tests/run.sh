@@ -5,7 +5,7 @@
 # Words: which of the parts; none for all. Pictures of the screens go to desk_page/tests/out. PROGRAM names a program that was
 # built elsewhere. Needs of Debian chromium, nginx, openssl, python3, netpbm, libtiff-tools and git; where one of them isn't
 # installed it says so, tries nothing and ends with status 0. Ends with 1 where something is not as due.
-parts="decoder nginx review together list find plan redact keyboard receiver looks many"
+parts="decoder nginx passwords review together list find plan redact keyboard receiver looks many"
 set -eu
 here=$(CDPATH='' cd -- "$(dirname -- "$0")" && pwd)
 top=$(CDPATH='' cd -- "$here/../.." && pwd)

@@ -1,14 +1,18 @@
 #!/usr/bin/env python3
 """Tries tools/fetch_volume over desks that are made here: one that is cut off in the middle of a file and ended half way, ones that answer 429
-and 503, one that gives other bytes, a manifest that leads elsewhere; and where the program is built, over `deliver`, which is ended half way
-and opened again. The copy of the one file is run alone, in a folder without the others.
+and 503, one that gives other bytes, a manifest that leads elsewhere, ones that ask for a password or a certificate as nginx does; and where
+the program is built, over `deliver`, which is ended half way and opened again. The copy of the one file is run alone, in a folder without the
+others.
 """
+import base64
 import hashlib
 import http.server
 import json
 import os
+import pathlib
 import pty
 import shutil
+import ssl
 import subprocess
 import sys
 import tempfile
@@ -24,7 +28,9 @@ import matter_day  # noqa: E402
 
 FETCH = os.path.join(TOP, "tools", "fetch_volume")
 KEY = "the key of the other side"
+PASSWORD = "Hale:a word: of Müller’s"
 WHY_NOT = matter_day.why_not()
+OPENSSL = shutil.which("openssl")
 
 
 def volume(count=12):
@@ -44,6 +50,10 @@ class Handler(http.server.BaseHTTPRequestHandler):
     def do_GET(self):
         server = self.server
         server.asked.append(self.path)
+        if server.certificates and not self.connection.getpeercert():
+            return self.give(400, b"<html><title>400 No required SSL certificate was sent</title></html>")
+        if server.password and self.headers.get("Authorization") != "Basic " + base64.b64encode(server.password.encode()).decode():
+            return self.give(401, server.page, ("WWW-Authenticate", 'Basic realm="review"'))
         if self.headers.get("Desk-Key") != KEY:
             return self.give(401, b'{"a":0,"b":0,"line":0,"name":"KeyUnknown","rule":9}')
         fault = server.faults.pop(0) if server.faults else None
@@ -71,16 +81,24 @@ class Handler(http.server.BaseHTTPRequestHandler):
 
 
 class Desk:
-    """A desk at a port of its own."""
+    """A desk at a port of its own, with what nginx before it asks for: a password; a certificate, of those in a file, where it has its
+    own in another."""
 
-    def __init__(self, files, faults=(), port=0):
+    def __init__(self, files, faults=(), port=0, password=None, own=None, certificates=None, page=b"<html>401 Authorization Required</html>"):
         self.server = http.server.ThreadingHTTPServer(("127.0.0.1", port), Handler)
         self.server.files, self.server.faults, self.server.asked = files, list(faults), []
-        self.port = self.server.server_address[1]
+        self.server.password, self.server.certificates, self.server.page = password, certificates, page
+        self.port, self.scheme = self.server.server_address[1], "https" if own else "http"
+        if own:
+            context = ssl.SSLContext(ssl.PROTOCOL_TLS_SERVER)
+            context.load_cert_chain(own)
+            context.load_verify_locations(certificates)
+            context.verify_mode = ssl.CERT_OPTIONAL  # nginx, too, takes who has none as far as a request, and answers 400
+            self.server.socket = context.wrap_socket(self.server.socket, server_side=True)
         threading.Thread(target=self.server.serve_forever, daemon=True).start()
 
     def url(self):
-        return f"http://127.0.0.1:{self.port}/desk"
+        return f"{self.scheme}://127.0.0.1:{self.port}/desk"
 
     def end(self):
         self.server.shutdown()
@@ -115,8 +133,8 @@ class Case(unittest.TestCase):
                     found[os.path.relpath(os.path.join(at, name), self.room)] = file.read()
         return found
 
-    def desk(self, faults=(), files=None):
-        desk = Desk(files or volume(), faults)
+    def desk(self, faults=(), files=None, **asks):
+        desk = Desk(files or volume(), faults, **asks)
         self.addCleanup(desk.end)
         return desk
 
@@ -222,6 +240,83 @@ class Refused(Case):
         self.assertEqual(process.returncode, 2)
 
 
+class Guarded(Case):
+    """nginx before the desk asks for a password, or for a certificate."""
+
+    def file(self, data, name="password"):
+        path = os.path.join(self.room, name)
+        with open(path, "wb") as file:
+            file.write(data)
+        return path
+
+    def test_a_password(self):
+        for end in ("", "\n", "\r\n"):
+            shutil.rmtree(os.path.join(self.room, "VOL001"), ignore_errors=True)
+            self.fetch(self.desk(password=PASSWORD), "--password-file", self.file(b"\xef\xbb\xbf" * (end == "\r\n") + (PASSWORD + end).encode()))
+            self.assertEqual(self.there(), volume())
+
+    def test_another_password(self):
+        desk = self.desk(password=PASSWORD)
+        self.fetch(desk, "--password-file", self.file(b"Hale:another\n"), status=1)
+        self.assertIn("status 401, Unauthorized: the server before the desk doesn't know the name with the password", self.said)
+        self.assertEqual(len(desk.server.asked), 1)
+        self.assertNotIn("another", self.said)
+
+    def test_no_password(self):
+        for page in (b"<html>401 Authorization Required</html>", b"", b"[]", b'{"message":"Unauthorized"}', b'{"name":"x","rule":1}'):
+            self.fetch(self.desk(password=PASSWORD, page=page), status=1)
+            self.assertIn("status 401, Unauthorized: the server before the desk asks for a password, and no desk looked at the key", self.said)
+
+    def test_a_key_that_isnt_known_behind_a_password(self):
+        self.fetch(self.desk(password=PASSWORD), "--password-file", self.file(PASSWORD.encode()), status=1, key="other")
+        self.assertIn("status 401, rule 9, KeyUnknown: the desk doesn't know the key", self.said)
+
+    def test_a_file_without_a_password(self):
+        desk = self.desk(password=PASSWORD)
+        for data in (b"", b"Hale", b"Hale:", b":word", b"Hale:word\nOsei:word\n", b"Hale:word\n\n", b"Hale:w\x00", "Hale:word".encode("utf-16")):
+            self.fetch(desk, "--password-file", self.file(data), status=1)
+            self.assertIn("password isn't one line NAME:PASSWORD in UTF-8", self.said)
+        self.fetch(desk, "--password-file", "none", status=1)
+        self.assertIn("none: No such file or directory", self.said)
+        self.assertEqual(desk.server.asked, [])
+
+    def test_what_would_go_in_the_clear(self):
+        path = self.file(PASSWORD.encode())
+        for words, told in (
+            (("http://192.0.2.1/desk", "--password-file", path), "--password-file goes with https://, or with http:// to this machine"),
+            (("http://127.0.0.1.example/desk", "--password-file", path), "--password-file goes with https://"),
+            (("http://127.0.0.1/desk", "--certificate", path), "--certificate goes with https://"),
+            (("https://127.0.0.1/desk", "--certificate-key", path), "--certificate-key goes with --certificate"),
+        ):
+            process = self.begin(*words)
+            self.assertIn(told, process.communicate(timeout=60)[1])
+            self.assertEqual(process.returncode, 2)
+
+    @unittest.skipUnless(OPENSSL, "openssl isn't installed")
+    def test_a_certificate(self):
+        for name, subject in (("desk", "/CN=127.0.0.1"), ("hale", "/CN=Hale"), ("osei", "/CN=Osei")):
+            words = ["-newkey", "ec", "-pkeyopt", "ec_paramgen_curve:P-256", "-nodes", "-days", "2", "-subj", subject]
+            words += ["-addext", "subjectAltName=IP:127.0.0.1", "-keyout", f"{name}.key", "-out", f"{name}.pem"]
+            subprocess.run(["openssl", "req", "-x509", *words], cwd=self.room, check=True, capture_output=True)
+        whole = {}
+        for name in ("desk", "hale"):
+            whole[name] = self.file(b"".join(pathlib.Path(self.room, f"{name}.{end}").read_bytes() for end in ("pem", "key")), f"{name}.whole")
+        desk = self.desk(own=whole["desk"], certificates=os.path.join(self.room, "hale.pem"))
+        to_desk = ("--cacert", "desk.pem")
+        self.fetch(desk, *to_desk, status=1)
+        self.assertIn("status 400, Bad Request: the server before the desk refuses it; if it asks for a certificate", self.said)
+        for words in (("hale.pem",), ("hale.pem", "--certificate-key", "osei.key"), (self.file(b"none", "text"),)):
+            self.fetch(desk, *to_desk, "--certificate", *words, status=1)
+            self.assertIn("isn't a certificate as PEM, with its key there or in the file of --certificate-key", self.said)
+        self.fetch(desk, *to_desk, "--certificate", "hale.pem", "--certificate-key", "none", status=1)
+        self.assertIn("none: No such file or directory", self.said)
+        self.assertEqual(len(desk.server.asked), 1)
+        for words in (("hale.pem", "--certificate-key", "hale.key"), (whole["hale"],)):
+            shutil.rmtree(os.path.join(self.room, "VOL001"), ignore_errors=True)
+            self.fetch(desk, *to_desk, "--certificate", *words)
+            self.assertEqual(self.there(), volume())
+
+
 class Asked(Case):
     def test_the_key_is_asked_for_at_a_terminal(self):
         desk = self.desk()
@@ -270,6 +365,8 @@ class Delivered(Case):
 def setUpModule():
     if WHY_NOT:
         print(f"fetch_volume.py: the program's own door NOT TRIED: {WHY_NOT}")
+    if not OPENSSL:
+        print("fetch_volume.py: certificates NOT TRIED: openssl isn't installed")
 
 
 if __name__ == "__main__":
